@@ -7,22 +7,21 @@ use Rattle.wild_types.specs.Flags.{has_flag, absolute}
 use Rattle.wild_types.specs.Kinds.{is_position_independent}
 use Rattle.wild_slot.specs.Treatment.{flags_at, moves}
 use Rattle.wild_layout.specs.declared.decision.Decision.TheVariants.{Moved}
-use Rattle.wild_reloc.specs.declared.info.RelocationKind.TheVariants as kinds
 use Rattle.wild_reloc.specs.Formula.{SymbolAddress}
 use Rattle.wild_layout.specs.Decide.{decided}
 use Rattle.wild_layout.specs.SlotValues.{address_of}
 use Rattle.wild_layout.proofs.DecideLemmas.{decided_moved}
-use Rattle.wild_loader.specs.StepLaws.{StubsOfValuesAreRead}
 use Rattle.wild_loader.specs.declared.world.World.{World}
 use Rattle.wild_loader.specs.declared.memory.Memory.{Memory}
 use Rattle.wild_meaning.specs.Value.{moved}
-use Rattle.wild_meaning.specs.Formula.{IsSum, IsOwnTarget, IsOwnSum}
+use Rattle.wild_meaning.specs.Formula.{IsSum, IsOwnSum}
 use Rattle.wild_types.specs.Item.{Item}
 use Rattle.wild_meaning.specs.Reference.{IsStubbed}
-use Rattle.wild_meaning.proofs.SymbolLemmas.{referent_is, own_referent_is}
 use Rattle.wild_references.specs.Terms.{IsPlaced, IsFollowed}
 use Rattle.wild_references.proofs.Targets.{addressed, linked}
-use Rattle.wild_references.proofs.ValueKinds.{more, follows}
+use Rattle.wild_references.proofs.Referents.{follows, address_referent, own_address_referent}
+use Rattle.wild_references.proofs.ValueKinds.{more}
+use Rattle.wild_references.proofs.StubCode.{StubLaws}
 
 not_absolute : (l : Layout) (i : ℕ) → moves l i ≡ true → has_flag (flags_at l i) absolute ≡ false
 not_absolute l i h = by_tests (is_position_independent l.kind) (has_flag (flags_at l i) absolute) h
@@ -36,20 +35,20 @@ not_absolute l i h = by_tests (is_position_independent l.kind) (has_flag (flags_
 moved_here : (base a c x still_base : ℕ) → (a + c) % 2 ^ 64 ≡ x → still_base ≡ (base + a) % 2 ^ 64 → (x + base) % 2 ^ 64 ≡ (still_base + c) % 2 ^ 64
 moved_here base a c x still_base e f = omega (arith, e, f)
 
-pub gives_moved : StubsOfValuesAreRead → (l : Layout) (w : World) (m : Memory) (s : Item) (r : InputRelocation) (x : ℕ) (packed : Bool) → IsPlaced l w m → decided l s r ≡ Ok (Moved x packed) → IsFollowed l r kinds.Absolute → IsSum SymbolAddress l w m s r ((x + w.base) % 2 ^ 64)
+pub gives_moved : StubLaws → (l : Layout) (w : World) (m : Memory) (s : Item) (r : InputRelocation) (x : ℕ) (packed : Bool) → IsPlaced l w m → decided l s r ≡ Ok (Moved x packed) → IsFollowed l r SymbolAddress → IsSum SymbolAddress l w m s r ((x + w.base) % 2 ^ 64)
 gives_moved law l w m s r x packed p made f =
     let v = decided_moved l s r x packed made in
-    let t = addressed law l w m r.symbol v.address p (follows l r kinds.Absolute tt f) v.given in
+    let t = addressed law l w m r.symbol v.address p (follows l r SymbolAddress tt f) v.given in
     let still : t.still ≡ false = sym (t.flag v.by.number v.by.named) ∙ not_absolute l v.by.number v.by.moves in
     let target : moved t.still w.base v.address ≡ (w.base + v.address) % 2 ^ 64 = ap (λ (b : Bool). moved b w.base v.address) still in
-    record { symbol = moved t.still w.base v.address; denoted = referent_is SymbolAddress l w m s r (moved t.still w.base v.address) p.x86 t.denoted; sum = moved_here w.base v.address (more r) x (moved t.still w.base v.address) v.value target }
+    record { symbol = moved t.still w.base v.address; denoted = address_referent l w m s r (moved t.still w.base v.address) t.denoted; sum = moved_here w.base v.address (more r) x (moved t.still w.base v.address) v.value target }
 
 -- the same with the own symbol
-pub links_moved : StubsOfValuesAreRead → (l : Layout) (w : World) (m : Memory) (s : Item) (r : InputRelocation) (x i : ℕ) (packed : Bool) → IsPlaced l w m → decided l s r ≡ Ok (Moved x packed) → r.symbol ≡ Some i → (IsStubbed l i → ⊥) → IsOwnSum SymbolAddress l w s r ((x + w.base) % 2 ^ 64)
+pub links_moved : StubLaws → (l : Layout) (w : World) (m : Memory) (s : Item) (r : InputRelocation) (x i : ℕ) (packed : Bool) → IsPlaced l w m → decided l s r ≡ Ok (Moved x packed) → r.symbol ≡ Some i → (IsStubbed l i → ⊥) → IsOwnSum SymbolAddress l w s r ((x + w.base) % 2 ^ 64)
 links_moved law l w m s r x i packed p made named alone =
     let v = decided_moved l s r x packed made in
     let t = linked law l w m i v.address p alone (subst (λ (o : Option ℕ). address_of l o ≡ Ok v.address) named v.given) in
     let one : v.by.number ≡ i = (let e : Some v.by.number ≡ Some i = sym v.by.named ∙ named in cc) in
     let still : t.still ≡ false = sym t.flag ∙ not_absolute l i (subst (λ (k : ℕ). moves l k ≡ true) one v.by.moves) in
     let target : moved t.still w.base v.address ≡ (w.base + v.address) % 2 ^ 64 = ap (λ (b : Bool). moved b w.base v.address) still in
-    record { symbol = moved t.still w.base v.address; denoted = own_referent_is SymbolAddress l w s r (moved t.still w.base v.address) p.x86 (subst (λ (o : Option ℕ). IsOwnTarget l w o (moved t.still w.base v.address)) (sym named) t.value); sum = moved_here w.base v.address (more r) x (moved t.still w.base v.address) v.value target }
+    record { symbol = moved t.still w.base v.address; denoted = own_address_referent l w s r i (moved t.still w.base v.address) named t.value; sum = moved_here w.base v.address (more r) x (moved t.still w.base v.address) v.value target }

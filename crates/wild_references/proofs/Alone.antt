@@ -1,6 +1,6 @@
 -- Which references take the output's own symbol, whatever another module has for it.
 use Rattle.std.proofs.Common.{◌≡◌, ℕ, ◌<◌, ◌⊎◌, inl, inr, Bool, true, false, Some, length, refl, sym, ap, ◌∙◌, subst}
-use Rattle.std.specs.Prelude.{not, ◌&&◌, ◌==◌}
+use Rattle.std.specs.Prelude.{not, ◌&&◌, ◌==◌, Option, None}
 use Rattle.std.proofs.lemmas.Bool.{eq-eqb}
 use Rattle.std.proofs.lemmas.Option.{slice_get_within}
 use Rattle.wild_meaning.proofs.SymbolLemmas.{canonical_is}
@@ -15,18 +15,26 @@ use Rattle.wild_types.specs.Flags.{has_flag, non_interposable}
 use Rattle.wild_types.specs.Lookups.{writable, allocated, canonical}
 use Rattle.wild_types.specs.Rows.{row_of}
 use Rattle.wild_slot.specs.Treatment.{flags_at, is_left, treatment}
-use Rattle.wild_reloc.specs.Agreement.{plain_value}
+use Rattle.wild_reloc.specs.Agreement.{plain_value, sized, value_of}
 use Rattle.wild_reloc.specs.Field.{field_width}
-use Rattle.wild_reloc.specs.Formula.{Formula, Value, SymbolAddress, SymbolPart, Distance, PageDistance, FromTable, ModuleOffset, PointerOffset, Size}
+use Rattle.wild_reloc.specs.Formula.{Formula, Form, NoField, Plain, Full, Bits, Value, SymbolAddress, SymbolPart, Distance, PageDistance, FromTable, ModuleOffset, PointerOffset, Size}
 use Rattle.wild_reloc.specs.declared.info.RelocationKind.{RelocationKind}
 use Rattle.wild_reloc.specs.declared.info.RelocationKind.TheVariants as kinds
 use Rattle.wild_reloc.specs.declared.info.RelocationKindInfo.{RelocationKindInfo}
+use Rattle.wild_reloc.specs.declared.info.RelocationSize.{RelocationSize}
+use Rattle.wild_reloc.specs.declared.info.RelocationSize.TheVariants.{ByteSize, BitMasking}
+use Rattle.wild_reloc.specs.declared.info.PageMask.{PageMask}
+use Rattle.wild_reloc.specs.declared.info.PageMask.TheVariants as masks
+use Rattle.wild_reloc.specs.declared.expression.Term.{Term}
+use Rattle.wild_reloc.specs.declared.expression.Term.TheVariants as term
+use Rattle.wild_reloc.specs.declared.expression.Taken.{Taken}
+use Rattle.wild_reloc.specs.declared.expression.Taken.TheVariants as taken
 use Rattle.wild_layout.specs.Geometry.{NamesSymbol}
 use Rattle.wild_slot.proofs.TreatmentLemmas.{treated_says}
-use Rattle.wild_reloc.specs.Expression.{expression_of, writes}
+use Rattle.wild_reloc.specs.Expression.{expression_of, paged, taken_of, expressed, writes}
 use Rattle.wild_loader.specs.declared.memory.Memory.{Memory}
 use Rattle.wild_loader.specs.declared.world.World.{World}
-use Rattle.wild_meaning.specs.Field.{formula_of}
+use Rattle.wild_meaning.specs.Field.{formula_of, form_width}
 use Rattle.wild_meaning.specs.Formula.{TakesAddress, TakesOffset}
 use Rattle.wild_types.specs.Item.{Item}
 use Rattle.wild_meaning.specs.Reference.{IsLeftToLoader, IsStubbed, TakesItself, IsLinkedAlone}
@@ -37,7 +45,9 @@ use Rattle.wild_layout.proofs.DecideLemmas.{known_extent, known_indirect, known_
 use Rattle.wild_geometry.proofs.JudgedLemmas.{flag_is}
 use Rattle.wild_references.specs.Terms.{IsPlaced, IsFollowed}
 use Rattle.wild_references.proofs.EntryKinds.{address_by, chosen_own}
-use Rattle.wild_references.proofs.KnownRows.{RowFits}
+use Rattle.wild_references.proofs.KnownRows.{IsSeen, RowFits}
+use Rattle.wild_references.proofs.LowForms.{is_low}
+use Rattle.wild_references.proofs.Referents.{sized_is}
 use Rattle.wild_references.proofs.Stubbed.{stubbed_or_not}
 use Rattle.wild_references.proofs.Symbols.{replaceable_is, replaceable_at, flag_at, definition_there}
 use Rattle.wild_references.proofs.Treated.{address_kept}
@@ -91,19 +101,66 @@ address_kind kinds.TlsLd v e = cc
 address_kind kinds.TlsDesc v e = cc
 address_kind other v e = cc
 
+-- as its field has it
+sized_back : (z : RelocationSize) (v : Value) → sized z v ≡ SymbolAddress → v ≡ SymbolAddress
+sized_back (ByteSize n) v h = h
+sized_back (BitMasking bits) SymbolAddress h = refl
+sized_back (BitMasking bits) other h = h
+
+-- no page is S + A
+never_place : (t : Term) → expressed t taken.PagePlace ≡ SymbolAddress → ⊥
+never_place term.Symbol h = cc
+never_place term.Stub h = cc
+never_place (term.Slot sort) h = cc
+never_place term.Table h = cc
+never_place term.Size h = cc
+never_place term.PointerOffset h = cc
+never_place term.ModuleOffset h = cc
+never_place term.Nothing h = cc
+
+no_page : (t : Term) (mask : PageMask) (less : Taken) → expressed t (paged (Some mask) less) ≡ SymbolAddress → ⊥
+no_page t masks.GotBase less h = by_term t h
+  where
+    by_term : (t : Term) → expressed t taken.PageTable ≡ SymbolAddress → ⊥
+    by_term term.Symbol h = cc
+    by_term term.Stub h = cc
+    by_term (term.Slot sort) h = cc
+    by_term term.Table h = cc
+    by_term term.Size h = cc
+    by_term term.PointerOffset h = cc
+    by_term term.ModuleOffset h = cc
+    by_term term.Nothing h = cc
+no_page t masks.SymbolPlusAddendAndPosition less h = never_place t h
+no_page t masks.GotEntryAndPosition less h = never_place t h
+
+address_row : (k : RelocationKind) (mask : Option PageMask) (z : RelocationSize) → writes (expression_of k).class ≡ true → value_of k mask z ≡ SymbolAddress → k ≡ kinds.Absolute
+address_row k None z v e = address_kind k v (sized_back z (plain_value k) e)
+address_row k (Some mask) z v e = absurd (no_page (expression_of k).term mask (expression_of k).taken (sized_back z (expressed (expression_of k).term (taken_of k (Some mask))) e))
+
+-- the bits below a page are in no field of eight bytes
+not_wide : (form : Form) → is_low form ≡ true → form_width form ≡ 8 → ⊥
+not_wide NoField h w = cc
+not_wide (Plain bits reading) h w = cc
+not_wide Full h w = cc
+not_wide (Bits field high low check unit) h w = cc
+
 -- the definition of a symbol with a flag is one of the layout's symbols
 defined_within : (l : Layout) (i : ℕ) {flag : ℕ} {b : Bool} → HasFlag l i flag b → canonical l i < length l.symbols
 defined_within l i h = rw (canonical_is l i h.definition h.defined) (slice_get_within l.symbols h.definition h.symbol h.listed)
 
 -- so that a field that is written, or moves, is none
-pub not_left : (l : Layout) (s : Item) (r : InputRelocation) (row : RelocationKindInfo) (i : ℕ) (t : Treatment) (fits : RowFits r.number row) → allocated s.flags ≡ true → treatment l s.flags r ≡ t → (treatments.Unsupported ≡ t → ⊥) → (treatments.Recompile ≡ t → ⊥) → (treatments.Symbolic i ≡ t → ⊥) → row_of l.machine r.number ≡ Some row → r.symbol ≡ Some i → IsLeftToLoader l s i fits.formula → ⊥
+pub not_left : (l : Layout) (s : Item) (r : InputRelocation) (row : RelocationKindInfo) (i : ℕ) (t : Treatment) (fits : RowFits l.machine r.number row) → allocated s.flags ≡ true → treatment l s.flags r ≡ t → (treatments.Unsupported ≡ t → ⊥) → (treatments.Recompile ≡ t → ⊥) → (treatments.Symbolic i ≡ t → ⊥) → row_of l.machine r.number ≡ Some row → r.symbol ≡ Some i → IsLeftToLoader l s i fits.formula → ⊥
 not_left l s r row i t fits room is some no_recompile no_entry known named left =
-    let kind = address_kind row.kind fits.whole (fits.value ∙ left.value) in
+    let kind = kind_by fits left fits.seen in
     let treated = address_by l s r row i t (defined_within l i left.interposable) is some known kind named in
     let kept = address_kept l s r.number row i t treated no_recompile no_entry in
     let asked = left_asked l s row i room left.writable (fits.width ∙ left.wide) left.interposable in
     let e : true ≡ false = sym asked ∙ kept in
     cc
+  where
+    kind_by : (f : RowFits l.machine r.number row) → IsLeftToLoader l s i f.formula → IsSeen l.machine row.kind f.formula.form → row.kind ≡ kinds.Absolute
+    kind_by f left (inl whole) = address_row row.kind row.mask row.size whole (f.value ∙ left.value)
+    kind_by f left (inr part) = absurd (not_wide f.formula.form part.low left.wide)
 
 -- ---- what an expression takes
 
@@ -118,26 +175,26 @@ takes_cases FromTable = inr (inl (λ o. o, tt))
 takes_cases other = inr (inr (λ o. o, λ a. a))
 
 -- one that is not the own symbol's alone is right whichever module has the symbol
-pub followed : (l : Layout) (w : World) (m : Memory) (s : Item) (r : InputRelocation) (k : RelocationKind) (f : Formula) → IsPlaced l w m → NamesSymbol l r → formula_of l.machine r.number ≡ Some f → plain_value k ≡ f.value → ((i : ℕ) → r.symbol ≡ Some i → IsLeftToLoader l s i f → ⊥) → (IsLinkedAlone l s r → ⊥) → IsFollowed l r k
-followed l w m s r k f p listed known value kept alone = λ i named.
+pub followed : (l : Layout) (w : World) (m : Memory) (s : Item) (r : InputRelocation) (f : Formula) → IsPlaced l w m → NamesSymbol l r → formula_of l.machine r.number ≡ Some f → ((i : ℕ) → r.symbol ≡ Some i → IsLeftToLoader l s i f → ⊥) → (IsLinkedAlone l s r → ⊥) → IsFollowed l r f.value
+followed l w m s r f p listed known kept alone = λ i named.
     let z = slice_get_inside l.symbols i (listed i named) in
     by_whose i named (may_be_replaced l.kind (flags_at l i)) (replaceable_at l i z.0 p.symbols.named z.1)
   where
     linked : (i : ℕ) → r.symbol ≡ Some i → IsReplaceable l i true → TakesItself l s i f → IsLinkedAlone l s r
     linked i named whose takes = record { symbol = i; named = named; replaceable = whose; formula = f; known = known; takes = takes }
 
-    by_address : (i : ℕ) → r.symbol ≡ Some i → IsReplaceable l i true → (TakesOffset (plain_value k) → ⊥) → TakesAddress (plain_value k) → IsStubbed l i ⊎ (IsStubbed l i → ⊥) → IsReplaceable l i false ⊎ (((TakesOffset (plain_value k) → ⊥) × (TakesAddress (plain_value k) → ⊥)) ⊎ ((TakesOffset (plain_value k) → ⊥) × IsStubbed l i))
+    by_address : (i : ℕ) → r.symbol ≡ Some i → IsReplaceable l i true → (TakesOffset f.value → ⊥) → TakesAddress f.value → IsStubbed l i ⊎ (IsStubbed l i → ⊥) → IsReplaceable l i false ⊎ (((TakesOffset f.value → ⊥) × (TakesAddress f.value → ⊥)) ⊎ ((TakesOffset f.value → ⊥) × IsStubbed l i))
     by_address i named whose offset address (inl stubbed) = inr (inr (offset, stubbed))
-    by_address i named whose offset address (inr bare) = absurd (alone (linked i named whose (inr (subst TakesAddress value address, kept i named, bare))))
+    by_address i named whose offset address (inr bare) = absurd (alone (linked i named whose (inr (address, kept i named, bare))))
 
-    by_takes : (i : ℕ) → r.symbol ≡ Some i → IsReplaceable l i true → TakesOffset (plain_value k) ⊎ (((TakesOffset (plain_value k) → ⊥) × TakesAddress (plain_value k)) ⊎ ((TakesOffset (plain_value k) → ⊥) × (TakesAddress (plain_value k) → ⊥))) → IsReplaceable l i false ⊎ (((TakesOffset (plain_value k) → ⊥) × (TakesAddress (plain_value k) → ⊥)) ⊎ ((TakesOffset (plain_value k) → ⊥) × IsStubbed l i))
-    by_takes i named whose (inl offset) = absurd (alone (linked i named whose (inl (subst TakesOffset value offset))))
+    by_takes : (i : ℕ) → r.symbol ≡ Some i → IsReplaceable l i true → TakesOffset f.value ⊎ (((TakesOffset f.value → ⊥) × TakesAddress f.value) ⊎ ((TakesOffset f.value → ⊥) × (TakesAddress f.value → ⊥))) → IsReplaceable l i false ⊎ (((TakesOffset f.value → ⊥) × (TakesAddress f.value → ⊥)) ⊎ ((TakesOffset f.value → ⊥) × IsStubbed l i))
+    by_takes i named whose (inl offset) = absurd (alone (linked i named whose (inl offset)))
     by_takes i named whose (inr (inl t)) = by_address i named whose t.0 t.1 (stubbed_or_not l i)
     by_takes i named whose (inr (inr t)) = inr (inl t)
 
-    by_whose : (i : ℕ) → r.symbol ≡ Some i → (b : Bool) → IsReplaceable l i b → IsReplaceable l i false ⊎ (((TakesOffset (plain_value k) → ⊥) × (TakesAddress (plain_value k) → ⊥)) ⊎ ((TakesOffset (plain_value k) → ⊥) × IsStubbed l i))
+    by_whose : (i : ℕ) → r.symbol ≡ Some i → (b : Bool) → IsReplaceable l i b → IsReplaceable l i false ⊎ (((TakesOffset f.value → ⊥) × (TakesAddress f.value → ⊥)) ⊎ ((TakesOffset f.value → ⊥) × IsStubbed l i))
     by_whose i named false whose = inl whose
-    by_whose i named true whose = by_takes i named whose (takes_cases (plain_value k))
+    by_whose i named true whose = by_takes i named whose (takes_cases f.value)
 
 -- ---- fields that are left to entries
 
@@ -170,7 +227,7 @@ left_follows l w m s index r p listed f known a = by_treatment f.left.treated f.
 
     by_symbolic : (i : ℕ) → treatment l s.flags r ≡ treatments.Symbolic i → row.kind ≡ kinds.Absolute → field_width row ≡ 8 → r.symbol ≡ Some i → ⊥
     by_symbolic i is kind width named =
-        let value : f.fits.formula.value ≡ SymbolAddress = sym f.fits.value ∙ ap plain_value kind in
+        let value : f.fits.formula.value ≡ SymbolAddress = (f.fits.full kind width).0 in
         let t = itself_by l s a.symbol f.fits.formula SymbolAddress value (λ o. o) takes in
         let left = (treated_says l s.flags r row (treatments.Symbolic i) f.left.field.known is).1 in
         let open_one = left_open l s row i left in
@@ -198,5 +255,5 @@ left_follows l w m s index r p listed f known a = by_treatment f.left.treated f.
     by_treatment (treatments.Extent x i) left is =
         let k = known_extent l s.flags r x i is in
         let kind : row.kind ≡ kinds.SymbolSize = subst (λ (y : RelocationKindInfo). y.kind ≡ kinds.SymbolSize) (one_row x k.0) k.1.kind in
-        (itself_by l s a.symbol f.fits.formula Size (sym f.fits.value ∙ ap plain_value kind) (λ o. o) takes).0
+        (itself_by l s a.symbol f.fits.formula Size (sym f.fits.value ∙ (ap (λ (x : RelocationKind). value_of x row.mask row.size) kind ∙ sized_is row.size Size refl)) (λ o. o) takes).0
     by_treatment other left is = cc

@@ -16,13 +16,12 @@ use Rattle.wild_slot.specs.declared.slot.SlotWord.TheVariants.{General, Plt}
 use Rattle.wild_slot.specs.Slots.{setting_of, named, general, plt, plain_item}
 use Rattle.wild_loader.specs.declared.memory.Memory.{Memory}
 use Rattle.wild_loader.specs.declared.world.World.{World}
-use Rattle.wild_loader.specs.StepLaws.{StubsOfValuesAreRead}
 use Rattle.wild_meaning.specs.Slot.{HasWord}
 use Rattle.wild_references.specs.Stubs.{StubsGoOn}
 use Rattle.wild_references.proofs.SlotContents.{ItemsHold}
 use Rattle.wild_references.proofs.SlotFlags.{slot_of_stub}
 use Rattle.wild_references.proofs.FirstSlots.{own_item, own_is, symbol_held, as_address, items_behind}
-use Rattle.wild_references.proofs.StubCode.{stub_goes}
+use Rattle.wild_references.proofs.StubCode.{StubLaws, has_places, stub_goes}
 use Rattle.wild_references.proofs.SymbolStubs.{in_reach}
 
 -- what memory has of slots that begin with a word
@@ -51,7 +50,7 @@ has_resolution : (o : Option Resolution) (r : Resolution) → o ≡ Some r → i
 has_resolution None r h = cc
 has_resolution (Some q) r h = refl
 
-pub each_stub : StubsOfValuesAreRead → StubsGoOn
+pub each_stub : StubLaws → StubsGoOn
 each_stub law = λ l w m x machine own agrees slots i p s r listed decided stub.
     let flags = agrees.resolved i s listed (has_resolution s.resolution r decided) in
     let has : plt_of s ≡ Some p = ap resolved_plt decided ∙ stub in
@@ -67,5 +66,5 @@ each_stub law = λ l w m x machine own agrees slots i p s r listed decided stub.
       given = given;
       target = first.word;
       word = first.there;
-      jumps = stub_goes law l m w.base at p first.word x machine (in_reach l w m at p r given stub first.behind) (here.stub p has) first.there;
+      jumps = stub_goes law l m w.base at p first.word (has_places l w i at p s x listed slot.1 has) machine (in_reach l w m at p r given stub first.behind) (here.stub p has) first.there;
     }

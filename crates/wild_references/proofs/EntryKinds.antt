@@ -29,9 +29,8 @@ use Rattle.wild_types.specs.Rows.{row_of}
 use Rattle.wild_slot.specs.SlotParts.{type_of}
 use Rattle.wild_slot.specs.Slots.{is_replaceable}
 use Rattle.wild_slot.specs.Treatment.{flags_at, is_left, is_chosen, address_treatment, kind_treatment, treatment}
-use Rattle.wild_reloc.specs.Agreement.{X86_64Agrees, plain_value}
 use Rattle.wild_reloc.specs.Field.{allows, field_width}
-use Rattle.wild_reloc.specs.Formula.{Formula, formula, Form, Value, Full, Plain, Unsigned, Reads, SymbolAddress, Size}
+use Rattle.wild_reloc.specs.Formula.{Formula, formula, Form, Value, Full, Plain, Unsigned, Reads, Keeps, SymbolAddress, Size}
 use Rattle.wild_reloc.specs.FormulaX86_64.{x86_64_formula}
 use Rattle.wild_reloc.specs.Table.{plain}
 use Rattle.wild_reloc.specs.TableX86_64.{x86_64_rows, x86_64_row}
@@ -51,6 +50,7 @@ use Rattle.wild_layout.specs.SlotValues.{resolution_of, index_of, decided_addres
 use Rattle.wild_layout.proofs.DecideLemmas.{sized_parts, decided_left, known_extent, known_indirect, known_symbolic}
 use Rattle.wild_layout.specs.Geometry.{NamesSymbol}
 use Rattle.wild_slot.proofs.TreatmentLemmas.{has_value, IsLeftToResolver}
+use Rattle.wild_geometry.specs.MachineFacts.{RowsAreRead}
 use Rattle.wild_geometry.specs.Loaded.{InMemory, MakesChange, stored_bytes, ReadsLeft}
 use Rattle.wild_loader.specs.Changes.{kind_of, change_of, answer_at}
 use Rattle.wild_loader.specs.declared.change.Change.{Change}
@@ -63,12 +63,12 @@ use Rattle.wild_meaning.specs.Field.{formula_of}
 use Rattle.wild_meaning.specs.Formula.{IsTarget, IsSum, IsExtent, IsWhole, Gives}
 use Rattle.wild_types.specs.Item.{Item}
 use Rattle.wild_meaning.specs.Value.{HasRaw, HasOwnValue, HasFlag, HasAnswer, IsReplaceable, may_be_replaced, is_library}
-use Rattle.wild_meaning.proofs.SymbolLemmas.{referent_is}
 use Rattle.wild_references.specs.Terms.{IsPlaced}
 use Rattle.wild_references.specs.Laws.{EntriesGive}
 use Rattle.wild_references.proofs.Answered.{has_answer, answered_value, answered_size}
 use Rattle.wild_references.proofs.EntryWords.{IsAnsweredBy, after_known, after_step, change_by}
-use Rattle.wild_references.proofs.KnownRows.{RowFits, row_fits}
+use Rattle.wild_references.proofs.KnownRows.{RowFits, row_fits, size_machine}
+use Rattle.wild_references.proofs.Referents.{address_referent}
 use Rattle.wild_references.proofs.OutputKinds.{library_is}
 use Rattle.wild_references.proofs.SlotFlags.{symbol_fits, resolver_own, listed_at}
 use Rattle.wild_references.proofs.Symbols.{IsResolvedBy, resolved, resolved_raw, flags_are, replaceable_at, flag_at, own_size_is}
@@ -150,9 +150,10 @@ pub record IsGiven (l : Layout) (w : World) (m : Memory) (s : Item) (r : InputRe
   pub value : ℕ
   pub gives : Gives f.value l w m s r value
   pub reads : Reads f.form bs value
+  pub keeps : (old : List ℕ) → Keeps f.form old bs
 
 sum_given : (l : Layout) (w : World) (m : Memory) (s : Item) (r : InputRelocation) (f : Formula) (bs : List ℕ) (x : ℕ) → f.value ≡ SymbolAddress → f.form ≡ Full → IsSum SymbolAddress l w m s r x → bs ≡ word 8 x → x < 2 ^ 64 → IsGiven l w m s r f bs
-sum_given l w m s r f bs x value full is bytes low = record { value = x; gives = subst (λ (v : Value). Gives v l w m s r x) (sym value) is; reads = reads_full f.form bs x full bytes low }
+sum_given l w m s r f bs x value full is bytes low = record { value = x; gives = subst (λ (v : Value). Gives v l w m s r x) (sym value) is; reads = reads_full f.form bs x full bytes low; keeps = λ old. subst (λ (k : Form). Keeps k old bs) (sym full) tt }
 
 -- an answer's address and the addend
 symbol_change : (p : Processor) (w : World) (n d a : ℕ) (c : Change) → kind_of p n ≡ Some works.SymbolPlus → a < 2 ^ 64 → MakesChange p w n d a c → (x : IsAnsweredBy w d) × (c ≡ changes.Word ((x.answer.address + a) % 2 ^ 64))
@@ -162,10 +163,6 @@ symbol_change p w n d a c is low h =
     let x = after_known (slice_get w.symbols d) _ _ c e in
     let same : changes.Word ((x.0.address + cast_unsigned w64 (cast_signed w64 a)) % 2 ^ 64) ≡ c = (let g : made_change (changes.Word ((x.0.address + cast_unsigned w64 (cast_signed w64 a)) % 2 ^ 64)) ≡ made_change c = x.2 in cc) in
     (record { answer = x.0; there = x.1 }, sym same ∙ ap (λ (n : ℕ). changes.Word ((x.0.address + n) % 2 ^ 64)) (of_z-to_z w64 a low))
-
--- the row of the relocation fits its formula
-formula_here : (l : Layout) (r : InputRelocation) (row : RelocationKindInfo) → l.machine ≡ machine.X86_64 → (f : RowFits r.number row) → formula_of l.machine r.number ≡ Some f.formula
-formula_here l r row x f = subst (λ (k : Machine). formula_of k r.number ≡ Some f.formula) (sym x) f.known
 
 symbolic_given : (l : Layout) (w : World) (m : Memory) (s : Item) (r : InputRelocation) (i number symbol addend : ℕ) (z : RelocationSize) (bs : List ℕ) (f : Formula) → IsPlaced l w m → FitsSigned w64 r.addend → r.symbol ≡ Some i → f.value ≡ SymbolAddress → f.form ≡ Full
     → left_to (ByteSize Eight) (type_of l.machine Absolute) r i (index_of l i) ≡ Ok (Left z number symbol addend) → ReadsLeft (processor_of l.machine) InMemory w z number symbol addend bs → IsGiven l w m s r f bs
@@ -179,7 +176,7 @@ symbolic_given l w m s r i number symbol addend z bs f p fits named value full m
     let a = answered_value l w i c.0.answer p.legal.symbols (has_answer l w i symbol by.0 by.1 by.2 c.0) in
     let target : IsTarget l w m r.symbol c.0.answer.address = subst (λ (o : Option ℕ). IsTarget l w m o c.0.answer.address) (sym named) (inl a) in
     let sum : x ≡ (c.0.answer.address + more r) % 2 ^ 64 = ap (λ (k : ℕ). (c.0.answer.address + k) % 2 ^ 64) (sym d.2) in
-    sum_given l w m s r f bs x value full (record { symbol = c.0.answer.address; denoted = referent_is SymbolAddress l w m s r c.0.answer.address p.x86 target; sum = sum }) (bytes_are bs reads.0 (changes.Word x) c.1 reads.2) (omega arith)
+    sum_given l w m s r f bs x value full (record { symbol = c.0.answer.address; denoted = address_referent l w m s r c.0.answer.address target; sum = sum }) (bytes_are bs reads.0 (changes.Word x) c.1 reads.2) (omega arith)
 
 -- ---- what a resolver answers
 
@@ -251,7 +248,7 @@ indirect_given l w m s r i number symbol addend z bs f p listed chosen named val
     let target : IsTarget l w m r.symbol c.0 = subst (λ (o : Option ℕ). IsTarget l w m o c.0) (sym named) (inl (inr (chosen.own, a))) in
     let x = (c.0 + more r) % 2 ^ 64 in
     let bytes = bytes_are bs reads.0 (changes.Word c.0) c.2 reads.2 in
-    record { value = x; gives = subst (λ (v : Value). Gives v l w m s r x) (sym value) (record { symbol = c.0; denoted = referent_is SymbolAddress l w m s r c.0 p.x86 target; sum = refl }); reads = subst (λ (k : Form). Reads k bs x) (sym full) (ap words.number bytes ∙ (number_of_word c.0 ∙ sum_none c.0 (more r) d.2)) }
+    record { value = x; gives = subst (λ (v : Value). Gives v l w m s r x) (sym value) (record { symbol = c.0; denoted = address_referent l w m s r c.0 target; sum = refl }); reads = subst (λ (k : Form). Reads k bs x) (sym full) (ap words.number bytes ∙ (number_of_word c.0 ∙ sum_none c.0 (more r) d.2)); keeps = λ old. subst (λ (k : Form). Keeps k old bs) (sym full) tt }
   where
     sum_none : (v a : ℕ) → a ≡ 0 → v % 2 ^ 64 ≡ (v + a) % 2 ^ 64
     sum_none v a e = omega (arith, e)
@@ -335,9 +332,9 @@ whose l w m i p listed =
     let z = slice_get_inside l.symbols i listed in
     subst (λ (b : Bool). IsReplaceable l i b) (whose_flags l (flags_at l i)) (replaceable_at l i z.0 p.symbols.named z.1)
 
-extent_given : (l : Layout) (w : World) (m : Memory) (s : Item) (r : InputRelocation) (row : RelocationKindInfo) (i number symbol addend : ℕ) (z : RelocationSize) (bs : List ℕ) (fits : RowFits r.number row) → IsPlaced l w m → FitsSigned w64 r.addend → i < length l.symbols → row_of machine.X86_64 r.number ≡ Some row → (is_replaceable l.kind (flags_at l i) || allows row (sum (symbol_size l i) r.addend)) ≡ true → r.symbol ≡ Some i → (r.number ≡ r_x86_64_size32) ⊎ (r.number ≡ r_x86_64_size64)
+extent_given : (l : Layout) (w : World) (m : Memory) (s : Item) (r : InputRelocation) (row : RelocationKindInfo) (i number symbol addend : ℕ) (z : RelocationSize) (bs : List ℕ) (fits : RowFits l.machine r.number row) → IsPlaced l w m → l.machine ≡ machine.X86_64 → FitsSigned w64 r.addend → i < length l.symbols → row_of machine.X86_64 r.number ≡ Some row → (is_replaceable l.kind (flags_at l i) || allows row (sum (symbol_size l i) r.addend)) ≡ true → r.symbol ≡ Some i → (r.number ≡ r_x86_64_size32) ⊎ (r.number ≡ r_x86_64_size64)
     → left_to row.size r.number r i (index_of l i) ≡ Ok (Left z number symbol addend) → ReadsLeft (processor_of l.machine) InMemory w z number symbol addend bs → IsGiven l w m s r fits.formula bs
-extent_given l w m s r row i number symbol addend z bs fits p signed listed here ranged named type made reads = by_type type
+extent_given l w m s r row i number symbol addend z bs fits p x86 signed listed here ranged named type made reads = by_type type
   where
     d : (index_of l i ≡ Some symbol) × (r.number ≡ number) × (added r ≡ addend)
     d = index_given row.size z r.number number symbol addend r i (index_of l i) made
@@ -355,7 +352,7 @@ extent_given l w m s r row i number symbol addend z bs fits p signed listed here
     makes n e = subst (λ (k : ℕ). MakesChange (processor_of l.machine) w k symbol addend reads.0) (sym d.1 ∙ e) reads.1
 
     formula_by : (n : ℕ) (f : Formula) → r.number ≡ n → x86_64_formula n ≡ Some f → f ≡ fits.formula
-    formula_by n f e known = (let g : Some f ≡ Some fits.formula = sym known ∙ (ap x86_64_formula (sym e) ∙ fits.known) in cc)
+    formula_by n f e known = (let g : Some f ≡ Some fits.formula = sym known ∙ (ap x86_64_formula (sym e) ∙ subst (λ (k : Machine). formula_of k r.number ≡ Some fits.formula) x86 fits.known) in cc)
 
     sum_is : (x : IsAnsweredBy w symbol) → (x.answer.size + addend) % 2 ^ 64 ≡ (x.answer.size + more r) % 2 ^ 64
     sum_is x = ap (λ (k : ℕ). (x.answer.size + k) % 2 ^ 64) (sym d.2)
@@ -372,7 +369,7 @@ extent_given l w m s r row i number symbol addend z bs fits p signed listed here
 
     by_type : (r.number ≡ r_x86_64_size32) ⊎ (r.number ≡ r_x86_64_size64) → IsGiven l w m s r fits.formula bs
     by_type (inl e) =
-        let c = short_change (processor_of l.machine) w r_x86_64_size32 symbol addend reads.0 (short_is l.machine p.x86) low (makes r_x86_64_size32 e) in
+        let c = short_change (processor_of l.machine) w r_x86_64_size32 symbol addend reads.0 (short_is l.machine x86) low (makes r_x86_64_size32 e) in
         let x = c.0 in
         let v = (x.answer.size + addend) % 2 ^ 64 % 2 ^ 32 in
         let bytes = bytes_are bs reads.0 (changes.Half v) c.1 reads.2 in
@@ -380,9 +377,10 @@ extent_given l w m s r row i number symbol addend z bs fits p signed listed here
           value = v;
           gives = (x.answer.size, extent x, half_is x e (is_replaceable l.kind (flags_at l i)) (whose l w m i p listed) ranged);
           reads = ap words.number bytes ∙ number-word 4 v (omega arith);
+          keeps = λ old. tt;
         })
     by_type (inr e) =
-        let c = long_change (processor_of l.machine) w r_x86_64_size64 symbol addend reads.0 (long_is l.machine p.x86) low (makes r_x86_64_size64 e) in
+        let c = long_change (processor_of l.machine) w r_x86_64_size64 symbol addend reads.0 (long_is l.machine x86) low (makes r_x86_64_size64 e) in
         let x = c.0 in
         let v = (x.answer.size + addend) % 2 ^ 64 in
         let bytes = bytes_are bs reads.0 (changes.Word v) c.1 reads.2 in
@@ -390,6 +388,7 @@ extent_given l w m s r row i number symbol addend z bs fits p signed listed here
           value = v;
           gives = (x.answer.size, extent x, inl (sum_is x));
           reads = ap words.number bytes ∙ number-word 8 v (omega arith);
+          keeps = λ old. tt;
         })
 
 -- ---- the entry of a relocation
@@ -407,7 +406,7 @@ pub record FieldGiven (l : Layout) (w : World) (m : Memory) (s : Item) (r : Inpu
   pub known : formula_of l.machine r.number ≡ Some formula
   pub given : IsGiven l w m s r formula bs
 
-left_given : X86_64Agrees → (l : Layout) (w : World) (m : Memory) (s : Item) (r : InputRelocation) (z : RelocationSize) (number symbol addend : ℕ) (bs : List ℕ) → IsPlaced l w m → NamesSymbol l r → FitsSigned w64 r.addend → decided l s r ≡ Ok (Left z number symbol addend) → ReadsLeft (processor_of l.machine) InMemory w z number symbol addend bs → FieldGiven l w m s r bs
+left_given : RowsAreRead → (l : Layout) (w : World) (m : Memory) (s : Item) (r : InputRelocation) (z : RelocationSize) (number symbol addend : ℕ) (bs : List ℕ) → IsPlaced l w m → NamesSymbol l r → FitsSigned w64 r.addend → decided l s r ≡ Ok (Left z number symbol addend) → ReadsLeft (processor_of l.machine) InMemory w z number symbol addend bs → FieldGiven l w m s r bs
 left_given agrees l w m s r z number symbol addend bs p listed fits made reads =
     let h = decided_left l s r z number symbol addend made in
     by_treatment h.treated h.left h.is h.made
@@ -415,23 +414,26 @@ left_given agrees l w m s r z number symbol addend bs p listed fits made reads =
     by_treatment : (t : Treatment) → is_left_to_entry t ≡ true → treatment l s.flags r ≡ t → decide_by l s r t ≡ Ok (Left z number symbol addend) → FieldGiven l w m s r bs
     by_treatment (treatments.Symbolic i) left is h =
         let k = known_symbolic l s.flags r i is in
-        let f = row_fits r.number k.0 agrees (row_here l r.number k.0 p.x86 k.1) (ap has_value k.2.kind) in
-        record { formula = f.formula; known = formula_here l r k.0 p.x86 f; given = symbolic_given l w m s r i number symbol addend z bs f.formula p fits k.2.named (sym f.value ∙ ap plain_value k.2.kind) (f.full k.2.kind k.2.width) h reads }
+        let f = row_fits agrees l.machine r.number k.0 k.1 (ap has_value k.2.kind) in
+        let full = f.full k.2.kind k.2.width in
+        record { formula = f.formula; known = f.known; given = symbolic_given l w m s r i number symbol addend z bs f.formula p fits k.2.named full.0 full.1 h reads }
     by_treatment (treatments.Indirect i) left is h =
         let k = known_indirect l s.flags r i is in
-        let f = row_fits r.number k.0 agrees (row_here l r.number k.0 p.x86 k.1) (ap has_value k.2.kind) in
+        let f = row_fits agrees l.machine r.number k.0 k.1 (ap has_value k.2.kind) in
+        let full = f.full k.2.kind k.2.width in
         let inside = listed i k.2.named in
         let chosen = chosen_own l w m s k.0 i p inside k.2.width k.3 in
-        record { formula = f.formula; known = formula_here l r k.0 p.x86 f; given = indirect_given l w m s r i number symbol addend z bs f.formula p inside chosen k.2.named (sym f.value ∙ ap plain_value k.2.kind) (f.full k.2.kind k.2.width) h reads }
+        record { formula = f.formula; known = f.known; given = indirect_given l w m s r i number symbol addend z bs f.formula p inside chosen k.2.named full.0 full.1 h reads }
     by_treatment (treatments.Extent row i) left is h =
         let k = known_extent l s.flags r row i is in
-        let here = row_here l r.number row p.x86 k.0 in
-        let f = row_fits r.number row agrees here (ap has_value k.1.kind) in
+        let x86 = size_machine l.machine r.number row k.0 k.1.kind in
+        let here = row_here l r.number row x86 k.0 in
+        let f = row_fits agrees l.machine r.number row k.0 (ap has_value k.1.kind) in
         let sized = sized_parts l r row i (left_to row.size r.number r i (index_of l i)) (Left z number symbol addend) h in
-        record { formula = f.formula; known = formula_here l r row p.x86 f; given = extent_given l w m s r row i number symbol addend z bs f p fits (listed i k.1.named) here sized.ranged k.1.named (size_types r.number row here k.1.kind) sized.left reads }
+        record { formula = f.formula; known = f.known; given = extent_given l w m s r row i number symbol addend z bs f p x86 fits (listed i k.1.named) here sized.ranged k.1.named (size_types r.number row here k.1.kind) sized.left reads }
     by_treatment other left is h = cc
 
-pub entries_give : X86_64Agrees → EntriesGive
+pub entries_give : RowsAreRead → EntriesGive
 entries_give agrees = λ l w m s r z number symbol addend bs p listed fits made reads.
     let h = left_given agrees l w m s r z number symbol addend bs p listed fits made reads in
-    (h.formula, h.known, h.given.value, h.given.gives, h.given.reads)
+    (h.formula, h.known, h.given.value, h.given.gives, h.given.reads, h.given.keeps)

@@ -1,11 +1,12 @@
 -- A kept section in memory, and the fields of its relocations.
-use Rattle.std.proofs.Common.{◌≡◌, ℕ, ℤ, ◌+◌, ◌%◌, ◌^◌, ◌<◌, ◌≤◌, Bool, true, false, List, [], ◌∷◌, length, slice_range, refl, sym, ap, ◌∙◌, arith, subst}
+use Rattle.std.proofs.Common.{◌≡◌, ℕ, ℤ, ◌+◌, ◌%◌, ◌^◌, ◌<◌, ◌≤◌, ◌⊎◌, inl, inr, Bool, true, false, List, [], ◌∷◌, length, get_or, slice_range, refl, sym, ap, ◌∙◌, arith, subst}
 use Rattle.std.specs.Prelude.{Some, All, slice_get, if◌then◌else◌, ◌==◌}
 use Rattle.std.specs.List.{list_all}
 use Rattle.std.proofs.lemmas.Bool.{and_parts}
 use Rattle.wild_words.specs.Words.{word}
 use Rattle.wild_words.proofs.WordLemmas.{number-word, length-word}
-use Rattle.wild_words.proofs.Basics.{length-range}
+use Rattle.std.proofs.lemmas.Option.{get_or_from_slice_get, slice_get-get_or}
+use Rattle.wild_words.proofs.Basics.{length-range, range_byte}
 use Rattle.wild_words.proofs.ListLemmas.{holds_at}
 use Rattle.wild_types.specs.declared.kind.Machine.{Machine}
 use Rattle.wild_types.specs.declared.kind.Machine.TheVariants as machine
@@ -14,15 +15,17 @@ use Rattle.wild_types.specs.declared.layout.Layout.{Layout}
 use Rattle.wild_types.specs.Lookups.{place_of, allocated}
 use Rattle.wild_reloc.specs.Field.{field_width, size_width, written}
 use Rattle.wild_reloc.specs.Formula.{Formula, Form, formula_at, NoField, Plain, Full, Bits, Keeps, Reads}
-use Rattle.wild_reloc.specs.Agreement.{X86_64Agrees, WidthsHold}
+use Rattle.wild_reloc.specs.Agreement.{WidthsHold}
 use Rattle.wild_reloc.specs.declared.info.RelocationKindInfo.{RelocationKindInfo}
 use Rattle.wild_reloc.specs.FormulaX86_64.{x86_64_formula, x86_64_formulas}
-use Rattle.wild_reloc.specs.declared.info.RelocationKind.{RelocationKind}
 use Rattle.wild_reloc.specs.declared.expression.Term.TheVariants as term
 use Rattle.wild_reloc.specs.declared.info.RelocationSize.{RelocationSize}
-use Rattle.wild_layout.specs.Values.{value_by}
+use Rattle.wild_reloc.specs.Expression.{taken_of}
+use Rattle.wild_reloc.specs.declared.expression.Taken.{Taken}
+use Rattle.wild_reloc.specs.declared.expression.Taken.TheVariants as taken
+use Rattle.wild_layout.specs.Values.{value_less}
 use Rattle.wild_layout.specs.Sites.{field_site}
-use Rattle.wild_layout.proofs.DecideLemmas.{HasField, field_has_bytes, value_below}
+use Rattle.wild_layout.proofs.DecideLemmas.{HasField, field_has_bytes}
 use Rattle.wild_layout.proofs.SiteLemmas.{field_lies}
 use Rattle.wild_layout.specs.SectionPlaces.{FieldLies}
 use Rattle.wild_layout.specs.Geometry.{NamesSymbol}
@@ -33,9 +36,12 @@ use Rattle.wild_meaning.specs.Field.{formula_of, form_width, FieldReads}
 use Rattle.wild_loader.specs.declared.world.World.{World}
 use Rattle.wild_loader.specs.declared.memory.Memory.{Memory}
 use Rattle.wild_loader.specs.Memory.{Holds}
+use Rattle.wild_geometry.specs.MachineFacts.{RowsAreRead}
 use Rattle.wild_geometry.specs.Loaded.{InMemory, ReadsLeft, HasItem}
 use Rattle.wild_references.specs.Terms.{IsPlaced}
-use Rattle.wild_references.specs.Laws.{TermGives, TermGivesLinked, SlotsGive, AddressesGive, AddressesGiveLinked, EntriesGive}
+use Rattle.wild_references.specs.Laws.{TermGives, TermGivesLinked, SlotsGive, PartsGive, PartsGiveLinked, HasBytes, AddressesGive, AddressesGiveLinked, EntriesGive}
+use Rattle.wild_references.proofs.KnownRows.{RowFits}
+use Rattle.wild_references.proofs.LowForms.{is_low, reads_low}
 use Rattle.wild_references.proofs.Written.{IsValue, IsAddress, IsLeftField}
 use Rattle.wild_meaning.specs.Linked.{processor_of}
 
@@ -74,7 +80,7 @@ whole_bytes n f known = keeps_at x86_64_formulas n f refl known
 
 -- what the tables owe
 pub record Tables : Type 0 where
-  pub agree : X86_64Agrees
+  pub agree : RowsAreRead
   pub widths : WidthsHold
 
 -- the laws of the terms
@@ -82,6 +88,7 @@ pub record KindLaws : Type 0 where
   pub symbol : TermGives term.Symbol
   pub stub : TermGives term.Stub
   pub slot : SlotsGive
+  pub part : PartsGive
   pub table : TermGives term.Table
   pub size : TermGives term.Size
   pub pointer : TermGives term.PointerOffset
@@ -92,6 +99,7 @@ pub record KindLaws : Type 0 where
 -- those of the terms that take a symbol's address or its offset, with the output's own symbol
 pub record LinkedLaws : Type 0 where
   pub symbol : TermGivesLinked term.Symbol
+  pub part : PartsGiveLinked
   pub pointer : TermGivesLinked term.PointerOffset
   pub own : TermGivesLinked term.ModuleOffset
   pub address : AddressesGiveLinked
@@ -105,6 +113,7 @@ pub record IsItemLoaded (l : Layout) (w : World) (m : Memory) (s : Item) : Type 
   pub room : allocated s.flags ≡ true
   pub symbols : All (NamesSymbol l) s.relocations
   pub addends : All AddendFits s.relocations
+  pub bytes : HasBytes l.machine s
   pub low : s.address + length s.bytes ≤ 2 ^ 62
   pub lies : All (FieldLies l.machine (length s.bytes)) s.relocations
   pub item : HasItem l w m s InMemory
@@ -131,49 +140,93 @@ place_ends l w m s i r z h listed f =
 
 -- ---- fields
 
--- what a field of a row reads as, in the form of a formula
-pub record ReadsForm (row : RelocationKindInfo) (form : Form) (v : ℕ) : Type 0 where
-  pub width : field_width row ≡ form_width form
-  pub reads : (old : List ℕ) → length old ≡ field_width row → Reads form (written row v old) v
-  pub keeps : KeepsAll form
+-- the input's bytes of a field
+abbrev pub old_field : Item → InputRelocation → RelocationKindInfo → List ℕ
+old_field s r row = slice_range s.bytes r.offset (r.offset + size_width row.size)
 
-pub row_reads : (l : Layout) (w : World) (m : Memory) (s : Item) (i : ℕ) (r : InputRelocation) (row : RelocationKindInfo) (form : Form) (v : ℕ) → (h : IsItemLoaded l w m s) → slice_get s.relocations i ≡ Some r → HasField l r row.size → ReadsForm row form v
-    → Holds m (place_at w s r.offset) (field_site s r.offset row.size v).bytes → FieldReads w m s r form v
-row_reads l w m s i r row form v h listed f reads held =
-    let old = slice_range s.bytes r.offset (r.offset + size_width row.size) in
-    let here = field_within l w m s i r row.size h listed f in
+-- what a field of a row reads as where v is written, in the form of a formula
+pub record ReadsForm (row : RelocationKindInfo) (form : Form) (v x : ℕ) (old : List ℕ) : Type 0 where
+  pub width : field_width row ≡ form_width form
+  pub reads : Reads form (written row v old) x
+  pub keeps : Keeps form old (written row v old)
+
+pub old_long : (l : Layout) (w : World) (m : Memory) (s : Item) (i : ℕ) (r : InputRelocation) (row : RelocationKindInfo) → IsItemLoaded l w m s → slice_get s.relocations i ≡ Some r → HasField l r row.size → length (old_field s r row) ≡ field_width row
+old_long l w m s i r row h listed f = length-range s.bytes r.offset (size_width row.size) (field_within l w m s i r row.size h listed f)
+
+pub row_reads : (l : Layout) (w : World) (m : Memory) (s : Item) (i : ℕ) (r : InputRelocation) (row : RelocationKindInfo) (form : Form) (v x : ℕ) → (h : IsItemLoaded l w m s) → slice_get s.relocations i ≡ Some r → HasField l r row.size → ReadsForm row form v x (old_field s r row)
+    → Holds m (place_at w s r.offset) (field_site s r.offset row.size v).bytes → FieldReads w m s r form x
+row_reads l w m s i r row form v x h listed f reads held =
+    let old = old_field s r row in
     record {
       bytes = written row v old;
       wide = h.tables.widths row v old ∙ reads.width;
       held = held;
-      reads = reads.reads old (length-range s.bytes r.offset (size_width row.size) here);
-      keeps = reads.keeps (slice_range s.bytes r.offset (r.offset + form_width form)) (written row v old);
+      reads = reads.reads;
+      keeps = subst (λ (n : ℕ). Keeps form (slice_range s.bytes r.offset (r.offset + n)) (written row v old)) reads.width reads.keeps;
     }
 
-pub below_all : (l : Layout) (kind : RelocationKind) (s p v : ℕ) (a : ℤ) → value_by l kind s a p ≡ v → v < 2 ^ 64
-below_all l kind s p v a e = subst (λ (n : ℕ). n < 2 ^ 64) e (value_below l kind s p a)
+-- some bytes of an item are below 256 with all of them
+small_range : (bs : List ℕ) (a n : ℕ) → All (λ (b : ℕ). b < 256) bs → a + n ≤ length bs → All (λ (b : ℕ). b < 256) (slice_range bs a (a + n))
+small_range bs a n small inside = λ k d lt.
+    let part = slice_range bs a (a + n) in
+    let long = length-range bs a n inside in
+    let one : get_or part k d ≡ get_or part k 0 = get_or_from_slice_get part k (get_or part k 0) d (slice_get-get_or part k 0 lt) in
+    subst (λ (b : ℕ). b < 256) (sym (one ∙ range_byte bs a n k (omega (arith, lt, long)))) (small (a + k) 0 (omega (arith, lt, long, inside)))
 
-pub value_reads : (l : Layout) (w : World) (m : Memory) (s : Item) (i : ℕ) (r : InputRelocation) → (h : IsItemLoaded l w m s) → (v : IsValue l s i r) → FieldReads w m s r v.fits.formula.form v.value
-value_reads l w m s i r h v =
+-- the bits around the field stay
+row_keeps : (l : Layout) (s : Item) (r : InputRelocation) (row : RelocationKindInfo) (v : ℕ) → HasBytes l.machine s → r.offset + size_width row.size ≤ length s.bytes → (fits : RowFits l.machine r.number row) → Keeps fits.formula.form (old_field s r row) (written row v (old_field s r row))
+row_keeps l s r row v bytes inside fits = by_machine l.machine refl bytes
+  where
+    by_machine : (k : Machine) → l.machine ≡ k → HasBytes k s → Keeps fits.formula.form (old_field s r row) (written row v (old_field s r row))
+    by_machine machine.X86_64 e b = whole_bytes r.number fits.formula (subst (λ (k : Machine). formula_of k r.number ≡ Some fits.formula) e fits.known) (old_field s r row) (written row v (old_field s r row))
+    by_machine machine.AArch64 e b = fits.keeps v (old_field s r row) (small_range s.bytes r.offset (size_width row.size) b inside) (length-range s.bytes r.offset (size_width row.size) inside)
+
+less_below : (l : Layout) (less : Taken) (s p : ℕ) (a : ℤ) → value_less l less s a p < 2 ^ 64
+less_below l taken.Nothing s p a = omega arith
+less_below l taken.Place s p a = omega arith
+less_below l taken.Table s p a = omega arith
+less_below l taken.PagePlace s p a = omega arith
+less_below l taken.PageTable s p a = omega arith
+
+pub below_all : (l : Layout) (less : Taken) (s p v : ℕ) (a : ℤ) → value_less l less s a p ≡ v → v < 2 ^ 64
+below_all l less s p v a e = subst (λ (n : ℕ). n < 2 ^ 64) e (less_below l less s p a)
+
+-- a field has all of the value, or the bits below the page of a number
+abbrev pub SeenAs : Form → (v x : ℕ) → Type 0
+SeenAs form v x = (v ≡ x) ⊎ ((is_low form ≡ true) × (x % 4096 ≡ v % 4096))
+
+seen_reads : (form : Form) (bs : List ℕ) (v x : ℕ) → SeenAs form v x → Reads form bs v → Reads form bs x
+seen_reads form bs v x (inl e) h = subst (λ (n : ℕ). Reads form bs n) e h
+seen_reads form bs v x (inr p) h = reads_low form bs v x p.0 h (sym p.1)
+
+pub value_reads : (l : Layout) (w : World) (m : Memory) (s : Item) (i : ℕ) (r : InputRelocation) (x : ℕ) → (h : IsItemLoaded l w m s) → (v : IsValue l s i r) → SeenAs v.fits.formula.form v.value x → FieldReads w m s r v.fits.formula.form x
+value_reads l w m s i r x h v seen =
     let f = v.field in
-    let low = below_all l f.row.kind f.term (place_of s.address r) v.value r.addend v.is in
+    let low = below_all l (taken_of f.row.kind f.row.mask) f.term (place_of s.address r) v.value r.addend f.value in
     let held = h.item.values i r v.size v.value v.plain.has in
-    row_reads l w m s i r f.row v.fits.formula.form v.value h v.plain.has.listed (record { row = f.row; known = f.known; kind = f.kind; size = refl })
-    (record { width = v.fits.width; reads = λ old long. v.fits.reads v.value old low long f.allowed; keeps = whole_bytes r.number v.fits.formula v.fits.known })
+    let field : HasField l r f.row.size = record { row = f.row; known = f.known; kind = f.kind; size = refl } in
+    let old = old_field s r f.row in
+    let long = old_long l w m s i r f.row h v.plain.has.listed field in
+    row_reads l w m s i r f.row v.fits.formula.form v.value x h v.plain.has.listed field
+    (record {
+      width = v.fits.width;
+      reads = seen_reads v.fits.formula.form (written f.row v.value old) v.value x seen (v.fits.reads v.value old low long f.allowed);
+      keeps = row_keeps l s r f.row v.value h.bytes (field_within l w m s i r f.row.size h v.plain.has.listed field) v.fits;
+    })
     (subst (λ (z : RelocationSize). Holds m (place_at w s r.offset) (field_site s r.offset z v.value).bytes) (sym f.size) held)
 
 -- an address that moves is more by the base, in all its eight bytes
 pub address_reads : (l : Layout) (w : World) (m : Memory) (s : Item) (i : ℕ) (r : InputRelocation) → (h : IsItemLoaded l w m s) → (a : IsAddress l s i r) → FieldReads w m s r a.fits.formula.form ((a.value + w.base) % 2 ^ 64)
 address_reads l w m s i r h a =
     let x = (a.value + w.base) % 2 ^ 64 in
-    let full = a.fits.full a.moved.by.kind a.moved.by.width in
+    let full = (a.fits.full a.moved.by.kind a.moved.by.width).1 in
     let low : x < 2 ^ 64 = omega arith in
     record {
       bytes = word 8 x;
       wide = length-word 8 x ∙ sym (ap form_width full);
       held = h.item.addresses i r a.value a.packed a.plain.has;
       reads = subst (λ (f : Form). Reads f (word 8 x) x) (sym full) (number-word 8 x low);
-      keeps = whole_bytes r.number a.fits.formula a.fits.known (slice_range s.bytes r.offset (r.offset + form_width a.fits.formula.form)) (word 8 x);
+      keeps = subst (λ (f : Form). Keeps f (slice_range s.bytes r.offset (r.offset + form_width a.fits.formula.form)) (word 8 x)) (sym full) tt;
     }
 
 -- the bytes of a field that is left to an entry
@@ -181,8 +234,8 @@ pub left_bytes : (l : Layout) (w : World) (m : Memory) (s : Item) (i : ℕ) (r :
 left_bytes l w m s i r h f = h.item.left i r f.size f.number f.symbol f.addend f.plain.has
 
 -- what an entry stores fills the field
-pub left_reads : (l : Layout) (w : World) (m : Memory) (s : Item) (i : ℕ) (r : InputRelocation) (x : ℕ) → (h : IsItemLoaded l w m s) → (f : IsLeftField l s i r) → (form : Form) → form ≡ f.fits.formula.form → Reads form (left_bytes l w m s i r h f).0 x → FieldReads w m s r form x
-left_reads l w m s i r x h f form same reads =
+pub left_reads : (l : Layout) (w : World) (m : Memory) (s : Item) (i : ℕ) (r : InputRelocation) (x : ℕ) → (h : IsItemLoaded l w m s) → (f : IsLeftField l s i r) → (form : Form) → form ≡ f.fits.formula.form → Reads form (left_bytes l w m s i r h f).0 x → ((old : List ℕ) → Keeps form old (left_bytes l w m s i r h f).0) → FieldReads w m s r form x
+left_reads l w m s i r x h f form same reads keeps =
     let b = left_bytes l w m s i r h f in
     let size : size_width f.size ≡ field_width f.left.field.row = sym (ap size_width f.left.field.size) in
     record {
@@ -190,7 +243,7 @@ left_reads l w m s i r x h f form same reads =
       wide = b.2.3 ∙ (size ∙ (f.fits.width ∙ sym (ap form_width same)));
       held = b.1;
       reads = reads;
-      keeps = subst (λ (k : Form). Keeps k (slice_range s.bytes r.offset (r.offset + form_width form)) b.0) (sym same) (whole_bytes r.number f.fits.formula f.fits.known (slice_range s.bytes r.offset (r.offset + form_width form)) b.0);
+      keeps = keeps (slice_range s.bytes r.offset (r.offset + form_width form));
     }
 
 -- the formulas of x86-64 are the machine's

@@ -2,6 +2,7 @@
 use Rattle.std.proofs.Common.{◌≡◌, ℕ, suc, inl, inr, ap, ◌∙◌, arith}
 use Rattle.std.specs.Prelude.{Some, Contains}
 use Rattle.std.proofs.lemmas.Option.{slice_get-get_or}
+use Rattle.wild_types.specs.declared.kind.Machine.TheVariants as machine
 use Rattle.wild_types.specs.declared.input.InputRelocation.{InputRelocation}
 use Rattle.wild_types.specs.declared.layout.Layout.{Layout}
 use Rattle.wild_layout.specs.declared.decision.Decision.{Decision}
@@ -29,12 +30,12 @@ record IsAt (l : Layout) (s : Item) (r : InputRelocation) : Type 0 where
   decision : Decision
   has : HasDecision l s index r decision
 
-at_index : (l : Layout) (w : World) (m : Memory) (s : Item) (r : InputRelocation) → IsLoadedItem l w m s → Contains s.relocations r → IsAt l s r
+at_index : (l : Layout) (w : World) (m : Memory) (s : Item) (r : InputRelocation) → IsLoadedItem machine.X86_64 l w m s → Contains s.relocations r → IsAt l s r
 at_index l w m s r g h =
     let d = g.decided.each h.0 h.1 in
     record { index = h.0; decision = d.0; has = record { listed = slice_get-get_or s.relocations h.0 r h.1 ∙ ap (λ (x : InputRelocation). Some x) h.2; decided = d.1 } }
 
-plain : (k : AreKnown) (l : Layout) (w : World) (m : Memory) (s : Item) → IsLoadedItem l w m s → FieldsHold l w m s → (r : InputRelocation) → IsReference s r → IsAsked l w s r → (IsLinkedAlone l s r → ⊥) → (i : ℕ) (d : Decision) → HasDecision l s i r d → KeepsInstruction d → ReferenceHolds l w m s r
+plain : (k : AreKnown) (l : Layout) (w : World) (m : Memory) (s : Item) → IsLoadedItem machine.X86_64 l w m s → FieldsHold l w m s → (r : InputRelocation) → IsReference s r → IsAsked l w s r → (IsLinkedAlone l s r → ⊥) → (i : ℕ) (d : Decision) → HasDecision l s i r d → KeepsInstruction d → ReferenceHolds l w m s r
 plain k l w m s g f r is asked alone i d has keeps =
     let reference : IsKeptReference l s i r = record { decision = d; has = has; keeps = keeps; refers = is.refers } in
     let field = f.references i r reference asked alone in
@@ -52,7 +53,7 @@ plain k l w m s g f r is asked alone i d has keeps =
 partner_holds : (l : Layout) (w : World) (m : Memory) (s : Item) (r : InputRelocation) → IsTakenAlong l w m s r → HoldsRewritten l w m s r
 partner_holds l w m s r t = record { start = t.start; instruction = t.instruction; first = t.first; template = inr (record { rest = t.rest; sequence = t.sequence; one = (let lt = t.one.1 in (suc t.one.0, omega (arith, lt), t.one.2)) }); does = t.does; words = t.words }
 
-by_decision : (k : AreKnown) (l : Layout) (w : World) (m : Memory) (s : Item) → IsLoadedItem l w m s → FieldsHold l w m s → (r : InputRelocation) → IsReference s r → IsAsked l w s r → (IsLinkedAlone l s r → ⊥) → (i : ℕ) (d : Decision) → HasDecision l s i r d → ReferenceHolds l w m s r
+by_decision : (k : AreKnown) (l : Layout) (w : World) (m : Memory) (s : Item) → IsLoadedItem machine.X86_64 l w m s → FieldsHold l w m s → (r : InputRelocation) → IsReference s r → IsAsked l w s r → (IsLinkedAlone l s r → ⊥) → (i : ℕ) (d : Decision) → HasDecision l s i r d → ReferenceHolds l w m s r
 by_decision k l w m s g f r is asked alone i Nothing has = plain k l w m s g f r is asked alone i Nothing has tt
 by_decision k l w m s g f r is asked alone i (Field z v) has = plain k l w m s g f r is asked alone i (Field z v) has tt
 by_decision k l w m s g f r is asked alone i (Moved v packed) has = plain k l w m s g f r is asked alone i (Moved v packed) has tt
@@ -60,7 +61,7 @@ by_decision k l w m s g f r is asked alone i (Left z number symbol addend) has =
 by_decision k l w m s g f r is asked alone i (Rewritten row v) has = inr (k.rewritten l w m s g i r row v has asked)
 by_decision k l w m s g f r is asked alone i Partner has = inr (partner_holds l w m s r (k.partners l w m s g i r has))
 
-linked_plain : (k : AreKnown) (l : Layout) (w : World) (m : Memory) (s : Item) → IsLoadedItem l w m s → FieldsHold l w m s → (r : InputRelocation) → IsReference s r → IsLinkedAlone l s r → w.base ≡ 0 → (i : ℕ) (d : Decision) → HasDecision l s i r d → KeepsInstruction d → LinkedHolds l w m s r
+linked_plain : (k : AreKnown) (l : Layout) (w : World) (m : Memory) (s : Item) → IsLoadedItem machine.X86_64 l w m s → FieldsHold l w m s → (r : InputRelocation) → IsReference s r → IsLinkedAlone l s r → w.base ≡ 0 → (i : ℕ) (d : Decision) → HasDecision l s i r d → KeepsInstruction d → LinkedHolds l w m s r
 linked_plain k l w m s g f r is alone zero i d has keeps =
     let field = f.linked i r (record { decision = d; has = has; keeps = keeps; refers = is.refers }) alone zero in
     inl (record {
@@ -72,7 +73,7 @@ linked_plain k l w m s g f r is alone zero i d has keeps =
       kept = k.kept l w m s g i r d has keeps;
     })
 
-linked_by : (k : AreKnown) (l : Layout) (w : World) (m : Memory) (s : Item) → IsLoadedItem l w m s → FieldsHold l w m s → (r : InputRelocation) → IsReference s r → IsLinkedAlone l s r → w.base ≡ 0 → (i : ℕ) (d : Decision) → HasDecision l s i r d → LinkedHolds l w m s r
+linked_by : (k : AreKnown) (l : Layout) (w : World) (m : Memory) (s : Item) → IsLoadedItem machine.X86_64 l w m s → FieldsHold l w m s → (r : InputRelocation) → IsReference s r → IsLinkedAlone l s r → w.base ≡ 0 → (i : ℕ) (d : Decision) → HasDecision l s i r d → LinkedHolds l w m s r
 linked_by k l w m s g f r is alone zero i Nothing has = linked_plain k l w m s g f r is alone zero i Nothing has tt
 linked_by k l w m s g f r is alone zero i (Field z v) has = linked_plain k l w m s g f r is alone zero i (Field z v) has tt
 linked_by k l w m s g f r is alone zero i (Moved v packed) has = linked_plain k l w m s g f r is alone zero i (Moved v packed) has tt

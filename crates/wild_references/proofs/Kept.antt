@@ -117,8 +117,8 @@ in_no_site l s x x86 whole out windows = All-flat_map (Outside x) (site l s) (ra
         subst (λ (j : ℕ). All (Outside x) (site l s j)) (sym is) (at n (omega (arith, lt, long)))
 
 -- such a byte is the input's
-pub input_byte : (l : Layout) (w : World) (m : Memory) (s : Item) (x : ℕ) → IsLoadedItem l w m s → x < length s.bytes → InNoField l s x → OutOfWindows l s x → IsInputByte w m s x
-input_byte l w m s x h lt out windows = h.item.others x lt (in_no_site l s x h.x86 h.decided out windows)
+pub input_byte : (l : Layout) (w : World) (m : Memory) (s : Item) (x : ℕ) → IsLoadedItem machine.X86_64 l w m s → x < length s.bytes → InNoField l s x → OutOfWindows l s x → IsInputByte w m s x
+input_byte l w m s x h lt out windows = h.item.others x lt (in_no_site l s x h.on h.decided out windows)
 
 -- ---- the bytes of a row's pattern that it leaves free are in fields
 
@@ -314,34 +314,34 @@ known_here l s r first start o x86 (inr t) = subst (λ (m : Machine). Contains (
 
 pub instructions_are_kept : ChosenAreWhole → InstructionsAreKept
 instructions_are_kept stand l w m s h i r d has keeps start o first template k own =
-    let t = kept_here l s i r d start o first h.x86 h.decided has keeps template in
+    let t = kept_here l s i r d start o first h.on h.decided has keeps template in
     let inside = t.inside in
     let lt = own.inside in
-    input_byte l w m s (start + k) h (omega (arith, inside, lt)) (t.alone k own) (own_outside l s start o k h.x86 h.decided stand t (known_here l s r first start o h.x86 template) own)
+    input_byte l w m s (start + k) h (omega (arith, inside, lt)) (t.alone k own) (own_outside l s start o k h.on h.decided stand t (known_here l s r first start o h.on template) own)
 
 -- ---- sequences
 
 -- memory has bytes at a field that is kept
-bytes_there : (l : Layout) (w : World) (m : Memory) (s : Item) (i : ℕ) (r : InputRelocation) (d : Decision) → IsLoadedItem l w m s → HasDecision l s i r d → KeepsInstruction d → (bs : List ℕ) × (length bs ≡ width_of r.number) × Holds m (w.base + s.address + r.offset) bs
-bytes_there l w m s i r Nothing h has k = ([], sym (kept_width l s i r Nothing h.x86 has tt), λ n lt. absurd (omega (arith, lt)))
+bytes_there : (l : Layout) (w : World) (m : Memory) (s : Item) (i : ℕ) (r : InputRelocation) (d : Decision) → IsLoadedItem machine.X86_64 l w m s → HasDecision l s i r d → KeepsInstruction d → (bs : List ℕ) × (length bs ≡ width_of r.number) × Holds m (w.base + s.address + r.offset) bs
+bytes_there l w m s i r Nothing h has k = ([], sym (kept_width l s i r Nothing h.on has tt), λ n lt. absurd (omega (arith, lt)))
 bytes_there l w m s i r (Field z v) h has k =
     let bs = (field_site s r.offset z v).bytes in
-    (bs, length-size_written z v (slice_range s.bytes r.offset (r.offset + size_width z)) ∙ sym (kept_width l s i r (Field z v) h.x86 has tt), h.item.values i r z v has)
+    (bs, length-size_written z v (slice_range s.bytes r.offset (r.offset + size_width z)) ∙ sym (kept_width l s i r (Field z v) h.on has tt), h.item.values i r z v has)
 bytes_there l w m s i r (Moved v packed) h has k =
-    (word 8 (number_at InMemory w v packed), length-word 8 (number_at InMemory w v packed) ∙ sym (kept_width l s i r (Moved v packed) h.x86 has tt), h.item.addresses i r v packed has)
+    (word 8 (number_at InMemory w v packed), length-word 8 (number_at InMemory w v packed) ∙ sym (kept_width l s i r (Moved v packed) h.on has tt), h.item.addresses i r v packed has)
 bytes_there l w m s i r (Left z n symbol addend) h has k =
     let left = h.item.left i r z n symbol addend has in
-    (left.0, left.2.3 ∙ sym (kept_width l s i r (Left z n symbol addend) h.x86 has tt), left.1)
+    (left.0, left.2.3 ∙ sym (kept_width l s i r (Left z n symbol addend) h.on has tt), left.1)
 bytes_there l w m s i r (Rewritten row v) h has k = absurd k
 bytes_there l w m s i r Partner h has k = absurd k
 
 -- the call's, where one of both keeps the instruction
-call_is_kept : (l : Layout) (w : World) (m : Memory) (s : Item) (i : ℕ) (r : InputRelocation) (d : Decision) (start : ℕ) (o : Instruction) (first : InputRelocation) → IsLoadedItem l w m s → HasDecision l s i r d → KeepsInstruction d → (t : IsDouble l s r start o first) → SequenceIsKept l w m s first start t.sequence.partner
+call_is_kept : (l : Layout) (w : World) (m : Memory) (s : Item) (i : ℕ) (r : InputRelocation) (d : Decision) (start : ℕ) (o : Instruction) (first : InputRelocation) → IsLoadedItem machine.X86_64 l w m s → HasDecision l s i r d → KeepsInstruction d → (t : IsDouble l s r start o first) → SequenceIsKept l w m s first start t.sequence.partner
 call_is_kept l w m s i r d start o first h has keeps t =
     let q = t.sequence in
     let second = t.second in
-    let a = are_kept l s i r d first second start o h.x86 h.decided has keeps q t.one in
-    let f = known_filled l s first start o h.x86 q.stands in
+    let a = are_kept l s i r d first second start o h.on h.decided has keeps q t.one in
+    let f = known_filled l s first start o h.on q.stands in
     let bytes = bytes_there l w m s (q.has.index + 1) second a.two h a.has_two a.keeps_two in
     let place : w.base + s.address + second.offset ≡ place_at w s (start + q.partner.field) = ap (λ (n : ℕ). w.base + s.address + n) q.has.field in
     record {
@@ -356,7 +356,7 @@ call_is_kept l w m s i r d start o first h has keeps t =
 
 pub sequences_are_kept : SequencesAreKept
 sequences_are_kept l w m s h i r d has keeps start o first t p c =
-    let q = as_double l s r start o first h.x86 t in
+    let q = as_double l s r start o first h.on t in
     let same : p ≡ q.sequence.partner = only_one q.sequence.partner p (subst (λ (ps : List CallField). Contains ps p) q.sequence.calls c) in
     subst (λ (x : CallField). SequenceIsKept l w m s first start x) (sym same) (call_is_kept l w m s i r d start o first h has keeps q)
 

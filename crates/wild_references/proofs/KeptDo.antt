@@ -108,29 +108,29 @@ first_not_alone l item r p a = by a.takes
 as_field : (l : Layout) (w : World) (m : Memory) (item : Item) (r : InputRelocation) → FieldHolds l w m item r → HasField l w m item r
 as_field l w m item r f = record { formula = f.formula; known = f.known; value = f.value; gives = f.gives; field = f.field }
 
-single_does : InstructionsAreKept → (l : Layout) (w : World) (m : Memory) (s : Item) → IsLoadedItem l w m s → FieldsHold l w m s → (i : ℕ) (r : InputRelocation) → IsKeptReference l s i r → IsAsked l w s r → (IsLinkedAlone l s r → ⊥)
+single_does : InstructionsAreKept → (l : Layout) (w : World) (m : Memory) (s : Item) → IsLoadedItem machine.X86_64 l w m s → FieldsHold l w m s → (i : ℕ) (r : InputRelocation) → IsKeptReference l s i r → IsAsked l w s r → (IsLinkedAlone l s r → ⊥)
     → (start : ℕ) (o : Instruction) → IsSingle l s r start o → DoesDemanded (reads w m) l w m s r start o
 single_does kept l w m s g f i r k asked alone start o t =
     does_demanded l w m s r start o (record {
-      x86 = g.x86;
+      x86 = g.on;
       stands = t.stands;
       field = as_field l w m s r (f.references i r k asked alone);
       own = kept l w m s g i r k.decision k.has k.keeps start o r (inl (t, refl));
       partners = subst (λ (ps : List Partner). PartnersThere w m s start ps) (sym t.single) tt;
     })
 
-double_does : SequencesAreKept → InstructionsAreKept → (l : Layout) (w : World) (m : Memory) (s : Item) → IsLoadedItem l w m s → FieldsHold l w m s → (i : ℕ) (r : InputRelocation) → IsKeptReference l s i r
+double_does : SequencesAreKept → InstructionsAreKept → (l : Layout) (w : World) (m : Memory) (s : Item) → IsLoadedItem machine.X86_64 l w m s → FieldsHold l w m s → (i : ℕ) (r : InputRelocation) → IsKeptReference l s i r
     → (start : ℕ) (o : Instruction) (first : InputRelocation) → IsOfSequence l s r start o first → DoesDemanded (reads w m) l w m s first start o
 double_does sequences kept l w m s g f i r k start o first part =
-    let t = as_double l s r start o first g.x86 part in
+    let t = as_double l s r start o first g.on part in
     let q = sequences l w m s g i r k.decision k.has k.keeps start o first part t.sequence.partner (the_one o.partners t.sequence.partner t.sequence.calls) in
-    let p = has_pair l s first t.second start o g.x86 t.sequence in
-    let listed = subst (λ (x : Machine). Contains (instructions_of x) o) g.x86 t.sequence.stands.known in
+    let p = has_pair l s first t.second start o g.on t.sequence in
+    let listed = subst (λ (x : Machine). Contains (instructions_of x) o) g.on t.sequence.stands.known in
     let reference : IsKeptReference l s q.index first = record { decision = q.decision; has = q.has; keeps = q.keeps; refers = refers o first.number listed t.sequence.stands.number } in
-    let formula = first_known l w m s first start o t.second g.x86 t.sequence in
-    let field = f.references q.index first reference (first_asked l w s first formula.0 g.x86 formula.1 p) (first_not_alone l s first p) in
+    let formula = first_known l w m s first start o t.second g.on t.sequence in
+    let field = f.references q.index first reference (first_asked l w s first formula.0 g.on formula.1 p) (first_not_alone l s first p) in
     does_demanded l w m s first start o (record {
-      x86 = g.x86;
+      x86 = g.on;
       stands = t.sequence.stands;
       field = as_field l w m s first field;
       own = kept l w m s g i r k.decision k.has k.keeps start o first (inr part);

@@ -1,162 +1,260 @@
 -- The rows of the kinds that the writer knows, beside the formulas that the reader knows.
-use Rattle.std.proofs.Common.{◌≡◌, ℕ, ◌^◌, ◌<◌, ◌⊎◌, inl, inr, Bool, true, false, List, length, refl, subst}
-use Rattle.std.specs.Prelude.{◌==◌, ◌&&◌, ◌||◌, if◌then◌else◌, Option, Some, None}
+use Rattle.std.proofs.Common.{◌≡◌, ℕ, ◌^◌, ◌<◌, ◌⊎◌, inl, inr, Bool, true, false, List, length, refl, sym, ap, ◌∙◌, subst}
+use Rattle.std.specs.Prelude.{◌==◌, ◌&&◌, ◌||◌, not, nat_le, if◌then◌else◌, Option, Some, None, All}
 use Rattle.std.specs.List.{list_all}
 use Rattle.std.proofs.lemmas.Bool.{eqb-true, and_parts, or_cases}
 use Rattle.wild_records.specs.Abi.Relocation.{r_x86_64_none, r_x86_64_gotpc32_tlsdesc, r_x86_64_code_4_gotpc32_tlsdesc, r_x86_64_tlsdesc_call}
+use Rattle.wild_types.specs.declared.kind.Machine.{Machine}
 use Rattle.wild_types.specs.declared.kind.Machine.TheVariants as machine
 use Rattle.wild_reloc.specs.TableX86_64.{x86_64_rows, x86_64_row}
+use Rattle.wild_reloc.specs.TableAArch64.{static_rows, static_row, thread_rows, thread_row}
 use Rattle.wild_reloc.specs.Field.{field_width, allows, written}
-use Rattle.wild_reloc.specs.Formula.{Formula, Value, Form, NoField, Plain, Full, Bits, Reads}
+use Rattle.wild_reloc.specs.Formula.{Formula, Value, Form, Check, NoCheck, NoValue, NoField, SymbolAddress, Plain, Full, Bits, Reads, Keeps}
 use Rattle.wild_reloc.specs.FormulaX86_64.{x86_64_formula}
-use Rattle.wild_reloc.specs.Agreement.{X86_64Agrees, Agrees, plain_value, value_of}
-use Rattle.wild_reloc.specs.Expression.{expression_of, taken_of, has_value, writes}
+use Rattle.wild_reloc.specs.FormulaAArch64.{aarch64_formula}
+use Rattle.wild_reloc.specs.Agreement.{Agrees}
+use Rattle.wild_reloc.specs.Expression.{expression_of, has_value, writes}
 use Rattle.wild_reloc.specs.declared.expression.Class.{Class}
-use Rattle.wild_reloc.specs.declared.info.PageMask.{PageMask}
+use Rattle.wild_reloc.specs.declared.expression.Class.TheVariants as class
 use Rattle.wild_reloc.specs.declared.info.RelocationKind.{RelocationKind}
 use Rattle.wild_reloc.specs.declared.info.RelocationKind.TheVariants as kinds
-use Rattle.wild_reloc.specs.declared.info.RelocationSize.{RelocationSize}
-use Rattle.wild_reloc.specs.declared.info.RelocationSize.TheVariants.{ByteSize, BitMasking}
 use Rattle.wild_reloc.specs.declared.info.RelocationKindInfo.{RelocationKindInfo}
-use Rattle.wild_reloc.proofs.TableLemmas.{entry_passes}
+use Rattle.wild_reloc.proofs.TableLemmas.{entry_passes, parts_pass}
 use Rattle.wild_types.specs.Rows.{row_of}
 use Rattle.wild_layout.proofs.DecideLemmas.{value_has_field}
 use Rattle.wild_slot.proofs.TreatmentLemmas.{HasValue}
-use Rattle.wild_meaning.specs.Field.{form_width}
+use Rattle.wild_geometry.specs.MachineFacts.{RowsAreRead}
+use Rattle.wild_meaning.specs.Field.{formula_of, form_width}
+use Rattle.wild_references.specs.Terms.{is_expressed, value_by_row}
+use Rattle.wild_references.proofs.LowForms.{is_low}
+
+-- a field has the bits of an address below its page, on AArch64
+pub record IsPartSeen (m : Machine) (k : RelocationKind) (form : Form) : Type 0 where
+  pub on : m ≡ machine.AArch64
+  pub part : (expression_of k).class ≡ class.Part
+  pub low : is_low form ≡ true
+
+-- or all of a value
+abbrev pub IsSeen : Machine → RelocationKind → Form → Type 0
+IsSeen m k form = (writes (expression_of k).class ≡ true) ⊎ IsPartSeen m k form
 
 -- what ties the row of a number that has a value to its formula
-pub record RowFits (n : ℕ) (row : RelocationKindInfo) : Type 0 where
+pub record RowFits (m : Machine) (n : ℕ) (row : RelocationKindInfo) : Type 0 where
   pub formula : Formula
-  pub known : x86_64_formula n ≡ Some formula
+  pub known : formula_of m n ≡ Some formula
   pub width : field_width row ≡ form_width formula.form
   pub some : 0 < field_width row
-  pub value : plain_value row.kind ≡ formula.value
-  pub whole : writes (expression_of row.kind).class ≡ true
-  pub taken : taken_of row.kind row.mask ≡ (expression_of row.kind).taken
-  pub full : row.kind ≡ kinds.Absolute → field_width row ≡ 8 → formula.form ≡ Full
+  pub value : value_by_row row ≡ formula.value
+  pub seen : IsSeen m row.kind formula.form
+  pub expressed : is_expressed m (expression_of row.kind).term (expression_of row.kind).taken row.mask ≡ true
+  pub full : row.kind ≡ kinds.Absolute → field_width row ≡ 8 → (formula.value ≡ SymbolAddress) × (formula.form ≡ Full)
   pub reads : (v : ℕ) (old : List ℕ) → v < 2 ^ 64 → length old ≡ field_width row → allows row v ≡ true → Reads formula.form (written row v old) v
+  pub keeps : (v : ℕ) (old : List ℕ) → All (λ b. b < 256) old → length old ≡ field_width row → Keeps formula.form old (written row v old)
 
 -- ---- what each row of the table passes
-
--- no term is taken as its page, and no part of a value
-abbrev is_whole : Option PageMask → RelocationSize → Bool
-is_whole None (ByteSize n) = true
-is_whole mask size = false
 
 abbrev same_width : Option Formula → ℕ → Bool
 same_width None width = true
 same_width (Some f) width = width == form_width f.form
 
--- the types of the kinds that few types have: for nothing, a descriptor, and the call through one
-abbrev few_numbers : RelocationKind → ℕ → Bool
-few_numbers kinds.None n = n == r_x86_64_none
-few_numbers kinds.TlsDesc n = n == r_x86_64_gotpc32_tlsdesc || n == r_x86_64_code_4_gotpc32_tlsdesc
-few_numbers kinds.TlsDescCall n = n == r_x86_64_tlsdesc_call
-few_numbers other n = true
+abbrev is_full : Formula → Bool
+is_full f = full_form f.form && is_address f.value
+  where
+    full_form : Form → Bool
+    full_form Full = true
+    full_form other = false
 
-abbrev is_full : Form → Bool
-is_full Full = true
-is_full other = false
+    is_address : Value → Bool
+    is_address SymbolAddress = true
+    is_address other = false
 
-abbrev full_form : Option Formula → Bool
-full_form None = false
-full_form (Some f) = is_full f.form
+abbrev is_nothing : Formula → Bool
+is_nothing f = no_form f.form && no_value f.value
+  where
+    no_form : Form → Bool
+    no_form NoField = true
+    no_form other = false
+
+    no_value : Value → Bool
+    no_value NoValue = true
+    no_value other = false
+
+abbrev of_formula : (Formula → Bool) → Option Formula → Bool
+of_formula test None = false
+of_formula test (Some f) = test f
+
+-- the types of the kinds that few types have: for nothing, and on x86-64 a descriptor, and the call through one; AArch64 has none of a size
+abbrev few_numbers : Machine → RelocationKind → ℕ → Bool
+few_numbers m kinds.None n = n == r_x86_64_none
+few_numbers machine.X86_64 kinds.TlsDesc n = n == r_x86_64_gotpc32_tlsdesc || n == r_x86_64_code_4_gotpc32_tlsdesc
+few_numbers machine.X86_64 kinds.TlsDescCall n = n == r_x86_64_tlsdesc_call
+few_numbers machine.AArch64 kinds.SymbolSize n = false
+few_numbers m other n = true
+
+-- the call through a descriptor has no value and no field
+abbrev call_formula : RelocationKind → Option Formula → Bool
+call_formula kinds.TlsDescCall o = of_formula is_nothing o
+call_formula other o = true
 
 -- an address of 8 bytes is all of them
 abbrev full_address : RelocationKind → ℕ → Option Formula → Bool
-full_address kinds.Absolute width o = if width == 8 then full_form o else true
+full_address kinds.Absolute width o = if width == 8 then of_formula is_full o else true
 full_address other width o = true
 
--- a value is all of it in its field
-abbrev all_of_it : Class → Bool
-all_of_it c = if has_value c then writes c else true
+abbrev is_part : Class → Bool
+is_part class.Part = true
+is_part other = false
 
-abbrev row_test : ℕ → RelocationKindInfo → Bool
-row_test n row = all_of_it (expression_of row.kind).class && (is_whole row.mask row.size && (same_width (x86_64_formula n) (field_width row) && (few_numbers row.kind n && full_address row.kind (field_width row) (x86_64_formula n))))
+abbrev is_low_formula : Formula → Bool
+is_low_formula f = is_low f.form
 
-each_passes : list_all (λ (e : ℕ × RelocationKindInfo). row_test e.0 e.1) x86_64_rows ≡ true
+abbrev is_aarch64 : Machine → Bool
+is_aarch64 machine.AArch64 = true
+is_aarch64 machine.X86_64 = false
+
+-- a value is all of it in its field, or on AArch64 its low bits
+abbrev seen_by : Machine → Class → Option Formula → Bool
+seen_by m c o = if has_value c then writes c || (is_aarch64 m && (is_part c && of_formula is_low_formula o)) else true
+
+abbrev row_test : Machine → ℕ → RelocationKindInfo → Bool
+row_test m n row =
+    seen_by m (expression_of row.kind).class (formula_of m n)
+    && (is_expressed m (expression_of row.kind).term (expression_of row.kind).taken row.mask
+    && (same_width (formula_of m n) (field_width row)
+    && (few_numbers m row.kind n && (call_formula row.kind (formula_of m n) && full_address row.kind (field_width row) (formula_of m n)))))
+
+each_x86_64 : list_all (λ (e : ℕ × RelocationKindInfo). row_test machine.X86_64 e.0 e.1) x86_64_rows ≡ true
 unfolding x86_64_formula
-each_passes = refl
+each_x86_64 = refl
 
-passes : (n : ℕ) (row : RelocationKindInfo) → row_of machine.X86_64 n ≡ Some row → row_test n row ≡ true
-unfolding row_of x86_64_row
-passes n row is = entry_passes row_test x86_64_rows each_passes n row is
+each_static : list_all (λ (e : ℕ × RelocationKindInfo). row_test machine.AArch64 e.0 e.1) static_rows ≡ true
+unfolding aarch64_formula
+each_static = refl
+
+each_thread : list_all (λ (e : ℕ × RelocationKindInfo). row_test machine.AArch64 e.0 e.1) thread_rows ≡ true
+unfolding aarch64_formula
+each_thread = refl
+
+passes : (m : Machine) (n : ℕ) (row : RelocationKindInfo) → row_of m n ≡ Some row → row_test m n row ≡ true
+unfolding row_of x86_64_row static_row thread_row
+passes machine.X86_64 n row is = entry_passes (row_test machine.X86_64) x86_64_rows each_x86_64 n row is
+passes machine.AArch64 n row is = parts_pass (row_test machine.AArch64) static_rows thread_rows each_static each_thread n row is
+
+-- what they say
+record Passes (m : Machine) (n : ℕ) (row : RelocationKindInfo) : Type 0 where
+  seen : seen_by m (expression_of row.kind).class (formula_of m n) ≡ true
+  expressed : is_expressed m (expression_of row.kind).term (expression_of row.kind).taken row.mask ≡ true
+  wide : same_width (formula_of m n) (field_width row) ≡ true
+  few : few_numbers m row.kind n ≡ true
+  call : call_formula row.kind (formula_of m n) ≡ true
+  full : full_address row.kind (field_width row) (formula_of m n) ≡ true
+
+all_passed : (m : Machine) (n : ℕ) (row : RelocationKindInfo) → row_of m n ≡ Some row → Passes m n row
+all_passed m n row is =
+    let a = and_parts (seen_by m (expression_of row.kind).class (formula_of m n)) _ (passes m n row is) in
+    let b = and_parts (is_expressed m (expression_of row.kind).term (expression_of row.kind).taken row.mask) _ a.1 in
+    let c = and_parts (same_width (formula_of m n) (field_width row)) _ b.1 in
+    let d = and_parts (few_numbers m row.kind n) _ c.1 in
+    let e = and_parts (call_formula row.kind (formula_of m n)) (full_address row.kind (field_width row) (formula_of m n)) d.1 in
+    record { seen = a.0; expressed = b.0; wide = c.0; few = d.0; call = e.0; full = e.1 }
 
 -- ---- rows that fit
 
--- what is taken, and the value, of a row without a mask
-record IsUnmasked (kind : RelocationKind) (mask : Option PageMask) (value : Value) : Type 0 where
-  less : taken_of kind mask ≡ (expression_of kind).taken
-  is : plain_value kind ≡ value
+part_is : (c : Class) → is_part c ≡ true → c ≡ class.Part
+part_is class.Part h = refl
+part_is other h = cc
 
-value_is : (kind : RelocationKind) (mask : Option PageMask) (size : RelocationSize) (value : Value) → is_whole mask size ≡ true → value_of kind mask size ≡ value → IsUnmasked kind mask value
-value_is kind None (ByteSize n) value e h = record { less = refl; is = h }
-value_is kind None (BitMasking bits) value e h = cc
-value_is kind (Some mask) size value e h = cc
+on_is : (m : Machine) → is_aarch64 m ≡ true → m ≡ machine.AArch64
+on_is machine.AArch64 h = refl
+on_is machine.X86_64 h = cc
 
-all_written : (kind : RelocationKind) → HasValue kind → all_of_it (expression_of kind).class ≡ true → writes (expression_of kind).class ≡ true
-all_written kind v h = by_test (has_value (expression_of kind).class) v h
+seen_is : (m : Machine) (k : RelocationKind) (f : Formula) → HasValue k → seen_by m (expression_of k).class (Some f) ≡ true → IsSeen m k f.form
+seen_is m k f v h = by_test (has_value (expression_of k).class) v h
   where
-    by_test : (b : Bool) → b ≡ true → (if b then writes (expression_of kind).class else true) ≡ true → writes (expression_of kind).class ≡ true
-    by_test true e h = h
+    by_case : (writes (expression_of k).class || (is_aarch64 m && (is_part (expression_of k).class && is_low f.form))) ≡ true → IsSeen m k f.form
+    by_case h =
+        elim (or_cases (writes (expression_of k).class) (is_aarch64 m && (is_part (expression_of k).class && is_low f.form)) h) [
+          | inl whole ↦ inl whole
+          | inr part ↦
+              (let o = and_parts (is_aarch64 m) (is_part (expression_of k).class && is_low f.form) part in
+              let p = and_parts (is_part (expression_of k).class) (is_low f.form) o.1 in
+              inr (record { on = on_is m o.0; part = part_is (expression_of k).class p.0; low = p.1 }))
+        ]
+
+    by_test : (b : Bool) → b ≡ true → (if b then writes (expression_of k).class || (is_aarch64 m && (is_part (expression_of k).class && is_low f.form)) else true) ≡ true → IsSeen m k f.form
+    by_test true e h = by_case h
     by_test false e h = cc
 
-form_full : (form : Form) → is_full form ≡ true → form ≡ Full
-form_full Full h = refl
-form_full NoField h = cc
-form_full (Plain bits reading) h = cc
-form_full (Bits field high low check unit) h = cc
+form_full : (form : Form) (value : Value) → is_full (record { value = value; form = form }) ≡ true → (value ≡ SymbolAddress) × (form ≡ Full)
+form_full Full SymbolAddress h = (refl, refl)
+form_full Full other h = cc
+form_full NoField value h = cc
+form_full (Plain bits reading) value h = cc
+form_full (Bits field high low check unit) value h = cc
 
-full_is : (kind : RelocationKind) (f : Formula) (width : ℕ) → full_address kind width (Some f) ≡ true → kind ≡ kinds.Absolute → width ≡ 8 → f.form ≡ Full
+full_is : (kind : RelocationKind) (f : Formula) (width : ℕ) → full_address kind width (Some f) ≡ true → kind ≡ kinds.Absolute → width ≡ 8 → (f.value ≡ SymbolAddress) × (f.form ≡ Full)
 full_is kind f width h k w =
     let there : full_address kinds.Absolute 8 (Some f) ≡ true = subst (λ (x : RelocationKind). full_address x 8 (Some f) ≡ true) k (subst (λ (n : ℕ). full_address kind n (Some f) ≡ true) w h) in
-    form_full f.form there
+    form_full f.form f.value there
 
-fits_formula : (n : ℕ) (row : RelocationKindInfo) (o : Option Formula) → HasValue row.kind → row_of machine.X86_64 n ≡ Some row → x86_64_formula n ≡ o → all_of_it (expression_of row.kind).class ≡ true → is_whole row.mask row.size ≡ true → same_width o (field_width row) ≡ true → full_address row.kind (field_width row) o ≡ true → Agrees row o → RowFits n row
-fits_formula n row None kind is known all mask wide full agrees = absurd agrees
-fits_formula n row (Some f) kind is known all mask wide full agrees = record {
+fits_formula : (m : Machine) (n : ℕ) (row : RelocationKindInfo) (o : Option Formula) → HasValue row.kind → row_of m n ≡ Some row → formula_of m n ≡ o → is_expressed m (expression_of row.kind).term (expression_of row.kind).taken row.mask ≡ true → seen_by m (expression_of row.kind).class o ≡ true → same_width o (field_width row) ≡ true → full_address row.kind (field_width row) o ≡ true → Agrees row o → RowFits m n row
+fits_formula m n row None kind is known expressed seen wide full agrees = absurd agrees
+fits_formula m n row (Some f) kind is known expressed seen wide full agrees = record {
   formula = f;
   known = known;
   width = eqb-true _ _ wide;
-  some = value_has_field machine.X86_64 n row is kind;
-  value = (value_is row.kind row.mask row.size f.value mask agrees.value).is;
-  whole = all_written row.kind kind all;
-  taken = (value_is row.kind row.mask row.size f.value mask agrees.value).less;
+  some = value_has_field m n row is kind;
+  value = agrees.value;
+  seen = seen_is m row.kind f kind seen;
+  expressed = expressed;
   full = λ k w. full_is row.kind f (field_width row) full k w;
   reads = agrees.reads;
+  keeps = agrees.keeps;
 }
 
 -- the row of a kind with a value fits
-pub row_fits : (n : ℕ) (row : RelocationKindInfo) → X86_64Agrees → row_of machine.X86_64 n ≡ Some row → HasValue row.kind → RowFits n row
-unfolding row_of
-row_fits n row agrees is kind =
-    let all = and_parts _ _ (passes n row is) in
-    let tests = and_parts _ _ all.1 in
-    let rest = and_parts _ _ tests.1 in
-    let last = and_parts _ _ rest.1 in
-    fits_formula n row (x86_64_formula n) kind is refl all.0 tests.0 rest.0 last.1 (agrees n row is)
+pub row_fits : RowsAreRead → (m : Machine) (n : ℕ) (row : RelocationKindInfo) → row_of m n ≡ Some row → HasValue row.kind → RowFits m n row
+row_fits agree m n row is kind =
+    let p = all_passed m n row is in
+    fits_formula m n row (formula_of m n) kind is refl p.expressed p.seen p.wide p.full (agree m n row is)
 
 -- the type of a row of such a kind
-few_at : (n : ℕ) (row : RelocationKindInfo) (k : RelocationKind) → row_of machine.X86_64 n ≡ Some row → row.kind ≡ k → few_numbers k n ≡ true
-few_at n row k is kind =
-    let all = and_parts (all_of_it (expression_of row.kind).class) _ (passes n row is) in
-    let tests = and_parts (is_whole row.mask row.size) _ all.1 in
-    let rest = and_parts (same_width (x86_64_formula n) (field_width row)) _ tests.1 in
-    let last = and_parts (few_numbers row.kind n) (full_address row.kind (field_width row) (x86_64_formula n)) rest.1 in
-    subst (λ (k : RelocationKind). few_numbers k n ≡ true) kind last.0
+few_at : (m : Machine) (n : ℕ) (row : RelocationKindInfo) (k : RelocationKind) → row_of m n ≡ Some row → row.kind ≡ k → few_numbers m k n ≡ true
+few_at m n row k is kind = subst (λ (k : RelocationKind). few_numbers m k n ≡ true) kind (all_passed m n row is).few
 
 -- a type without a value is for nothing
-pub none_is : (n : ℕ) (row : RelocationKindInfo) → row_of machine.X86_64 n ≡ Some row → row.kind ≡ kinds.None → n ≡ r_x86_64_none
-none_is n row is kind = eqb-true _ _ (few_at n row kinds.None is kind)
+pub none_is : (m : Machine) (n : ℕ) (row : RelocationKindInfo) → row_of m n ≡ Some row → row.kind ≡ kinds.None → n ≡ r_x86_64_none
+none_is machine.X86_64 n row is kind = eqb-true _ _ (few_at machine.X86_64 n row kinds.None is kind)
+none_is machine.AArch64 n row is kind = eqb-true _ _ (few_at machine.AArch64 n row kinds.None is kind)
+
+-- a size is x86-64's
+pub size_machine : (m : Machine) (n : ℕ) (row : RelocationKindInfo) → row_of m n ≡ Some row → row.kind ≡ kinds.SymbolSize → m ≡ machine.X86_64
+size_machine machine.X86_64 n row is kind = refl
+size_machine machine.AArch64 n row is kind = (let none = few_at machine.AArch64 n row kinds.SymbolSize is kind in cc)
 
 -- or the call through a descriptor
 pub call_is : (n : ℕ) (row : RelocationKindInfo) → row_of machine.X86_64 n ≡ Some row → row.kind ≡ kinds.TlsDescCall → n ≡ r_x86_64_tlsdesc_call
-call_is n row is kind = eqb-true _ _ (few_at n row kinds.TlsDescCall is kind)
+call_is n row is kind = eqb-true _ _ (few_at machine.X86_64 n row kinds.TlsDescCall is kind)
+
+-- whose formula has no value and no field
+pub call_known : (m : Machine) (n : ℕ) (row : RelocationKindInfo) → row_of m n ≡ Some row → row.kind ≡ kinds.TlsDescCall → formula_of m n ≡ Some (record { value = NoValue; form = NoField })
+call_known m n row is kind = by_formula (formula_of m n) (subst (λ (k : RelocationKind). call_formula k (formula_of m n) ≡ true) kind (all_passed m n row is).call)
+  where
+    nothing : (value : Value) (form : Form) → is_nothing (record { value = value; form = form }) ≡ true → (value ≡ NoValue) × (form ≡ NoField)
+    nothing NoValue NoField h = (refl, refl)
+    nothing other NoField h = cc
+    nothing value Full h = cc
+    nothing value (Plain bits reading) h = cc
+    nothing value (Bits field high low check unit) h = cc
+
+    by_formula : (o : Option Formula) → call_formula kinds.TlsDescCall o ≡ true → o ≡ Some (record { value = NoValue; form = NoField })
+    by_formula None h = cc
+    by_formula (Some f) h = (let e = nothing f.value f.form h in let a = e.0 in let b = e.1 in cc)
 
 -- a descriptor has two types
 pub descriptor_is : (n : ℕ) (row : RelocationKindInfo) → row_of machine.X86_64 n ≡ Some row → row.kind ≡ kinds.TlsDesc → (n ≡ r_x86_64_gotpc32_tlsdesc) ⊎ (n ≡ r_x86_64_code_4_gotpc32_tlsdesc)
 descriptor_is n row is kind =
-    elim (or_cases _ _ (few_at n row kinds.TlsDesc is kind)) [
+    elim (or_cases _ _ (few_at machine.X86_64 n row kinds.TlsDesc is kind)) [
       | inl a ↦ inl (eqb-true _ _ a)
       | inr b ↦ inr (eqb-true _ _ b)
     ]

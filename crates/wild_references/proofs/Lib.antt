@@ -1,4 +1,5 @@
 pub mod OutputKinds
+mod LowForms
 mod KnownRows
 mod Rows
 mod Written
@@ -19,6 +20,7 @@ pub mod Stubbed
 mod Targets
 mod ThreadValues
 mod Treated
+mod Referents
 mod ValueKinds
 mod Relatives
 mod SlotTerms

@@ -2,48 +2,68 @@
 use Rattle.std.proofs.Common.{◌≡◌, ℕ, ◌+◌, ◌%◌, ◌^◌, ◌⊎◌, inl, inr, Bool, true, false, [], Some, refl, sym, ap, ◌∙◌, arith, subst}
 use Rattle.std.specs.Prelude.{Ok, slice_get}
 use Rattle.wild_words.proofs.ListLemmas.{holds_at}
-use Rattle.wild_records.specs.Abi.Relocation.{r_x86_64_tlsdesc_call}
+use Rattle.wild_types.specs.declared.kind.Machine.{Machine}
+use Rattle.wild_types.specs.declared.kind.Machine.TheVariants as machine
+use Rattle.wild_types.specs.declared.kind.OutputKind.{OutputKind}
+use Rattle.wild_types.specs.declared.kind.OutputKind.TheVariants as output
+use Rattle.wild_types.specs.Lookups.{place_of}
 use Rattle.wild_types.specs.declared.input.InputRelocation.{InputRelocation}
 use Rattle.wild_types.specs.declared.layout.Layout.{Layout}
 use Rattle.wild_slot.specs.declared.treatment.Treatment.TheVariants as treatments
 use Rattle.wild_slot.specs.Treatment.{kind_treatment}
-use Rattle.wild_reloc.specs.Agreement.{plain_value}
-use Rattle.wild_reloc.specs.Expression.{expression_of, expressed, writes}
+use Rattle.wild_reloc.specs.Agreement.{sized}
+use Rattle.wild_reloc.specs.Expression.{expression_of, taken_of, expressed, writes}
+use Rattle.wild_reloc.specs.declared.info.RelocationKindInfo.{RelocationKindInfo}
 use Rattle.wild_reloc.specs.declared.expression.SlotSort.{SlotSort}
 use Rattle.wild_reloc.specs.declared.expression.SlotSort.TheVariants as sorts
 use Rattle.wild_reloc.specs.declared.expression.Taken.{Taken}
 use Rattle.wild_reloc.specs.declared.expression.Taken.TheVariants as less
 use Rattle.wild_reloc.specs.declared.expression.Term.{Term}
 use Rattle.wild_reloc.specs.declared.expression.Term.TheVariants as term
-use Rattle.wild_reloc.specs.Formula.{Formula, Value, formula, NoValue, NoField}
-use Rattle.wild_reloc.specs.FormulaX86_64.{x86_64_formula}
+use Rattle.wild_reloc.specs.Formula.{Formula, Value, formula, SymbolAddress, NoValue, NoField}
 use Rattle.wild_reloc.specs.declared.info.RelocationKind.{RelocationKind}
 use Rattle.wild_reloc.specs.declared.info.RelocationKind.TheVariants as kinds
 use Rattle.wild_layout.specs.Geometry.{NamesSymbol}
 use Rattle.wild_layout.specs.Numbers.{AddendFits}
-use Rattle.wild_layout.specs.Values.{term_of}
+use Rattle.wild_layout.specs.Values.{term_of, is_symbol}
 use Rattle.wild_layout.proofs.DecideLemmas.{field_has}
 use Rattle.wild_slot.proofs.TreatmentLemmas.{has_value}
 use Rattle.wild_loader.specs.declared.world.World.{World}
 use Rattle.wild_loader.specs.declared.memory.Memory.{Memory}
 use Rattle.wild_meaning.specs.Field.{formula_of, FieldReads}
 use Rattle.wild_types.specs.Item.{Item}
-use Rattle.wild_meaning.specs.Formula.{HasOffsetMode, Gives, GivesLinked, IsPlaceRelative, TakesAddress, TakesOffset}
+use Rattle.wild_meaning.specs.Formula.{KnowsOffsets, HasOffsetMode, Gives, GivesLinked, IsPlaceRelative, TakesAddress, TakesOffset}
 use Rattle.wild_meaning.specs.Reference.{IsAsked, IsStubbed, TakesItself, IsLinkedAlone}
 use Rattle.wild_references.specs.Laws.{FieldHolds, FieldIsLinked, IsKeptReference}
-use Rattle.wild_references.specs.Terms.{HasTerm, IsFollowed}
+use Rattle.wild_references.specs.Terms.{value_by_row, HasTerm, IsFollowed}
 use Rattle.wild_references.proofs.Alone.{not_left, followed, taken, left_follows}
 use Rattle.wild_references.proofs.Descriptors.{descriptor_kept, call_kept}
-use Rattle.wild_references.proofs.Fields.{KindLaws, LinkedLaws, IsItemLoaded, field_within, place_is, place_ends, value_reads, address_reads, left_bytes, left_reads, formula_known}
-use Rattle.wild_references.proofs.KnownRows.{descriptor_is}
+use Rattle.wild_references.proofs.Fields.{KindLaws, LinkedLaws, IsItemLoaded, field_within, place_is, place_ends, value_reads, address_reads, left_bytes, left_reads, SeenAs}
+use Rattle.wild_references.proofs.KnownRows.{IsSeen, descriptor_is}
+use Rattle.wild_references.proofs.Referents.{is_address, sized_is}
+use Rattle.wild_references.proofs.ValueKinds.{plain_given}
 use Rattle.wild_references.proofs.RowFields.{row_holds}
-use Rattle.wild_references.proofs.Treated.{treated_by, symbol_named}
+use Rattle.wild_references.proofs.Treated.{treated_by, suits_by, symbol_named}
 use Rattle.wild_references.proofs.Written.{IsValue, IsAddress, IsLeftField, IsCall, Writes, row_here, relocation_written}
+
+-- only code of x86-64 has offsets for descriptors
+mode_machine : (l : Layout) → KnowsOffsets l.machine l.kind l → l.machine ≡ machine.X86_64
+mode_machine l h = by_machine l.machine refl h
+  where
+    by_kind : (k : OutputKind) → KnowsOffsets machine.AArch64 k l → ⊥
+    by_kind (output.StaticExecutable any) h = h
+    by_kind (output.DynamicExecutable any) h = h
+    by_kind output.SharedObject h = h
+    by_kind output.PartialObject h = h
+
+    by_machine : (k : Machine) → l.machine ≡ k → KnowsOffsets k l.kind l → l.machine ≡ machine.X86_64
+    by_machine machine.X86_64 e h = e
+    by_machine machine.AArch64 e h = absurd (by_kind l.kind h)
 
 -- ---- values
 
-gives_by : (l : Layout) (w : World) (m : Memory) (s : Item) (r : InputRelocation) (k : RelocationKind) (x : ℕ) → KindLaws → writes (expression_of k).class ≡ true → HasTerm l w m s r k x → IsFollowed l r k → (k ≡ kinds.TlsDesc → HasOffsetMode l s → ⊥) → Gives (plain_value k) l w m s r x
-gives_by l w m s r k x laws v h f none = by_term (expression_of k).term refl
+gives_by : (l : Layout) (w : World) (m : Memory) (s : Item) (r : InputRelocation) (info : RelocationKindInfo) (x : ℕ) → KindLaws → writes (expression_of info.kind).class ≡ true → HasTerm l w m s r info x → IsFollowed l r (value_by_row info) → (info.kind ≡ kinds.TlsDesc → HasOffsetMode l s → ⊥) → Gives (value_by_row info) l w m s r x
+gives_by l w m s r info x laws v h f none = by_term (expression_of info.kind).term refl
   where
     descriptor : (j : RelocationKind) → (expression_of j).term ≡ term.Slot sorts.Descriptor → writes (expression_of j).class ≡ true → j ≡ kinds.TlsDesc
     descriptor kinds.TlsDesc e v = refl
@@ -54,18 +74,18 @@ gives_by l w m s r k x laws v h f none = by_term (expression_of k).term refl
     no_term kinds.TlsDescCall e v = (let both : false ≡ true = v in sym both)
     no_term other e v = cc
 
-    by_term : (t : Term) → (expression_of k).term ≡ t → Gives (plain_value k) l w m s r x
-    by_term term.Symbol e = laws.symbol k e v l w m s r x h f
-    by_term term.Stub e = laws.stub k e v l w m s r x h f
-    by_term (term.Slot sort) e = laws.slot sort k e v l w m s r x h (λ d. none (descriptor k (e ∙ ap (λ (y : SlotSort). term.Slot y) d) v))
-    by_term term.Table e = laws.table k e v l w m s r x h f
-    by_term term.Size e = laws.size k e v l w m s r x h f
-    by_term term.PointerOffset e = laws.pointer k e v l w m s r x h f
-    by_term term.ModuleOffset e = laws.own k e v l w m s r x h f
-    by_term term.Nothing e = absurd (let both : true ≡ false = no_term k e v in cc)
+    by_term : (t : Term) → (expression_of info.kind).term ≡ t → Gives (value_by_row info) l w m s r x
+    by_term term.Symbol e = laws.symbol info e v l w m s r x h f
+    by_term term.Stub e = laws.stub info e v l w m s r x h f
+    by_term (term.Slot sort) e = laws.slot sort info e v l w m s r x h (λ d. none (descriptor info.kind (e ∙ ap (λ (y : SlotSort). term.Slot y) d) v))
+    by_term term.Table e = laws.table info e v l w m s r x h f
+    by_term term.Size e = laws.size info e v l w m s r x h f
+    by_term term.PointerOffset e = laws.pointer info e v l w m s r x h f
+    by_term term.ModuleOffset e = laws.own info e v l w m s r x h f
+    by_term term.Nothing e = absurd (let both : true ≡ false = no_term info.kind e v in cc)
 
 -- what the writer computes for it, where an excepted one is asked
-term_is : (l : Layout) (w : World) (m : Memory) (s : Item) (i : ℕ) (r : InputRelocation) → IsItemLoaded l w m s → IsAsked l w s r → (v : IsValue l s i r) → HasTerm l w m s r v.field.row.kind v.value
+term_is : (l : Layout) (w : World) (m : Memory) (s : Item) (i : ℕ) (r : InputRelocation) → IsItemLoaded l w m s → IsAsked l w s r → (v : IsValue l s i r) → HasTerm l w m s r v.field.row v.value
 term_is l w m s i r h asked v =
     let field = field_has l s r v.size v.value v.field in
     record {
@@ -75,9 +95,11 @@ term_is l w m s i r h asked v =
       row = v.field.row;
       number = r.number;
       treated = treated_by l s r v.field.row (treatments.Value v.field.row) v.field.known v.field.treated (λ e. cc);
+      suited = suits_by l s r v.field.row (treatments.Value v.field.row) v.field.known v.field.treated (λ e. cc);
+      expressed = v.fits.expressed;
       term = v.field.term;
-      given = v.given;
-      value = v.is;
+      given = v.field.given;
+      value = v.field.value;
       place = place_is l w m s i r v.size h v.plain.has.listed field;
       ends = place_ends l w m s i r v.size h v.plain.has.listed field;
       asked = λ relative movable k named absolute. asked (record {
@@ -85,52 +107,65 @@ term_is l w m s i r h asked v =
         symbol = k;
         named = named;
         absolute = absolute;
-        relative = inl (record { formula = v.fits.formula; known = formula_known l r.number v.fits.formula h.placed.x86 v.fits.known; relative = subst IsPlaceRelative v.fits.value relative });
+        relative = inl (record { formula = v.fits.formula; known = v.fits.known; relative = subst IsPlaceRelative v.fits.value relative });
       });
     }
 
-value_followed : (l : Layout) (w : World) (m : Memory) (s : Item) (i : ℕ) (r : InputRelocation) → IsItemLoaded l w m s → (v : IsValue l s i r) → (IsLinkedAlone l s r → ⊥) → IsFollowed l r v.field.row.kind
+value_followed : (l : Layout) (w : World) (m : Memory) (s : Item) (i : ℕ) (r : InputRelocation) → IsItemLoaded l w m s → (v : IsValue l s i r) → (IsLinkedAlone l s r → ⊥) → IsFollowed l r (value_by_row v.field.row)
 value_followed l w m s i r h v alone =
-    followed l w m s r v.field.row.kind v.fits.formula h.placed (holds_at (NamesSymbol l) s.relocations i r v.plain.has.listed h.symbols) (formula_known l r.number v.fits.formula h.placed.x86 v.fits.known) v.fits.value (λ k named left. not_left l s r v.field.row k (treatments.Value v.field.row) v.fits h.room v.field.treated (λ e. cc) (λ e. cc) (λ e. cc) v.field.known named left) alone
+    subst (λ (q : Value). IsFollowed l r q) (sym v.fits.value)
+    (followed l w m s r v.fits.formula h.placed (holds_at (NamesSymbol l) s.relocations i r v.plain.has.listed h.symbols) v.fits.known (λ k named left. not_left l s r v.field.row k (treatments.Value v.field.row) v.fits h.room v.field.treated (λ e. cc) (λ e. cc) (λ e. cc) v.field.known named left) alone)
 
 -- a descriptor's reference that is kept is no offset
 no_offset : (l : Layout) (w : World) (m : Memory) (s : Item) (i : ℕ) (r : InputRelocation) → IsItemLoaded l w m s → (v : IsValue l s i r) → v.field.row.kind ≡ kinds.TlsDesc → HasOffsetMode l s → ⊥
 no_offset l w m s i r h v kind mode =
     let f = v.field in
+    let x86 = mode_machine l mode.0 in
     let named = symbol_named r.symbol (λ k. treatments.Value f.row) f.row (subst (λ (k : RelocationKind). kind_treatment l s.flags r.number r.symbol f.row k ≡ treatments.Value f.row) kind (treated_by l s r f.row (treatments.Value f.row) f.known f.treated (λ e. cc))) in
-    let number = descriptor_is r.number f.row (row_here l r.number f.row h.placed.x86 f.known) kind in
+    let number = descriptor_is r.number f.row (row_here l r.number f.row x86 f.known) kind in
     let inside = field_within l w m s i r v.size h v.plain.has.listed (field_has l s r v.size v.value f) in
-    descriptor_kept l s r (slice_get s.relocations (i + 1)) named.0 f.term v.plain.own.choice h.placed.x86 h.placed.symbols named.1 number (subst (λ (k : RelocationKind). term_of l r.symbol k ≡ Ok f.term) kind v.given) (omega (arith, inside)) mode
+    let plain = plain_given l r f.row (place_of s.address r) f.term f.given (ap (λ (k : RelocationKind). is_symbol (expression_of k).term) kind) in
+    descriptor_kept l s r (slice_get s.relocations (i + 1)) named.0 f.term v.plain.own.choice x86 h.placed.symbols named.1 number (subst (λ (k : RelocationKind). term_of l r.symbol k ≡ Ok f.term) kind plain) (omega (arith, inside)) mode
 
-gives_value : (l : Layout) (w : World) (m : Memory) (s : Item) (i : ℕ) (r : InputRelocation) → IsItemLoaded l w m s → IsAsked l w s r → (v : IsValue l s i r) → (IsLinkedAlone l s r → ⊥) → Gives v.fits.formula.value l w m s r v.value
-gives_value l w m s i r h asked v alone =
-    subst (λ (q : Value). Gives q l w m s r v.value) v.fits.value
-    (gives_by l w m s r v.field.row.kind v.value h.kinds v.fits.whole (term_is l w m s i r h asked v) (value_followed l w m s i r h v alone) (no_offset l w m s i r h v))
+-- what memory has of a value: the value itself, or a number with its bits below a page
+record IsSeenValue (l : Layout) (w : World) (m : Memory) (s : Item) (i : ℕ) (r : InputRelocation) (v : IsValue l s i r) : Type 0 where
+  value : ℕ
+  gives : Gives v.fits.formula.value l w m s r value
+  seen : SeenAs v.fits.formula.form v.value value
+
+gives_value : (l : Layout) (w : World) (m : Memory) (s : Item) (i : ℕ) (r : InputRelocation) → IsItemLoaded l w m s → IsAsked l w s r → (v : IsValue l s i r) → (IsLinkedAlone l s r → ⊥) → IsSeenValue l w m s i r v
+gives_value l w m s i r h asked v alone = by_seen v.fits.seen
+  where
+    there : HasTerm l w m s r v.field.row v.value
+    there = term_is l w m s i r h asked v
+
+    follow : IsFollowed l r (value_by_row v.field.row)
+    follow = value_followed l w m s i r h v alone
+
+    by_seen : IsSeen l.machine v.field.row.kind v.fits.formula.form → IsSeenValue l w m s i r v
+    by_seen (inl whole) = record { value = v.value; gives = subst (λ (q : Value). Gives q l w m s r v.value) v.fits.value (gives_by l w m s r v.field.row v.value h.kinds whole there follow (no_offset l w m s i r h v)); seen = inl refl }
+    by_seen (inr p) =
+        let g = h.kinds.part v.field.row p.part l w m s r v.value p.on there follow in
+        record { value = g.0; gives = subst (λ (q : Value). Gives q l w m s r g.0) v.fits.value g.1; seen = inr (p.low, g.2) }
 
 gives_address : (l : Layout) (w : World) (m : Memory) (s : Item) (i : ℕ) (r : InputRelocation) → IsItemLoaded l w m s → (a : IsAddress l s i r) → (IsLinkedAlone l s r → ⊥) → Gives a.fits.formula.value l w m s r ((a.value + w.base) % 2 ^ 64)
 gives_address l w m s i r h a alone =
     let listed = holds_at (NamesSymbol l) s.relocations i r a.plain.has.listed h.symbols in
-    let known = formula_known l r.number a.fits.formula h.placed.x86 a.fits.known in
-    let kind = a.moved.by.kind in
-    let value : plain_value kinds.Absolute ≡ a.fits.formula.value = sym (ap plain_value kind) ∙ a.fits.value in
-    let f = followed l w m s r kinds.Absolute a.fits.formula h.placed listed known value (λ k named left. not_left l s r a.moved.row k treatments.BaseRelative a.fits h.room a.moved.treated (λ e. cc) (λ e. cc) (λ e. cc) a.moved.known named left) alone in
-    subst (λ (q : Value). Gives q l w m s r ((a.value + w.base) % 2 ^ 64)) value (h.kinds.address l w m s r a.value a.packed h.placed listed a.plain.own.made f)
+    let value : SymbolAddress ≡ a.fits.formula.value = sym (a.fits.full a.moved.by.kind a.moved.by.width).0 in
+    let f = followed l w m s r a.fits.formula h.placed listed a.fits.known (λ k named left. not_left l s r a.moved.row k treatments.BaseRelative a.fits h.room a.moved.treated (λ e. cc) (λ e. cc) (λ e. cc) a.moved.known named left) alone in
+    subst (λ (q : Value). Gives q l w m s r ((a.value + w.base) % 2 ^ 64)) value (h.kinds.address l w m s r a.value a.packed h.placed listed a.plain.own.made (subst (λ (q : Value). IsFollowed l r q) (sym value) f))
 
 -- ---- the reference
 
 value_holds : (l : Layout) (w : World) (m : Memory) (s : Item) (i : ℕ) (r : InputRelocation) → IsItemLoaded l w m s → IsAsked l w s r → (IsLinkedAlone l s r → ⊥) → IsValue l s i r → FieldHolds l w m s r
-value_holds l w m s i r h asked alone v = record {
-  formula = v.fits.formula;
-  known = formula_known l r.number v.fits.formula h.placed.x86 v.fits.known;
-  value = v.value;
-  gives = gives_value l w m s i r h asked v alone;
-  field = value_reads l w m s i r h v;
-}
+value_holds l w m s i r h asked alone v =
+    let x = gives_value l w m s i r h asked v alone in
+    record { formula = v.fits.formula; known = v.fits.known; value = x.value; gives = x.gives; field = value_reads l w m s i r x.value h v x.seen }
 
 address_holds : (l : Layout) (w : World) (m : Memory) (s : Item) (i : ℕ) (r : InputRelocation) → IsItemLoaded l w m s → (IsLinkedAlone l s r → ⊥) → IsAddress l s i r → FieldHolds l w m s r
 address_holds l w m s i r h alone a = record {
   formula = a.fits.formula;
-  known = formula_known l r.number a.fits.formula h.placed.x86 a.fits.known;
+  known = a.fits.known;
   value = (a.value + w.base) % 2 ^ 64;
   gives = gives_address l w m s i r h a alone;
   field = address_reads l w m s i r h a;
@@ -142,33 +177,27 @@ left_holds l w m s i r h f =
     let fits = holds_at AddendFits s.relocations i r f.plain.has.listed h.addends in
     let b = left_bytes l w m s i r h f in
     let g = h.kinds.entry l w m s r f.size f.number f.symbol f.addend b.0 h.placed listed fits f.plain.own.made b.2 in
-    let known = formula_known l r.number f.fits.formula h.placed.x86 f.fits.known in
+    let known = f.fits.known in
     let same : g.0 ≡ f.fits.formula = (let e : Some g.0 ≡ Some f.fits.formula = sym g.1 ∙ known in cc) in
     record {
       formula = g.0;
       known = g.1;
       value = g.2;
       gives = g.3;
-      field = left_reads l w m s i r g.2 h f g.0.form (ap (λ (x : Formula). x.form) same) g.4;
+      field = left_reads l w m s i r g.2 h f g.0.form (ap (λ (x : Formula). x.form) same) g.4 g.5;
     }
 
--- the call has no field, and stands in no code whose references are offsets
-call_formula : x86_64_formula r_x86_64_tlsdesc_call ≡ Some (formula NoValue NoField)
-unfolding x86_64_formula
-call_formula = refl
-
-call_known : (l : Layout) (w : World) (m : Memory) (s : Item) (i : ℕ) (r : InputRelocation) → IsItemLoaded l w m s → IsCall l s i r → formula_of l.machine r.number ≡ Some (formula NoValue NoField)
-call_known l w m s i r h c = formula_known l r.number (formula NoValue NoField) h.placed.x86 (ap x86_64_formula c.number ∙ call_formula)
-
+-- a field without bytes
 no_bytes : (w : World) (m : Memory) (s : Item) (r : InputRelocation) → FieldReads w m s r NoField 0
 no_bytes w m s r = record { bytes = []; wide = refl; held = λ k less. absurd (omega (arith, less)); reads = tt; keeps = tt }
 
+-- the call has no field, and stands in no code whose references are offsets
 call_holds : (l : Layout) (w : World) (m : Memory) (s : Item) (i : ℕ) (r : InputRelocation) → IsItemLoaded l w m s → IsCall l s i r → FieldHolds l w m s r
 call_holds l w m s i r h c = record {
   formula = formula NoValue NoField;
-  known = call_known l w m s i r h c;
+  known = c.known;
   value = 0;
-  gives = λ mode. call_kept l s r (slice_get s.relocations (i + 1)) c.symbol c.plain.own.choice h.placed.x86 c.named c.number mode;
+  gives = λ mode. (let x86 = mode_machine l mode.0 in call_kept l s r (slice_get s.relocations (i + 1)) c.symbol c.plain.own.choice x86 c.named (c.number x86) mode);
   field = no_bytes w m s r;
 }
 
@@ -180,7 +209,7 @@ written_holds l w m s i r h asked alone (inr (inr (inr (inl c)))) = call_holds l
 written_holds l w m s i r h asked alone (inr (inr (inr (inr f)))) = (row_holds l w m s i r h asked f).holds
 
 pub field_holds : (l : Layout) (w : World) (m : Memory) (s : Item) (i : ℕ) (r : InputRelocation) → IsItemLoaded l w m s → IsKeptReference l s i r → IsAsked l w s r → (IsLinkedAlone l s r → ⊥) → FieldHolds l w m s r
-field_holds l w m s i r h k asked alone = written_holds l w m s i r h asked alone (relocation_written l s i r k.decision h.tables.agree h.placed.x86 k.has k.keeps k.refers)
+field_holds l w m s i r h k asked alone = written_holds l w m s i r h asked alone (relocation_written l s i r k.decision h.tables.agree k.has k.keeps k.refers)
 
 -- ---- with the output's own symbol, at base 0
 
@@ -208,22 +237,44 @@ none_taken term.Table u none h = elim h [ inl o ↦ o | inr a ↦ a ]
 none_taken term.Size u none h = elim h [ inl o ↦ o | inr a ↦ a ]
 none_taken term.Nothing u none h = elim h [ inl o ↦ o | inr a ↦ a ]
 
-links_by : (l : Layout) (w : World) (m : Memory) (s : Item) (r : InputRelocation) (k : RelocationKind) (x i : ℕ) → LinkedLaws → writes (expression_of k).class ≡ true → HasTerm l w m s r k x → w.base ≡ 0 → r.symbol ≡ Some i → (IsStubbed l i → ⊥) ⊎ TakesOffset (plain_value k) → TakesOffset (plain_value k) ⊎ TakesAddress (plain_value k) → GivesLinked (plain_value k) l w s r x
-links_by l w m s r k x i laws v h zero named alone t = by_term (expression_of k).term refl
+-- which is no address
+no_address : (t : Term) (u : Taken) → takes_symbol t ≡ false → is_address (expressed t u) ≡ false
+no_address term.Symbol u none = cc
+no_address term.PointerOffset u none = refl
+no_address term.ModuleOffset u none = refl
+no_address term.Stub less.Nothing none = refl
+no_address term.Stub less.Place none = refl
+no_address term.Stub less.Table none = refl
+no_address term.Stub less.PagePlace none = refl
+no_address term.Stub less.PageTable none = refl
+no_address (term.Slot sort) less.Nothing none = refl
+no_address (term.Slot sort) less.Place none = refl
+no_address (term.Slot sort) less.Table none = refl
+no_address (term.Slot sort) less.PagePlace none = refl
+no_address (term.Slot sort) less.PageTable none = refl
+no_address term.Table u none = refl
+no_address term.Size u none = refl
+no_address term.Nothing u none = refl
+
+links_by : (l : Layout) (w : World) (m : Memory) (s : Item) (r : InputRelocation) (info : RelocationKindInfo) (x i : ℕ) → LinkedLaws → writes (expression_of info.kind).class ≡ true → HasTerm l w m s r info x → w.base ≡ 0 → r.symbol ≡ Some i → (IsStubbed l i → ⊥) ⊎ TakesOffset (value_by_row info) → TakesOffset (value_by_row info) ⊎ TakesAddress (value_by_row info) → GivesLinked (value_by_row info) l w s r x
+links_by l w m s r info x i laws v h zero named alone t = by_term (expression_of info.kind).term refl
   where
     -- the value of another term takes neither
-    none_of : (j : RelocationKind) (t : Term) → takes_symbol t ≡ false → (expression_of j).term ≡ t → TakesOffset (plain_value j) ⊎ TakesAddress (plain_value j) → ⊥
-    none_of j t none e takes = none_taken t (expression_of j).taken none (subst (λ (y : Term). TakesOffset (expressed y (expression_of j).taken) ⊎ TakesAddress (expressed y (expression_of j).taken)) e takes)
+    none_of : (u : Term) → takes_symbol u ≡ false → (expression_of info.kind).term ≡ u → ⊥
+    none_of u none e =
+        let less = taken_of info.kind info.mask in
+        let is : value_by_row info ≡ expressed u less = ap (λ (y : Term). sized info.size (expressed y less)) e ∙ sized_is info.size (expressed u less) (no_address u less none) in
+        none_taken u less none (subst (λ (q : Value). TakesOffset q ⊎ TakesAddress q) is t)
 
-    by_term : (u : Term) → (expression_of k).term ≡ u → GivesLinked (plain_value k) l w s r x
-    by_term term.Symbol e = laws.symbol k e v l w m s r x i h zero named alone
-    by_term term.PointerOffset e = laws.pointer k e v l w m s r x i h zero named alone
-    by_term term.ModuleOffset e = laws.own k e v l w m s r x i h zero named alone
-    by_term term.Stub e = absurd (none_of k term.Stub refl e t)
-    by_term (term.Slot sort) e = absurd (none_of k (term.Slot sort) refl e t)
-    by_term term.Table e = absurd (none_of k term.Table refl e t)
-    by_term term.Size e = absurd (none_of k term.Size refl e t)
-    by_term term.Nothing e = absurd (none_of k term.Nothing refl e t)
+    by_term : (u : Term) → (expression_of info.kind).term ≡ u → GivesLinked (value_by_row info) l w s r x
+    by_term term.Symbol e = laws.symbol info e v l w m s r x i h zero named alone
+    by_term term.PointerOffset e = laws.pointer info e v l w m s r x i h zero named alone
+    by_term term.ModuleOffset e = laws.own info e v l w m s r x i h zero named alone
+    by_term term.Stub e = absurd (none_of term.Stub refl e)
+    by_term (term.Slot sort) e = absurd (none_of (term.Slot sort) refl e)
+    by_term term.Table e = absurd (none_of term.Table refl e)
+    by_term term.Size e = absurd (none_of term.Size refl e)
+    by_term term.Nothing e = absurd (none_of term.Nothing refl e)
 
 -- what it takes
 alone_by : (l : Layout) (s : Item) (i : ℕ) (f : Formula) (v : Value) → v ≡ f.value → TakesItself l s i f → (IsStubbed l i → ⊥) ⊎ TakesOffset v
@@ -236,26 +287,31 @@ takes_by l s i f v e (inr t) = inr (subst TakesAddress (sym e) t.0)
 
 value_links : (l : Layout) (w : World) (m : Memory) (s : Item) (i : ℕ) (r : InputRelocation) → IsItemLoaded l w m s → (a : IsLinkedAlone l s r) → w.base ≡ 0 → IsValue l s i r → FieldIsLinked l w m s r
 value_links l w m s i r h a zero v =
-    let known = formula_known l r.number v.fits.formula h.placed.x86 v.fits.known in
-    let t = taken l s r v.fits.formula known a in
-    let given = links_by l w m s r v.field.row.kind v.value a.symbol h.linked v.fits.whole (term_is l w m s i r h (λ e. zero) v) zero a.named (alone_by l s a.symbol v.fits.formula (plain_value v.field.row.kind) v.fits.value t) (takes_by l s a.symbol v.fits.formula (plain_value v.field.row.kind) v.fits.value t) in
+    let t = taken l s r v.fits.formula v.fits.known a in
+    let alone = alone_by l s a.symbol v.fits.formula (value_by_row v.field.row) v.fits.value t in
+    let takes = takes_by l s a.symbol v.fits.formula (value_by_row v.field.row) v.fits.value t in
+    let there = term_is l w m s i r h (λ e. zero) v in
     record {
       formula = v.fits.formula;
-      known = known;
+      known = v.fits.known;
       value = v.value;
-      gives = subst (λ (q : Value). GivesLinked q l w s r v.value) v.fits.value given;
-      field = value_reads l w m s i r h v;
+      gives = subst (λ (q : Value). GivesLinked q l w s r v.value) v.fits.value (by_seen alone takes there v.fits.seen);
+      field = value_reads l w m s i r v.value h v (inl refl);
     }
+  where
+    by_seen : (IsStubbed l a.symbol → ⊥) ⊎ TakesOffset (value_by_row v.field.row) → TakesOffset (value_by_row v.field.row) ⊎ TakesAddress (value_by_row v.field.row) → HasTerm l w m s r v.field.row v.value → IsSeen l.machine v.field.row.kind v.fits.formula.form → GivesLinked (value_by_row v.field.row) l w s r v.value
+    by_seen alone takes there (inl whole) = links_by l w m s r v.field.row v.value a.symbol h.linked whole there zero a.named alone takes
+    by_seen alone takes there (inr p) = h.linked.part v.field.row p.part l w m s r v.value a.symbol there zero a.named alone takes
 
 -- an address has no offset, so that it takes the symbol's own
-bare_by : (l : Layout) (s : Item) (i : ℕ) (f : Formula) → plain_value kinds.Absolute ≡ f.value → TakesItself l s i f → IsStubbed l i → ⊥
+bare_by : (l : Layout) (s : Item) (i : ℕ) (f : Formula) → SymbolAddress ≡ f.value → TakesItself l s i f → IsStubbed l i → ⊥
 bare_by l s i f e (inl offset) = absurd (subst TakesOffset (sym e) offset)
 bare_by l s i f e (inr t) = t.2
 
 address_links : (l : Layout) (w : World) (m : Memory) (s : Item) (i : ℕ) (r : InputRelocation) → IsItemLoaded l w m s → (a : IsLinkedAlone l s r) → w.base ≡ 0 → IsAddress l s i r → FieldIsLinked l w m s r
 address_links l w m s i r h a zero v =
-    let known = formula_known l r.number v.fits.formula h.placed.x86 v.fits.known in
-    let value : plain_value kinds.Absolute ≡ v.fits.formula.value = sym (ap plain_value v.moved.by.kind) ∙ v.fits.value in
+    let known = v.fits.known in
+    let value : SymbolAddress ≡ v.fits.formula.value = sym (v.fits.full v.moved.by.kind v.moved.by.width).0 in
     let bare = bare_by l s a.symbol v.fits.formula value (taken l s r v.fits.formula known a) in
     let listed = holds_at (NamesSymbol l) s.relocations i r v.plain.has.listed h.symbols in
     let x = (v.value + w.base) % 2 ^ 64 in
@@ -278,9 +334,9 @@ takes_none l s r f known offset address a = by_takes (taken l s r f known a)
 written_links : (l : Layout) (w : World) (m : Memory) (s : Item) (i : ℕ) (r : InputRelocation) → IsItemLoaded l w m s → (a : IsLinkedAlone l s r) → w.base ≡ 0 → Writes l s i r → FieldIsLinked l w m s r
 written_links l w m s i r h a zero (inl v) = value_links l w m s i r h a zero v
 written_links l w m s i r h a zero (inr (inl v)) = address_links l w m s i r h a zero v
-written_links l w m s i r h a zero (inr (inr (inl f))) = absurd (left_follows l w m s i r h.placed (holds_at (NamesSymbol l) s.relocations i r f.plain.has.listed h.symbols) f (formula_known l r.number f.fits.formula h.placed.x86 f.fits.known) a)
-written_links l w m s i r h a zero (inr (inr (inr (inl c)))) = absurd (takes_none l s r (formula NoValue NoField) (call_known l w m s i r h c) (λ o. o) (λ o. o) a)
+written_links l w m s i r h a zero (inr (inr (inl f))) = absurd (left_follows l w m s i r h.placed (holds_at (NamesSymbol l) s.relocations i r f.plain.has.listed h.symbols) f f.fits.known a)
+written_links l w m s i r h a zero (inr (inr (inr (inl c)))) = absurd (takes_none l s r (formula NoValue NoField) c.known (λ o. o) (λ o. o) a)
 written_links l w m s i r h a zero (inr (inr (inr (inr f)))) = (let held = row_holds l w m s i r h (λ e. zero) f in absurd (takes_none l s r held.holds.formula held.holds.known held.offset held.address a))
 
 pub field_links : (l : Layout) (w : World) (m : Memory) (s : Item) (i : ℕ) (r : InputRelocation) → IsItemLoaded l w m s → IsKeptReference l s i r → IsLinkedAlone l s r → w.base ≡ 0 → FieldIsLinked l w m s r
-field_links l w m s i r h k a zero = written_links l w m s i r h a zero (relocation_written l s i r k.decision h.tables.agree h.placed.x86 k.has k.keeps k.refers)
+field_links l w m s i r h k a zero = written_links l w m s i r h a zero (relocation_written l s i r k.decision h.tables.agree k.has k.keeps k.refers)

@@ -5,6 +5,7 @@ use Rattle.std.proofs.lemmas.Bool.{cases_Bool, and_parts, or_cases, eqb-true, no
 use Rattle.wild_words.proofs.Basics.{or_other, implied, listed_passes}
 use Rattle.std.specs.List.{list_all}
 use Rattle.wild_records.specs.Abi.Relocation.{r_x86_64_none, r_x86_64_pc32, r_x86_64_32, r_x86_64_32s, r_x86_64_tpoff32, r_x86_64_gottpoff}
+use Rattle.wild_types.specs.declared.kind.Machine.TheVariants as machine
 use Rattle.wild_types.specs.declared.input.InputRelocation.{InputRelocation}
 use Rattle.wild_types.specs.declared.layout.Layout.{Layout}
 use Rattle.wild_types.specs.Flags.{has_flag, interposable, has_link_time_address, absolute, ifunc}
@@ -61,14 +62,14 @@ DoesRow l w m s r row = DoesDemanded (reads_alone w m) l w m s r (template_start
 -- ---- addresses
 
 -- of an own symbol that may move
-lea_far : LawsBelow → (l : Layout) (w : World) (m : Memory) (s : Item) (i : ℕ) (r : InputRelocation) (row : Row) (v : ℕ) → IsLoadedItem l w m s → (p : IsPlacedRow l s i r row v) → (rewrite_of row).number ≡ 2 → (rewrite_of row).addend r.addend ≡ r.addend → minus_four r.addend ≡ true → not (has_flag (flags_at l p.chosen.symbol) ifunc) ≡ true
+lea_far : LawsBelow → (l : Layout) (w : World) (m : Memory) (s : Item) (i : ℕ) (r : InputRelocation) (row : Row) (v : ℕ) → IsLoadedItem machine.X86_64 l w m s → (p : IsPlacedRow l s i r row v) → (rewrite_of row).number ≡ 2 → (rewrite_of row).addend r.addend ≡ r.addend → minus_four r.addend ≡ true → not (has_flag (flags_at l p.chosen.symbol) ifunc) ≡ true
     → (not (interposable (flags_at l p.chosen.symbol)) && not (has_flag (flags_at l p.chosen.symbol) absolute || has_link_time_address (flags_at l p.chosen.symbol) && has_fixed_load_address l.kind)) ≡ true → LandsFar l w m s r row v
 lea_far laws l w m s i r row v h p number same ends plain value =
     let k = p.chosen.symbol in
     let t = and_parts (not (interposable (flags_at l k))) _ value in
     lands_far laws l w m s i r row v h p number same ends (not-true _ t.0) (not-true _ plain) (λ movable abs. absurd (not_absolute l k t.1 abs))
 
-pub plain_far : LawsBelow → (l : Layout) (w : World) (m : Memory) (s : Item) (i : ℕ) (r : InputRelocation) (row : Row) (v : ℕ) → IsLoadedItem l w m s → (p : IsPlacedRow l s i r row v) → (rewrite_of row).number ≡ 2 → (rewrite_of row).addend r.addend ≡ r.addend → minus_four r.addend ≡ true → not (has_flag (flags_at l p.chosen.symbol) ifunc) ≡ true
+pub plain_far : LawsBelow → (l : Layout) (w : World) (m : Memory) (s : Item) (i : ℕ) (r : InputRelocation) (row : Row) (v : ℕ) → IsLoadedItem machine.X86_64 l w m s → (p : IsPlacedRow l s i r row v) → (rewrite_of row).number ≡ 2 → (rewrite_of row).addend r.addend ≡ r.addend → minus_four r.addend ≡ true → not (has_flag (flags_at l p.chosen.symbol) ifunc) ≡ true
     → (not (interposable (flags_at l p.chosen.symbol)) && (has_link_time_address (flags_at l p.chosen.symbol) || has_fixed_load_address l.kind)) ≡ true → LandsFar l w m s r row v
 plain_far laws l w m s i r row v h p number same ends plain value =
     let k = p.chosen.symbol in
@@ -76,7 +77,7 @@ plain_far laws l w m s i r row v h p number same ends plain value =
     lands_far laws l w m s i r row v h p number same ends (not-true _ t.0) (not-true _ plain) (λ movable abs. absurd (not_moved l k t.1 movable abs))
 
 -- of one whose value is known
-number_itself : LawsBelow → (l : Layout) (w : World) (m : Memory) (s : Item) (i : ℕ) (r : InputRelocation) (row : Row) (v : ℕ) (held : Bool) → IsLoadedItem l w m s → (p : IsPlacedRow l s i r row v) → ((rewrite_of row).number ≡ 11) ⊎ ((rewrite_of row).number ≡ 10) → (rewrite_of row).addend r.addend ≡ pos 0 → not (has_flag (flags_at l p.chosen.symbol) ifunc) ≡ true
+number_itself : LawsBelow → (l : Layout) (w : World) (m : Memory) (s : Item) (i : ℕ) (r : InputRelocation) (row : Row) (v : ℕ) (held : Bool) → IsLoadedItem machine.X86_64 l w m s → (p : IsPlacedRow l s i r row v) → ((rewrite_of row).number ≡ 11) ⊎ ((rewrite_of row).number ≡ 10) → (rewrite_of row).addend r.addend ≡ pos 0 → not (has_flag (flags_at l p.chosen.symbol) ifunc) ≡ true
     → (not (interposable (flags_at l p.chosen.symbol)) && ((has_flag (flags_at l p.chosen.symbol) absolute || has_link_time_address (flags_at l p.chosen.symbol) && has_fixed_load_address l.kind) && held)) ≡ true → LandsItself l w m r v
 number_itself laws l w m s i r row v held h p number none plain value =
     let k = p.chosen.symbol in
@@ -91,7 +92,7 @@ number_itself laws l w m s i r row v held h p number none plain value =
 -- ---- offsets from the thread pointer
 
 -- an own symbol's offset, in a program
-own_offset : LawsBelow → (l : Layout) (w : World) (m : Memory) (s : Item) (i : ℕ) (r : InputRelocation) (row : Row) (v : ℕ) → IsLoadedItem l w m s → (p : IsPlacedRow l s i r row v) → (rewrite_of row).number ≡ 23 → (rewrite_of row).addend r.addend ≡ pos 0 → is_executable l.kind ≡ true → not (interposable (flags_at l p.chosen.symbol)) ≡ true → LandsOffset l w r v
+own_offset : LawsBelow → (l : Layout) (w : World) (m : Memory) (s : Item) (i : ℕ) (r : InputRelocation) (row : Row) (v : ℕ) → IsLoadedItem machine.X86_64 l w m s → (p : IsPlacedRow l s i r row v) → (rewrite_of row).number ≡ 23 → (rewrite_of row).addend r.addend ≡ pos 0 → is_executable l.kind ≡ true → not (interposable (flags_at l p.chosen.symbol)) ≡ true → LandsOffset l w r v
 own_offset laws l w m s i r row v h p number none program own = lands_offset laws l w m s i r row v h p number none program (not-true _ own)
 
 -- a sequence's addend counts from its end
@@ -194,7 +195,7 @@ on_where true must static h f e = refl
 on_where false true static h f e = (let t = f refl in cc)
 on_where false false static h f e = cc
 
-pub does_row : LawsBelow → (l : Layout) (w : World) (m : Memory) (s : Item) (i : ℕ) (r : InputRelocation) (row : Row) (v : ℕ) → IsLoadedItem l w m s → (p : IsPlacedRow l s i r row v) → GoesWithBase l w row p.chosen.symbol → DoesRow l w m s r row
+pub does_row : LawsBelow → (l : Layout) (w : World) (m : Memory) (s : Item) (i : ℕ) (r : InputRelocation) (row : Row) (v : ℕ) → IsLoadedItem machine.X86_64 l w m s → (p : IsPlacedRow l s i r row v) → GoesWithBase l w row p.chosen.symbol → DoesRow l w m s r row
 does_row laws l w m s i r row v h p asked = by (cases_Bool (is_call (instruction_of row).sort))
   where
     place : ℕ
@@ -213,7 +214,7 @@ does_row laws l w m s i r row v h p asked = by (cases_Bool (is_call (instruction
     program t = implied row.thread_local (is_executable l.kind) p.stands.taken.thread (implied (is_thread (instruction_of row).sort) row.thread_local well.0 t)
 
     mode : is_thread (instruction_of row).sort ≡ true → HasOffsetMode l s
-    mode t = offset_mode l s h.x86 (program t) (on_where l.options.relax (is_mandatory row.duty q) (is_static_executable l.kind) (applied q row p.stands.here).on (mandatory_static row q p.changing)) (is_code l s i r row v p)
+    mode t = offset_mode l s h.on (program t) (on_where l.options.relax (is_mandatory row.duty q) (is_static_executable l.kind) (applied q row p.stands.here).on (mandatory_static row q p.changing)) (is_code l s i r row v p)
 
     ends : counts_ends row ≡ true → minus_four r.addend ≡ true
     ends e = elim (or_cases (row.ends || row.needs_end) (is_skip (rewrite_of row).next) (and_parts (change_of row.made).keeps_addend ((row.ends || row.needs_end) || is_skip (rewrite_of row).next) e).1) [
@@ -281,7 +282,7 @@ does_row laws l w m s i r row v h p asked = by (cases_Bool (is_call (instruction
     act Described value.Own sort takes acts plain there so = own Described sort takes acts (there refl) so (λ n k. inl (mode (ap is_thread sort), k)) (λ n a old e k. k)
     act SymbolPair value.Interposable sort takes acts plain there so = slot SymbolPair sort acts so (λ n k. k) (λ n a old e k. k)
     act Described value.Interposable sort takes acts plain there so = slot Described sort acts so (λ n k. inl (mode (ap is_thread sort), k)) (λ n a old e k. k)
-    act OwnPair value.Any sort takes acts plain there so = finish OwnPair 0 sort acts (own_base l w h.x86 (there refl)) (omega arith) (lands_start row.written (reads_alone w m) place v (eqb-true (number_written row.written) r_x86_64_none so)) (λ a old e k. k)
+    act OwnPair value.Any sort takes acts plain there so = finish OwnPair 0 sort acts (own_base l w h.on (there refl)) (omega arith) (lands_start row.written (reads_alone w m) place v (eqb-true (number_written row.written) r_x86_64_none so)) (λ a old e k. k)
     act o t sort takes acts plain there so = cc
 
     call_sort : (o : Sort) → is_call o ≡ true → o ≡ DescribedCall
@@ -301,7 +302,7 @@ does_row laws l w m s i r row v h p asked = by (cases_Bool (is_call (instruction
             bytes = template_of row v (old_of s row r);
             whole = whole_is l w m s i r row v h p;
             held = h.item.rewritten i r row v p.has;
-            does = on_machine l.machine (reads_alone w m) (place_at w s (template_start row r)) (template_of row v (old_of s row r)) h.x86 ∙ (effect_kept laws l w m s i r row v 0 (place_at w s (template_start row r)) h p (omega arith) (lands_start row.written (reads_alone w m) place v (eqb-true (number_written row.written) r_x86_64_none f.1)) ∙ demanded_none row.made 0 (place_at w s (template_start row r)) (old_of s row r) f.0);
+            does = on_machine l.machine (reads_alone w m) (place_at w s (template_start row r)) (template_of row v (old_of s row r)) h.on ∙ (effect_kept laws l w m s i r row v 0 (place_at w s (template_start row r)) h p (omega arith) (lands_start row.written (reads_alone w m) place v (eqb-true (number_written row.written) r_x86_64_none f.1)) ∙ demanded_none row.made 0 (place_at w s (template_start row r)) (old_of s row r) f.0);
           };
         }
 

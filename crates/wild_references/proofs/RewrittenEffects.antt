@@ -71,7 +71,7 @@ abbrev pub old_of : Item → Row → InputRelocation → List ℕ
 old_of s row r = slice_range s.bytes (template_start row r) (template_start row r + pattern_size row)
 
 -- the effect of what is written, at the row's bytes
-pub effect_kept : LawsBelow → (l : Layout) (w : World) (m : Memory) (s : Item) (i : ℕ) (r : InputRelocation) (row : Row) (v n a : ℕ) → IsLoadedItem l w m s → IsPlacedRow l s i r row v → n < 2 ^ 64 → Lands row.written (reads_alone w m) (a + field_in row) n v → effect_x86_64 (reads_alone w m) a (template_of row v (old_of s row r)) ≡ demanded row.made n a (old_of s row r)
+pub effect_kept : LawsBelow → (l : Layout) (w : World) (m : Memory) (s : Item) (i : ℕ) (r : InputRelocation) (row : Row) (v n a : ℕ) → IsLoadedItem machine.X86_64 l w m s → IsPlacedRow l s i r row v → n < 2 ^ 64 → Lands row.written (reads_alone w m) (a + field_in row) n v → effect_x86_64 (reads_alone w m) a (template_of row v (old_of s row r)) ≡ demanded row.made n a (old_of s row r)
 effect_kept laws l w m s i r row v n a h p small lands =
     let x = p.made.written in
     let known = info_is l w m s i r row v h p in
@@ -87,11 +87,11 @@ demand_on k v a bs e = rw e refl
 old_is : (l : Layout) (s : Item) (i : ℕ) (r : InputRelocation) (row : Row) (v : ℕ) → IsPlacedRow l s i r row v → old_bytes s (template_start row r) (instruction_of row) ≡ old_of s row r
 old_is l s i r row v p = ap (λ (n : ℕ). slice_range s.bytes (template_start row r) (template_start row r + n)) (size_is l s i r row v p)
 
-pub whole_is : (l : Layout) (w : World) (m : Memory) (s : Item) (i : ℕ) (r : InputRelocation) (row : Row) (v : ℕ) → IsLoadedItem l w m s → IsPlacedRow l s i r row v → length (template_of row v (old_of s row r)) ≡ size_of (instruction_of row)
+pub whole_is : (l : Layout) (w : World) (m : Memory) (s : Item) (i : ℕ) (r : InputRelocation) (row : Row) (v : ℕ) → IsLoadedItem machine.X86_64 l w m s → IsPlacedRow l s i r row v → length (template_of row v (old_of s row r)) ≡ size_of (instruction_of row)
 whole_is l w m s i r row v h p = length-template row v (old_of s row r) (lies_in l s i r row v p) p.whole.long ∙ sym (size_is l s i r row v p)
 
 -- with an operand that lands it does what is demanded, where that is an effect of the input's bytes
-pub does_by : LawsBelow → (l : Layout) (w : World) (m : Memory) (s : Item) (i : ℕ) (r : InputRelocation) (row : Row) (v n : ℕ) → IsLoadedItem l w m s → IsPlacedRow l s i r row v → Demands (instruction_of row).sort l w m s r n → n < 2 ^ 64 → Lands row.written (reads_alone w m) (place_at w s (template_start row r) + field_in row) n v
+pub does_by : LawsBelow → (l : Layout) (w : World) (m : Memory) (s : Item) (i : ℕ) (r : InputRelocation) (row : Row) (v n : ℕ) → IsLoadedItem machine.X86_64 l w m s → IsPlacedRow l s i r row v → Demands (instruction_of row).sort l w m s r n → n < 2 ^ 64 → Lands row.written (reads_alone w m) (place_at w s (template_start row r) + field_in row) n v
     → ((a : ℕ) (old : List ℕ) → demanded row.made n a old ≡ demand_x86_64 n a old) → ((a : ℕ) (old : List ℕ) (e : Effect) → demand_of l.machine n a old ≡ Some e → IsDemanded (instruction_of row).sort l s n a old e) → DoesDemanded (reads_alone w m) l w m s r (template_start row r) (instruction_of row)
 does_by laws l w m s i r row v n h p demands small lands same told =
     let a = place_at w s (template_start row r) in
@@ -101,7 +101,7 @@ does_by laws l w m s i r row v n h p demands small lands same told =
     let stands_here = subst (λ (bs : List ℕ). stands (instruction_of row).template.cells bs ≡ true) old (cells_stand l s i r row v p) in
     let t = p.fits.template in
     let e = has_effect n a t.0 (instruction_of row).template (old_of s row r) t.1 t.2 long stands_here in
-    let asked : demand_of l.machine n a (old_bytes s (template_start row r) (instruction_of row)) ≡ Some e.0 = demand_on l.machine n a _ h.x86 ∙ (ap (λ (bs : List ℕ). demand_x86_64 n a bs) old ∙ e.1) in
+    let asked : demand_of l.machine n a (old_bytes s (template_start row r) (instruction_of row)) ≡ Some e.0 = demand_on l.machine n a _ h.on ∙ (ap (λ (bs : List ℕ). demand_x86_64 n a bs) old ∙ e.1) in
     record {
       value = n;
       demands = demands;
@@ -111,6 +111,6 @@ does_by laws l w m s i r row v n h p demands small lands same told =
         bytes = template_of row v (old_of s row r);
         whole = whole_is l w m s i r row v h p;
         held = h.item.rewritten i r row v p.has;
-        does = on_machine l.machine (reads_alone w m) a _ h.x86 ∙ (effect_kept laws l w m s i r row v n a h p small lands ∙ (same a (old_of s row r) ∙ e.1));
+        does = on_machine l.machine (reads_alone w m) a _ h.on ∙ (effect_kept laws l w m s i r row v n a h p small lands ∙ (same a (old_of s row r) ∙ e.1));
       };
     }

@@ -3,6 +3,7 @@ use Rattle.std.proofs.Common.{◌≡◌, ℕ, ◌+◌, ◌-◌, ◌%◌, ◌^◌
 use Rattle.std.specs.Prelude.{ℤ, pos, ◌&&◌, ◌||◌, not, Option, Some}
 use Rattle.std.specs.Int.{w64, cast_unsigned}
 use Rattle.std.proofs.lemmas.Bool.{not-true}
+use Rattle.wild_types.specs.declared.kind.Machine.TheVariants as machine
 use Rattle.wild_types.specs.declared.kind.RelocationModel.TheVariants as model
 use Rattle.wild_types.specs.declared.kind.OutputKind.{OutputKind}
 use Rattle.wild_types.specs.declared.kind.OutputKind.TheVariants as output
@@ -80,10 +81,10 @@ goal_is : (l : Layout) (w : World) (m : Memory) (k n : ℕ) → Denotes l w m k 
 goal_is l w m k n (inl h) = (n, h, inl refl)
 goal_is l w m k n (inr h) = (h.value, h.is, h.reaches)
 
-operand_at : (l : Layout) (w : World) (m : Memory) (s : Item) (k n : ℕ) (symbol : Option ℕ) → IsLoadedItem l w m s → symbol ≡ Some k → has_flag (flags_at l k) ifunc ≡ false → IsTarget l w m symbol n → IsOperand l w m symbol n
+operand_at : (l : Layout) (w : World) (m : Memory) (s : Item) (k n : ℕ) (symbol : Option ℕ) → IsLoadedItem machine.X86_64 l w m s → symbol ≡ Some k → has_flag (flags_at l k) ifunc ≡ false → IsTarget l w m symbol n → IsOperand l w m symbol n
 operand_at l w m s k n symbol h e plain t =
     let d : Denotes l w m k n = subst (λ (o : Option ℕ). IsTarget l w m o n) e t in
-    record { target = t; goal = subst (λ (o : Option ℕ). IsGoal l w m o n) (sym e) (goal_is l w m k n d); small = denoted_small l w m k n (placed l w m s h) plain d }
+    record { target = t; goal = subst (λ (o : Option ℕ). IsGoal l w m o n) (sym e) (goal_is l w m k n d); small = denoted_small l w m k n (placed machine.X86_64 l w m s h) plain d }
 
 -- the field has its distance
 pub record LandsFar (l : Layout) (w : World) (m : Memory) (s : Item) (r : InputRelocation) (row : Row) (v : ℕ) : Type 0 where
@@ -94,7 +95,7 @@ pub record LandsFar (l : Layout) (w : World) (m : Memory) (s : Item) (r : InputR
 distance_lands : (n t c place q v : ℕ) → t ≡ (n + c) % 2 ^ 64 → c ≡ 2 ^ 64 - 4 → v ≡ (t + (2 ^ 64 - place)) % 2 ^ 64 → place ≡ q → place ≤ 2 ^ 64 → v ≡ distance n q
 distance_lands n t c place q v a b e f low = omega (arith, a, b, e, f, low)
 
-pub lands_far : LawsBelow → (l : Layout) (w : World) (m : Memory) (s : Item) (i : ℕ) (r : InputRelocation) (row : Row) (v : ℕ) → IsLoadedItem l w m s → (p : IsPlacedRow l s i r row v) → (rewrite_of row).number ≡ 2 → (rewrite_of row).addend r.addend ≡ r.addend → minus_four r.addend ≡ true → interposable (flags_at l p.chosen.symbol) ≡ false → has_flag (flags_at l p.chosen.symbol) ifunc ≡ false
+pub lands_far : LawsBelow → (l : Layout) (w : World) (m : Memory) (s : Item) (i : ℕ) (r : InputRelocation) (row : Row) (v : ℕ) → IsLoadedItem machine.X86_64 l w m s → (p : IsPlacedRow l s i r row v) → (rewrite_of row).number ≡ 2 → (rewrite_of row).addend r.addend ≡ r.addend → minus_four r.addend ≡ true → interposable (flags_at l p.chosen.symbol) ≡ false → has_flag (flags_at l p.chosen.symbol) ifunc ≡ false
     → (IsMovable l.kind → IsAbsolute l p.chosen.symbol → w.base ≡ 0) → LandsFar l w m s r row v
 lands_far laws l w m s i r row v h p number same ends own plain asked =
     let g = gives_distance laws l w m s i r row v h p number own asked in
@@ -104,7 +105,7 @@ lands_far laws l w m s i r row v h p number same ends own plain asked =
     let c : cast_unsigned w64 ((rewrite_of row).addend r.addend) ≡ 2 ^ 64 - 4 = ap (λ (x : ℤ). cast_unsigned w64 x) same ∙ ended r.addend ends in
     record {
       operand = g.1.symbol;
-      is = operand_at l w m s p.chosen.symbol g.1.symbol r.symbol h p.chosen.named plain (referent_stands Distance l w m s (written_as row r) g.1.symbol h.x86 g.1.denoted);
+      is = operand_at l w m s p.chosen.symbol g.1.symbol r.symbol h p.chosen.named plain (referent_stands Distance l w m s (written_as row r) g.1.symbol h.on g.1.denoted);
       lands = distance_lands g.1.symbol g.0 (cast_unsigned w64 ((rewrite_of row).addend r.addend)) (place_at w s (written_as row r).offset) (place_at w s (template_start row r) + field_in row) v g.1.sum c g.2 below.start (omega (arith, place, high));
     }
 
@@ -114,10 +115,10 @@ pub record LandsItself (l : Layout) (w : World) (m : Memory) (r : InputRelocatio
   pub is : IsOperand l w m r.symbol operand
   pub lands : v ≡ operand
 
-pub lands_itself : LawsBelow → (l : Layout) (w : World) (m : Memory) (s : Item) (i : ℕ) (r : InputRelocation) (row : Row) (v : ℕ) (sign : Sign) → IsLoadedItem l w m s → (p : IsPlacedRow l s i r row v) → p.made.written.info ≡ plain kinds.Absolute Four sign → (rewrite_of row).addend r.addend ≡ pos 0 → interposable (flags_at l p.chosen.symbol) ≡ false → has_flag (flags_at l p.chosen.symbol) ifunc ≡ false → moves l p.chosen.symbol ≡ false → LandsItself l w m r v
+pub lands_itself : LawsBelow → (l : Layout) (w : World) (m : Memory) (s : Item) (i : ℕ) (r : InputRelocation) (row : Row) (v : ℕ) (sign : Sign) → IsLoadedItem machine.X86_64 l w m s → (p : IsPlacedRow l s i r row v) → p.made.written.info ≡ plain kinds.Absolute Four sign → (rewrite_of row).addend r.addend ≡ pos 0 → interposable (flags_at l p.chosen.symbol) ≡ false → has_flag (flags_at l p.chosen.symbol) ifunc ≡ false → moves l p.chosen.symbol ≡ false → LandsItself l w m r v
 lands_itself laws l w m s i r row v sign h p info none own plain_one still =
     let g = gives_number laws l w m s i r row v sign h p info own plain_one still in
-    let is = operand_at l w m s p.chosen.symbol g.symbol r.symbol h p.chosen.named plain_one (referent_stands SymbolAddress l w m s (written_as row r) g.symbol h.x86 g.denoted) in
+    let is = operand_at l w m s p.chosen.symbol g.symbol r.symbol h p.chosen.named plain_one (referent_stands SymbolAddress l w m s (written_as row r) g.symbol h.on g.denoted) in
     let c : cast_unsigned w64 ((rewrite_of row).addend r.addend) ≡ 0 = ap (λ (x : ℤ). cast_unsigned w64 x) none in
     let e = g.sum in
     let low = is.small in

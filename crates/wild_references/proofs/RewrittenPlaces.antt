@@ -11,7 +11,11 @@ use Rattle.wild_types.specs.declared.input.InputRelocation.{InputRelocation}
 use Rattle.wild_types.specs.Item.{Item}
 use Rattle.wild_types.specs.declared.layout.Layout.{Layout}
 use Rattle.wild_types.specs.Lookups.{executable}
+use Rattle.wild_reloc.specs.Table.{plain}
 use Rattle.wild_reloc.specs.declared.info.RelocationKind.TheVariants as kinds
+use Rattle.wild_reloc.specs.declared.info.Width.TheVariants.{Four}
+use Rattle.wild_reloc.specs.declared.range.Sign.{Sign}
+use Rattle.wild_reloc.specs.declared.range.Sign.TheVariants.{Signed}
 use Rattle.wild_relax.specs.declared.row.Row.{Row}
 use Rattle.wild_relax.specs.Question.{Question, minus_four}
 use Rattle.wild_relax.specs.declared.row.Duty.{Duty}
@@ -34,7 +38,7 @@ use Rattle.wild_loader.specs.Instruction.{stands}
 use Rattle.wild_meaning.specs.Sequence.{Sort, Target, DescribedCall, Address, FieldBits, size_of}
 use Rattle.wild_meaning.specs.Template.{AddsNothing}
 use Rattle.wild_meaning.proofs.BitLemmas.{bit_code}
-use Rattle.wild_references.specs.Laws.{KindGives}
+use Rattle.wild_references.specs.Laws.{RowGives}
 use Rattle.wild_references.specs.EffectLaws.{WindowsAreAlone}
 use Rattle.wild_references.proofs.RewrittenDecisions.{rewritten_alone}
 use Rattle.wild_references.proofs.RewrittenForms.{all_long, all_stand, instruction_of, RowFits, row_fits}
@@ -45,10 +49,10 @@ pub record LawsBelow : Type 0 where
   pub keeps : RowsKeep
   pub stand : ChosenStand
   pub whole : ChosenAreWhole
-  pub sum : KindGives kinds.Absolute
-  pub distance : KindGives kinds.Relative
-  pub pointer : KindGives kinds.TpOff
-  pub slot : KindGives kinds.GotTpOff
+  pub sum : (sign : Sign) → RowGives (plain kinds.Absolute Four sign)
+  pub distance : RowGives (plain kinds.Relative Four Signed)
+  pub pointer : RowGives (plain kinds.TpOff Four Signed)
+  pub slot : RowGives (plain kinds.GotTpOff Four Signed)
 
 -- relocation i of a section is rewritten by a row, with v in the field
 pub record IsPlacedRow (l : Layout) (s : Item) (i : ℕ) (r : InputRelocation) (row : Row) (v : ℕ) : Type 0 where

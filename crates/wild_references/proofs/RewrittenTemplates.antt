@@ -5,6 +5,7 @@ use Rattle.std.proofs.lemmas.Bool.{cases_Bool, eqb-true, eq-eqb, not-true, and_p
 use Rattle.std.specs.List.{list_all}
 use Rattle.wild_words.proofs.Basics.{or_first, not_both, implied, listed_passes}
 use Rattle.wild_records.specs.Abi.Relocation as abi
+use Rattle.wild_types.specs.declared.kind.Machine.TheVariants as machine
 use Rattle.wild_types.specs.declared.symbol.Symbol.{Symbol}
 use Rattle.wild_types.specs.declared.input.InputRelocation.{InputRelocation}
 use Rattle.wild_types.specs.declared.layout.Layout.{Layout}
@@ -50,12 +51,12 @@ use Rattle.wild_references.proofs.RewrittenApart.{free}
 
 -- ---- an instruction of one field
 
-pub single_there : LawsBelow → (l : Layout) (w : World) (m : Memory) (s : Item) (i : ℕ) (r : InputRelocation) (row : Row) (v : ℕ) → IsLoadedItem l w m s → IsPlacedRow l s i r row v → is_skip (rewrite_of row).next ≡ false → is_told row ≡ true → IsSingle l s r (template_start row r) (instruction_of row)
+pub single_there : LawsBelow → (l : Layout) (w : World) (m : Memory) (s : Item) (i : ℕ) (r : InputRelocation) (row : Row) (v : ℕ) → IsLoadedItem machine.X86_64 l w m s → IsPlacedRow l s i r row v → is_skip (rewrite_of row).next ≡ false → is_told row ≡ true → IsSingle l s r (template_start row r) (instruction_of row)
 single_there laws l w m s i r row v h p alone told = record {
   single = single row p.changing alone;
-  stands = stands_there laws.alone l s i r row v h.x86 h.decided p;
-  longest = λ from o none k. no_longer l s r from row.number (size_of (instruction_of row)) o h.x86 p.chosen.number (longest row (chosen_listed l s r (slice_get s.relocations (i + 1)) row p.chosen is_longest each_longest) p.made.changes told alone) none k;
-  free = λ first rest from o q c. free laws.alone l s i r first rest row v from o h.x86 h.decided p alone q c;
+  stands = stands_there laws.alone l s i r row v h.on h.decided p;
+  longest = λ from o none k. no_longer l s r from row.number (size_of (instruction_of row)) o h.on p.chosen.number (longest row (chosen_listed l s r (slice_get s.relocations (i + 1)) row p.chosen is_longest each_longest) p.made.changes told alone) none k;
+  free = λ first rest from o q c. free laws.alone l s i r first rest row v from o h.on h.decided p alone q c;
 }
 
 -- ---- sequences
@@ -109,7 +110,7 @@ on_by value.OwnUnsigned d n q h taken on e k = cc
 on_by value.OwnMoving d n q h taken on e k = cc
 on_by value.OwnFixed d n q h taken on e k = cc
 
-takes_sequence : (l : Layout) (w : World) (m : Memory) (s : Item) (i : ℕ) (r : InputRelocation) (row : Row) (v : ℕ) → IsLoadedItem l w m s → (p : IsPlacedRow l s i r row v) → is_skip (rewrite_of row).next ≡ true → TakesSequence l row p.chosen.symbol
+takes_sequence : (l : Layout) (w : World) (m : Memory) (s : Item) (i : ℕ) (r : InputRelocation) (row : Row) (v : ℕ) → IsLoadedItem machine.X86_64 l w m s → (p : IsPlacedRow l s i r row v) → is_skip (rewrite_of row).next ≡ true → TakesSequence l row p.chosen.symbol
 takes_sequence l w m s i r row v h p skips =
     let q = question_of l s r p.chosen.symbol (slice_get s.relocations (i + 1)) in
     let well = and_parts row.thread_local (is_plain row.symbol && takes_on row.value row.duty row.number) (implied _ _ (listed_passes takes_well rows_x86_64 row each_takes_well p.changing.listed) skips) in
@@ -142,15 +143,15 @@ names_getter l r h = by_index r.symbol refl h
     by_index None e h = cc
     by_index (Some k) e h = by_symbol k (slice_get l.symbols k) e refl h
 
-pub sequence_there : LawsBelow → (l : Layout) (w : World) (m : Memory) (s : Item) (i : ℕ) (r next : InputRelocation) (row : Row) (v : ℕ) → IsLoadedItem l w m s → IsPlacedRow l s i r row v → is_skip (rewrite_of row).next ≡ true → slice_get s.relocations (i + 1) ≡ Some next → IsSequence l s r (next ∷ []) (template_start row r) (instruction_of row)
+pub sequence_there : LawsBelow → (l : Layout) (w : World) (m : Memory) (s : Item) (i : ℕ) (r next : InputRelocation) (row : Row) (v : ℕ) → IsLoadedItem machine.X86_64 l w m s → IsPlacedRow l s i r row v → is_skip (rewrite_of row).next ≡ true → slice_get s.relocations (i + 1) ≡ Some next → IsSequence l s r (next ∷ []) (template_start row r) (instruction_of row)
 sequence_there laws l w m s i r next row v h p skips listed =
     let t = taken_call l s i r next row v p skips listed in
     let takes = takes_sequence l w m s i r row v h p skips in
     let k = p.chosen.symbol in
     let d = definition l k h.laid.definitions (symbol_there l w m s i r row v h p) in
-    sequence_of l s r next (template_start row r) (instruction_of row) h.x86 (record {
+    sequence_of l s r next (template_start row r) (instruction_of row) h.on (record {
       executable = is_program l.kind takes.program;
-      stands = stands_there laws.alone l s i r row v h.x86 h.decided p;
+      stands = stands_there laws.alone l s i r row v h.on h.decided p;
       partner = partner_for (call_form row) t.pair.at;
       calls = t.pair.is;
       has = record { index = i; listed = p.has.listed; next = listed; field = call_place l s i r next row v p t; number = t.pair.numbers next.number t.call.number; getter = names_getter l next t.call.getter };
@@ -160,7 +161,7 @@ sequence_there laws l w m s i r next row v h p skips listed =
       rewritten = λ number open_one. takes.on (sym p.chosen.number ∙ number) (flag_is l k non_interposable false open_one);
     })
 
-pub of_sequence_there : LawsBelow → (l : Layout) (w : World) (m : Memory) (s : Item) (i : ℕ) (r next : InputRelocation) (row : Row) (v : ℕ) → IsLoadedItem l w m s → IsPlacedRow l s i r row v → is_skip (rewrite_of row).next ≡ true → slice_get s.relocations (i + 1) ≡ Some next → IsOfSequence l s r (template_start row r) (instruction_of row) r
+pub of_sequence_there : LawsBelow → (l : Layout) (w : World) (m : Memory) (s : Item) (i : ℕ) (r next : InputRelocation) (row : Row) (v : ℕ) → IsLoadedItem machine.X86_64 l w m s → IsPlacedRow l s i r row v → is_skip (rewrite_of row).next ≡ true → slice_get s.relocations (i + 1) ≡ Some next → IsOfSequence l s r (template_start row r) (instruction_of row) r
 of_sequence_there laws l w m s i r next row v h p skips listed = record { rest = next ∷ []; sequence = sequence_there laws l w m s i r next row v h p skips listed; one = (0, omega arith, refl) }
 
 -- no sequence goes through a slot to its symbol

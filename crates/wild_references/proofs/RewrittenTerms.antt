@@ -1,13 +1,16 @@
 -- The value in the field of a rewritten instruction, as the laws of the kinds take it.
-use Rattle.std.proofs.Common.{◌≡◌, ℕ, ◌+◌, ◌%◌, ◌^◌, ◌<◌, ◌≤◌, length, sym, ◌∙◌, arith, subst}
-use Rattle.std.specs.Prelude.{Some, Ok}
+use Rattle.std.proofs.Common.{◌≡◌, ℕ, ◌+◌, ◌%◌, ◌^◌, ◌<◌, ◌≤◌, true, length, refl, sym, ◌∙◌, arith, subst}
+use Rattle.std.specs.Prelude.{Some, None, Ok, if◌then◌else◌}
+use Rattle.wild_types.specs.declared.kind.Machine.{Machine}
 use Rattle.wild_words.proofs.ListLemmas.{holds_at}
 use Rattle.wild_records.specs.Abi.Relocation.{r_x86_64_64}
+use Rattle.wild_types.specs.declared.kind.Machine.TheVariants as machine
 use Rattle.wild_types.specs.declared.input.InputRelocation.{InputRelocation}
 use Rattle.wild_types.specs.declared.layout.Layout.{Layout}
 use Rattle.wild_slot.specs.declared.treatment.Treatment.TheVariants as treatments
 use Rattle.wild_types.specs.Lookups.{place_of}
-use Rattle.wild_slot.specs.Treatment.{kind_treatment}
+use Rattle.wild_slot.specs.Treatment.{kind_treatment, suits}
+use Rattle.wild_reloc.specs.Expression.{expression_of}
 use Rattle.wild_reloc.specs.Table.{plain}
 use Rattle.wild_reloc.specs.TableX86_64.{x86_64_row}
 use Rattle.wild_reloc.specs.Agreement.{plain_value}
@@ -25,7 +28,7 @@ use Rattle.wild_relax.specs.RewriteX86_64.{rewrite_of}
 use Rattle.wild_relax.specs.Linked.{field_in}
 use Rattle.wild_layout.specs.Decide.{field_at}
 use Rattle.wild_layout.proofs.DecisionLemmas.{term_alone}
-use Rattle.wild_layout.specs.Values.{term_of, value_by}
+use Rattle.wild_layout.specs.Values.{term_of, value_by, is_own_place, undefined_weak_target}
 use Rattle.wild_layout.specs.Geometry.{NamesSymbol}
 use Rattle.wild_layout.specs.Sites.{template_start}
 use Rattle.wild_layout.proofs.ChoiceLemmas.{LiesInItsPattern, chosen_lies}
@@ -38,17 +41,17 @@ use Rattle.wild_meaning.specs.Item.{place_at}
 use Rattle.wild_meaning.specs.Formula.{IsPlaceRelative}
 use Rattle.wild_references.proofs.KeptItems.{ItemLies, item_lies}
 use Rattle.wild_references.specs.Laws.{IsLoadedItem}
-use Rattle.wild_references.specs.Terms.{HasTerm}
+use Rattle.wild_references.specs.Terms.{is_expressed, HasTerm}
 use Rattle.wild_references.proofs.WholeSections.{placed}
 use Rattle.wild_references.proofs.RewrittenPlaces.{IsPlacedRow}
 
 -- ---- the item
 
-pub lies_there : (l : Layout) (w : World) (m : Memory) (s : Item) → IsLoadedItem l w m s → ItemLies l s
+pub lies_there : (l : Layout) (w : World) (m : Memory) (s : Item) → IsLoadedItem machine.X86_64 l w m s → ItemLies l s
 lies_there l w m s h = item_lies l s h.laid h.kept
 
 -- the symbol of the relocation is one of the layout's
-pub symbol_there : (l : Layout) (w : World) (m : Memory) (s : Item) (i : ℕ) (r : InputRelocation) (row : Row) (v : ℕ) → IsLoadedItem l w m s → (p : IsPlacedRow l s i r row v) → p.chosen.symbol < length l.symbols
+pub symbol_there : (l : Layout) (w : World) (m : Memory) (s : Item) (i : ℕ) (r : InputRelocation) (row : Row) (v : ℕ) → IsLoadedItem machine.X86_64 l w m s → (p : IsPlacedRow l s i r row v) → p.chosen.symbol < length l.symbols
 symbol_there l w m s i r row v h p = holds_at (NamesSymbol l) s.relocations i r p.has.listed (lies_there l w m s h).symbols p.chosen.symbol p.chosen.named
 
 -- ---- the field's new place
@@ -98,7 +101,7 @@ pub record StandsBelow (l : Layout) (w : World) (s : Item) (row : Row) (r : Inpu
   pub ends : w.base + place_of s.address (written_as row r) ≤ 2 ^ 64
   pub start : place_at w s (written_as row r).offset ≡ place_at w s (template_start row r) + field_in row
 
-pub stands_below : (l : Layout) (w : World) (m : Memory) (s : Item) (i : ℕ) (r : InputRelocation) (row : Row) (v : ℕ) → IsLoadedItem l w m s → IsPlacedRow l s i r row v → StandsBelow l w s row r
+pub stands_below : (l : Layout) (w : World) (m : Memory) (s : Item) (i : ℕ) (r : InputRelocation) (row : Row) (v : ℕ) → IsLoadedItem machine.X86_64 l w m s → IsPlacedRow l s i r row v → StandsBelow l w s row r
 stands_below l w m s i r row v h p =
     let t = lies_there l w m s h in
     let low = t.low in
@@ -108,26 +111,33 @@ stands_below l w m s i r row v h p =
     record { place = omega (arith, low, inside); ends = omega (arith, low, ends, inside); start = omega (arith, at) }
 
 -- the row of the relocation type that is written
-pub info_is : (l : Layout) (w : World) (m : Memory) (s : Item) (i : ℕ) (r : InputRelocation) (row : Row) (v : ℕ) → IsLoadedItem l w m s → (p : IsPlacedRow l s i r row v) → x86_64_row (rewrite_of row).number ≡ Some p.made.written.info
-info_is l w m s i r row v h p = row_here l.machine (rewrite_of row).number p.made.written.info h.x86 p.made.written.known
+pub info_is : (l : Layout) (w : World) (m : Memory) (s : Item) (i : ℕ) (r : InputRelocation) (row : Row) (v : ℕ) → IsLoadedItem machine.X86_64 l w m s → (p : IsPlacedRow l s i r row v) → x86_64_row (rewrite_of row).number ≡ Some p.made.written.info
+info_is l w m s i r row v h p = row_here l.machine (rewrite_of row).number p.made.written.info h.on p.made.written.known
+
+-- on x86-64 no place stands for a symbol
+plain_at : (m : Machine) (l : Layout) (r : InputRelocation) (info : RelocationKindInfo) (p t : ℕ) → m ≡ machine.X86_64 → term_of l r.symbol info.kind ≡ Ok t → (if is_own_place m l r info then Ok (undefined_weak_target r.number p) else term_of l r.symbol info.kind) ≡ Ok t
+plain_at machine.X86_64 l r info p t on h = h
+plain_at machine.AArch64 l r info p t on h = cc
 
 -- the value, by the kind that is written
-pub has_term : (l : Layout) (w : World) (m : Memory) (s : Item) (i : ℕ) (r : InputRelocation) (row : Row) (v : ℕ) (k : RelocationKind) (n : Width) (sign : Sign) → IsLoadedItem l w m s → (p : IsPlacedRow l s i r row v) → p.made.written.info ≡ plain k n sign → ((t : ℕ) → term_alone l r (plain k n sign) ≡ Ok t → term_of l r.symbol k ≡ Ok t)
-    → kind_treatment l s.flags wide_type r.symbol wide k ≡ treatments.Value wide → (IsPlaceRelative (plain_value k) → IsMovable l.kind → IsAbsolute l p.chosen.symbol → w.base ≡ 0) → HasTerm l w m s (written_as row r) k v
+pub has_term : (l : Layout) (w : World) (m : Memory) (s : Item) (i : ℕ) (r : InputRelocation) (row : Row) (v : ℕ) (k : RelocationKind) (n : Width) (sign : Sign) → IsLoadedItem machine.X86_64 l w m s → (p : IsPlacedRow l s i r row v) → p.made.written.info ≡ plain k n sign → ((t : ℕ) → term_alone l r (plain k n sign) ≡ Ok t → term_of l r.symbol k ≡ Ok t)
+    → kind_treatment l s.flags wide_type r.symbol wide k ≡ treatments.Value wide → (IsPlaceRelative (plain_value k) → IsMovable l.kind → IsAbsolute l p.chosen.symbol → w.base ≡ 0) → HasTerm l w m s (written_as row r) (plain k n sign) v
 has_term l w m s i r row v k n sign h p is term treated asked =
     let x = p.made.written in
     let below = stands_below l w m s i r row v h p in
     let given = subst (λ (f : RelocationKindInfo). term_alone l r f ≡ Ok x.term) is x.given in
     let value = subst (λ (f : RelocationKindInfo). value_by l f.kind x.term ((rewrite_of row).addend r.addend) ((s.address + field_at row r) % 2 ^ 64) ≡ v) is x.value in
     record {
-      placed = placed l w m s h;
+      placed = placed machine.X86_64 l w m s h;
       room = (lies_there l w m s h).room;
       listed = holds_at (NamesSymbol l) s.relocations i r p.has.listed (lies_there l w m s h).symbols;
       number = wide_type;
       row = wide;
       treated = treated;
+      suited = subst (λ (j : Machine). suits j (written_as row r) (plain k n sign) ≡ true) (sym h.on) refl;
+      expressed = subst (λ (j : Machine). is_expressed j (expression_of k).term (expression_of k).taken None ≡ true) (sym h.on) refl;
       term = x.term;
-      given = term x.term given;
+      given = plain_at l.machine l (written_as row r) (plain k n sign) (place_of s.address (written_as row r)) x.term h.on (term x.term given);
       value = value;
       place = below.place;
       ends = below.ends;

@@ -60,7 +60,7 @@ pub record LandsOffset (l : Layout) (w : World) (r : InputRelocation) (v : ℕ) 
   pub is : IsThreadOperand l w r.symbol operand
   pub lands : v ≡ operand
 
-pub lands_offset : LawsBelow → (l : Layout) (w : World) (m : Memory) (s : Item) (i : ℕ) (r : InputRelocation) (row : Row) (v : ℕ) → IsLoadedItem l w m s → (p : IsPlacedRow l s i r row v) → (rewrite_of row).number ≡ 23 → (rewrite_of row).addend r.addend ≡ pos 0 → is_executable l.kind ≡ true → interposable (flags_at l p.chosen.symbol) ≡ false → LandsOffset l w r v
+pub lands_offset : LawsBelow → (l : Layout) (w : World) (m : Memory) (s : Item) (i : ℕ) (r : InputRelocation) (row : Row) (v : ℕ) → IsLoadedItem machine.X86_64 l w m s → (p : IsPlacedRow l s i r row v) → (rewrite_of row).number ≡ 23 → (rewrite_of row).addend r.addend ≡ pos 0 → is_executable l.kind ≡ true → interposable (flags_at l p.chosen.symbol) ≡ false → LandsOffset l w r v
 lands_offset laws l w m s i r row v h p number none program own =
     let g = gives_offset laws l w m s i r row v h p number program own in
     let is = offset_at l w p.chosen.symbol g.0 r.symbol p.chosen.named g.1 in
@@ -90,7 +90,7 @@ slot_at l w m g k symbol e h =
 slot_lands : (g c place q v : ℕ) → g < 2 ^ 64 → c ≡ 2 ^ 64 - 4 → v ≡ (g + c + (2 ^ 64 - place)) % 2 ^ 64 → place ≡ q → place ≤ 2 ^ 64 → (q + 4 + v) % 2 ^ 64 ≡ g
 slot_lands g c place q v low a b e high = omega (arith, low, a, b, e, high)
 
-pub lands_slot : LawsBelow → (l : Layout) (w : World) (m : Memory) (s : Item) (i : ℕ) (r : InputRelocation) (row : Row) (v : ℕ) → IsLoadedItem l w m s → IsPlacedRow l s i r row v → (rewrite_of row).number ≡ 22 → (rewrite_of row).addend r.addend ≡ r.addend → minus_four r.addend ≡ true → LandsSlot l w m s r row v
+pub lands_slot : LawsBelow → (l : Layout) (w : World) (m : Memory) (s : Item) (i : ℕ) (r : InputRelocation) (row : Row) (v : ℕ) → IsLoadedItem machine.X86_64 l w m s → IsPlacedRow l s i r row v → (rewrite_of row).number ≡ 22 → (rewrite_of row).addend r.addend ≡ r.addend → minus_four r.addend ≡ true → LandsSlot l w m s r row v
 lands_slot laws l w m s i r row v h p number same ends =
     let g = gives_slot laws l w m s i r row v h p number in
     let below = stands_below l w m s i r row v h p in

@@ -18,7 +18,7 @@ use Rattle.wild_slot.specs.Treatment.{flags_at, is_left, is_elsewhere, is_barred
 use Rattle.wild_reloc.specs.Table.{plain}
 use Rattle.wild_reloc.specs.TableX86_64.{x86_64_row}
 use Rattle.wild_reloc.specs.Agreement.{plain_value}
-use Rattle.wild_reloc.specs.declared.info.RelocationKind.{RelocationKind}
+use Rattle.wild_reloc.specs.Formula.{Value}
 use Rattle.wild_reloc.specs.declared.info.RelocationKind.TheVariants as kinds
 use Rattle.wild_reloc.specs.declared.info.Width.TheVariants.{Four}
 use Rattle.wild_reloc.specs.declared.range.Sign.{Sign}
@@ -116,36 +116,36 @@ known_still l k h = still_by (has_flag (flags_at l k) absolute) (has_link_time_a
 -- ---- whose symbol it is
 
 -- the symbol is the output's own
-pub own_symbol : (l : Layout) (w : World) (m : Memory) (s : Item) (i : ℕ) (r : InputRelocation) (row : Row) (v : ℕ) → IsLoadedItem l w m s → (p : IsPlacedRow l s i r row v) → interposable (flags_at l p.chosen.symbol) ≡ false → IsReplaceable l p.chosen.symbol false
+pub own_symbol : (l : Layout) (w : World) (m : Memory) (s : Item) (i : ℕ) (r : InputRelocation) (row : Row) (v : ℕ) → IsLoadedItem machine.X86_64 l w m s → (p : IsPlacedRow l s i r row v) → interposable (flags_at l p.chosen.symbol) ≡ false → IsReplaceable l p.chosen.symbol false
 own_symbol l w m s i r row v h p own = own_one l p.chosen.symbol h.laid.slot_flags (definition l p.chosen.symbol h.laid.definitions (symbol_there l w m s i r row v h p)) own
 
-followed : (l : Layout) (r q : InputRelocation) (k : ℕ) (kind : RelocationKind) → r.symbol ≡ Some k → q.symbol ≡ r.symbol → IsReplaceable l k false → IsFollowed l q kind
-followed l r q k kind named e own = λ j at. (let same : j ≡ k = (let f : Some j ≡ Some k = sym at ∙ (e ∙ named) in cc) in inl (subst (λ (x : ℕ). IsReplaceable l x false) (sym same) own))
+followed : (l : Layout) (r q : InputRelocation) (k : ℕ) (value : Value) → r.symbol ≡ Some k → q.symbol ≡ r.symbol → IsReplaceable l k false → IsFollowed l q value
+followed l r q k value named e own = λ j at. (let same : j ≡ k = (let f : Some j ≡ Some k = sym at ∙ (e ∙ named) in cc) in inl (subst (λ (x : ℕ). IsReplaceable l x false) (sym same) own))
 
 -- ---- the kinds
 
 -- S + A - P
-pub gives_distance : LawsBelow → (l : Layout) (w : World) (m : Memory) (s : Item) (i : ℕ) (r : InputRelocation) (row : Row) (v : ℕ) → IsLoadedItem l w m s → (p : IsPlacedRow l s i r row v) → (rewrite_of row).number ≡ 2 → interposable (flags_at l p.chosen.symbol) ≡ false → (IsMovable l.kind → IsAbsolute l p.chosen.symbol → w.base ≡ 0) → Gives (plain_value kinds.Relative) l w m s (written_as row r) v
+pub gives_distance : LawsBelow → (l : Layout) (w : World) (m : Memory) (s : Item) (i : ℕ) (r : InputRelocation) (row : Row) (v : ℕ) → IsLoadedItem machine.X86_64 l w m s → (p : IsPlacedRow l s i r row v) → (rewrite_of row).number ≡ 2 → interposable (flags_at l p.chosen.symbol) ≡ false → (IsMovable l.kind → IsAbsolute l p.chosen.symbol → w.base ≡ 0) → Gives (plain_value kinds.Relative) l w m s (written_as row r) v
 gives_distance laws l w m s i r row v h p number own asked =
     let info = pc32 p.made.written.info (sym (subst (λ (n : ℕ). x86_64_row n ≡ Some p.made.written.info) number (info_is l w m s i r row v h p))) in
     laws.distance l w m s (written_as row r) v (has_term l w m s i r row v kinds.Relative Four Signed h p info (λ t e. e) (distance_value l s p.chosen.symbol r.symbol p.chosen.named) (λ relative movable abs. asked movable abs))
-    (followed l r (written_as row r) p.chosen.symbol kinds.Relative p.chosen.named refl (own_symbol l w m s i r row v h p own))
+    (followed l r (written_as row r) p.chosen.symbol (plain_value kinds.Relative) p.chosen.named refl (own_symbol l w m s i r row v h p own))
 
 -- S + A
-pub gives_number : LawsBelow → (l : Layout) (w : World) (m : Memory) (s : Item) (i : ℕ) (r : InputRelocation) (row : Row) (v : ℕ) (sign : Sign) → IsLoadedItem l w m s → (p : IsPlacedRow l s i r row v) → p.made.written.info ≡ plain kinds.Absolute Four sign → interposable (flags_at l p.chosen.symbol) ≡ false → has_flag (flags_at l p.chosen.symbol) ifunc ≡ false → moves l p.chosen.symbol ≡ false → Gives (plain_value kinds.Absolute) l w m s (written_as row r) v
+pub gives_number : LawsBelow → (l : Layout) (w : World) (m : Memory) (s : Item) (i : ℕ) (r : InputRelocation) (row : Row) (v : ℕ) (sign : Sign) → IsLoadedItem machine.X86_64 l w m s → (p : IsPlacedRow l s i r row v) → p.made.written.info ≡ plain kinds.Absolute Four sign → interposable (flags_at l p.chosen.symbol) ≡ false → has_flag (flags_at l p.chosen.symbol) ifunc ≡ false → moves l p.chosen.symbol ≡ false → Gives (plain_value kinds.Absolute) l w m s (written_as row r) v
 gives_number laws l w m s i r row v sign h p info own plain_one still =
-    laws.sum l w m s (written_as row r) v (has_term l w m s i r row v kinds.Absolute Four sign h p info (λ t e. e) (address_value l s p.chosen.symbol r.symbol p.chosen.named own plain_one still) (λ relative movable abs. absurd relative))
-    (followed l r (written_as row r) p.chosen.symbol kinds.Absolute p.chosen.named refl (own_symbol l w m s i r row v h p own))
+    laws.sum sign l w m s (written_as row r) v (has_term l w m s i r row v kinds.Absolute Four sign h p info (λ t e. e) (address_value l s p.chosen.symbol r.symbol p.chosen.named own plain_one still) (λ relative movable abs. absurd relative))
+    (followed l r (written_as row r) p.chosen.symbol (plain_value kinds.Absolute) p.chosen.named refl (own_symbol l w m s i r row v h p own))
 
 -- the offset from the thread pointer
-pub gives_offset : LawsBelow → (l : Layout) (w : World) (m : Memory) (s : Item) (i : ℕ) (r : InputRelocation) (row : Row) (v : ℕ) → IsLoadedItem l w m s → (p : IsPlacedRow l s i r row v) → (rewrite_of row).number ≡ 23 → is_executable l.kind ≡ true → interposable (flags_at l p.chosen.symbol) ≡ false → Gives (plain_value kinds.TpOff) l w m s (written_as row r) v
+pub gives_offset : LawsBelow → (l : Layout) (w : World) (m : Memory) (s : Item) (i : ℕ) (r : InputRelocation) (row : Row) (v : ℕ) → IsLoadedItem machine.X86_64 l w m s → (p : IsPlacedRow l s i r row v) → (rewrite_of row).number ≡ 23 → is_executable l.kind ≡ true → interposable (flags_at l p.chosen.symbol) ≡ false → Gives (plain_value kinds.TpOff) l w m s (written_as row r) v
 gives_offset laws l w m s i r row v h p number program own =
     let info = tpoff32 p.made.written.info (sym (subst (λ (n : ℕ). x86_64_row n ≡ Some p.made.written.info) number (info_is l w m s i r row v h p))) in
     laws.pointer l w m s (written_as row r) v (has_term l w m s i r row v kinds.TpOff Four Signed h p info (λ t e. e) (pointer_value l s p.chosen.symbol r.symbol p.chosen.named program) (λ relative movable abs. absurd relative))
-    (followed l r (written_as row r) p.chosen.symbol kinds.TpOff p.chosen.named refl (own_symbol l w m s i r row v h p own))
+    (followed l r (written_as row r) p.chosen.symbol (plain_value kinds.TpOff) p.chosen.named refl (own_symbol l w m s i r row v h p own))
 
 -- the slot of an offset, whichever module has the symbol
-pub gives_slot : LawsBelow → (l : Layout) (w : World) (m : Memory) (s : Item) (i : ℕ) (r : InputRelocation) (row : Row) (v : ℕ) → IsLoadedItem l w m s → (p : IsPlacedRow l s i r row v) → (rewrite_of row).number ≡ 22 → Gives (plain_value kinds.GotTpOff) l w m s (written_as row r) v
+pub gives_slot : LawsBelow → (l : Layout) (w : World) (m : Memory) (s : Item) (i : ℕ) (r : InputRelocation) (row : Row) (v : ℕ) → IsLoadedItem machine.X86_64 l w m s → (p : IsPlacedRow l s i r row v) → (rewrite_of row).number ≡ 22 → Gives (plain_value kinds.GotTpOff) l w m s (written_as row r) v
 gives_slot laws l w m s i r row v h p number =
     let info = gottpoff p.made.written.info (sym (subst (λ (n : ℕ). x86_64_row n ≡ Some p.made.written.info) number (info_is l w m s i r row v h p))) in
     laws.slot l w m s (written_as row r) v (has_term l w m s i r row v kinds.GotTpOff Four Signed h p info (λ t e. e) (slot_value l s p.chosen.symbol r.symbol p.chosen.named) (λ relative movable abs. absurd relative))

@@ -3,6 +3,7 @@ use Rattle.std.proofs.Common.{◌≡◌, ℕ, ◌+◌, ◌≤◌, inl, inr, Bool
 use Rattle.std.specs.Prelude.{◌==◌, not, Some, Ok, slice_get}
 use Rattle.std.proofs.lemmas.Bool.{cases_Bool}
 use Rattle.std.proofs.lemmas.Option.{slice_get_within}
+use Rattle.wild_types.specs.declared.kind.Machine.TheVariants as machine
 use Rattle.wild_types.specs.declared.input.InputRelocation.{InputRelocation}
 use Rattle.wild_types.specs.declared.layout.Layout.{Layout}
 use Rattle.wild_relax.specs.declared.row.Row.{Row}
@@ -59,7 +60,7 @@ goes_with l w m s i r row v p t asked sort movable still = asked sort (record {
   relative = inr (record { start = template_start row r; instruction = instruction_of row; first = r; template = inl (t, refl); counts = subst CountsFromPlace (sym sort) tt });
 })
 
-single_held : LawsBelow → (l : Layout) (w : World) (m : Memory) (s : Item) (i : ℕ) (r : InputRelocation) (row : Row) (v : ℕ) → IsLoadedItem l w m s → IsPlacedRow l s i r row v → IsSingle l s r (template_start row r) (instruction_of row) → IsHeld l w m s r row
+single_held : LawsBelow → (l : Layout) (w : World) (m : Memory) (s : Item) (i : ℕ) (r : InputRelocation) (row : Row) (v : ℕ) → IsLoadedItem machine.X86_64 l w m s → IsPlacedRow l s i r row v → IsSingle l s r (template_start row r) (instruction_of row) → IsHeld l w m s r row
 single_held laws l w m s i r row v h p t =
     let size = size_is l s i r row v p in
     record {
@@ -71,23 +72,23 @@ single_held laws l w m s i r row v h p t =
       does = λ asked. does_row laws l w m s i r row v h p (goes_with l w m s i r row v p t asked);
     }
 
-wider_held : LawsBelow → (l : Layout) (w : World) (m : Memory) (s : Item) (i : ℕ) (r : InputRelocation) (v from : ℕ) → IsLoadedItem l w m s → IsWider l s i r v from → IsHeld l w m s r PLAIN_LEA
+wider_held : LawsBelow → (l : Layout) (w : World) (m : Memory) (s : Item) (i : ℕ) (r : InputRelocation) (v from : ℕ) → IsLoadedItem machine.X86_64 l w m s → IsWider l s i r v from → IsHeld l w m s r PLAIN_LEA
 wider_held laws l w m s i r v from h t =
     let start = t.plain.start in
     record {
       from = from;
       instruction = wide_load;
-      template = inl (wide_single laws.alone l s i r v from h.x86 h.decided t, refl);
+      template = inl (wide_single laws.alone l s i r v from h.on h.decided t, refl);
       before = omega (arith, start);
       behind = omega (arith, start);
       does = λ asked. does_wider laws l w m s i r v from h t;
     }
 
-plain_held : LawsBelow → (l : Layout) (w : World) (m : Memory) (s : Item) (i : ℕ) (r : InputRelocation) (v : ℕ) → IsLoadedItem l w m s → IsPlacedRow l s i r PLAIN_LEA v → IsHeld l w m s r PLAIN_LEA
+plain_held : LawsBelow → (l : Layout) (w : World) (m : Memory) (s : Item) (i : ℕ) (r : InputRelocation) (v : ℕ) → IsLoadedItem machine.X86_64 l w m s → IsPlacedRow l s i r PLAIN_LEA v → IsHeld l w m s r PLAIN_LEA
 plain_held laws l w m s i r v h p =
     elim (wider_or_not l s i r v p) [
       | inl t ↦ wider_held laws l w m s i r v t.0 h t.1
-      | inr none ↦ single_held laws l w m s i r PLAIN_LEA v h p (plain_single laws.alone l s i r v h.x86 h.decided p none)
+      | inr none ↦ single_held laws l w m s i r PLAIN_LEA v h p (plain_single laws.alone l s i r v h.on h.decided p none)
     ]
 
 -- the call is there
@@ -97,7 +98,7 @@ call_there l s i r row v p skips =
     let c = called l s row r p.chosen.symbol pair.distance (slice_get s.relocations (i + 1)) pair.behind p.stands.taken.partner in
     (c.0, c.1)
 
-sequence_held : LawsBelow → (l : Layout) (w : World) (m : Memory) (s : Item) (i : ℕ) (r : InputRelocation) (row : Row) (v : ℕ) → IsLoadedItem l w m s → IsPlacedRow l s i r row v → is_skip (rewrite_of row).next ≡ true → IsHeld l w m s r row
+sequence_held : LawsBelow → (l : Layout) (w : World) (m : Memory) (s : Item) (i : ℕ) (r : InputRelocation) (row : Row) (v : ℕ) → IsLoadedItem machine.X86_64 l w m s → IsPlacedRow l s i r row v → is_skip (rewrite_of row).next ≡ true → IsHeld l w m s r row
 sequence_held laws l w m s i r row v h p skips =
     let size = size_is l s i r row v p in
     let c = call_there l s i r row v p skips in
@@ -110,14 +111,14 @@ sequence_held laws l w m s i r row v h p skips =
       does = λ asked. does_row laws l w m s i r row v h p (λ sort. absurd (sequence_sort row p.changing skips sort));
     }
 
-told_held : LawsBelow → (l : Layout) (w : World) (m : Memory) (s : Item) (i : ℕ) (r : InputRelocation) (row : Row) (v : ℕ) → IsLoadedItem l w m s → IsPlacedRow l s i r row v → is_told row ≡ true → IsHeld l w m s r row
+told_held : LawsBelow → (l : Layout) (w : World) (m : Memory) (s : Item) (i : ℕ) (r : InputRelocation) (row : Row) (v : ℕ) → IsLoadedItem machine.X86_64 l w m s → IsPlacedRow l s i r row v → is_told row ≡ true → IsHeld l w m s r row
 told_held laws l w m s i r row v h p told =
     elim (cases_Bool (is_skip (rewrite_of row).next)) [
       | inl skips ↦ sequence_held laws l w m s i r row v h p skips
       | inr alone ↦ single_held laws l w m s i r row v h p (single_there laws l w m s i r row v h p alone told)
     ]
 
-row_held : LawsBelow → (l : Layout) (w : World) (m : Memory) (s : Item) (i : ℕ) (r : InputRelocation) (row : Row) (v : ℕ) → IsLoadedItem l w m s → IsPlacedRow l s i r row v → IsHeld l w m s r row
+row_held : LawsBelow → (l : Layout) (w : World) (m : Memory) (s : Item) (i : ℕ) (r : InputRelocation) (row : Row) (v : ℕ) → IsLoadedItem machine.X86_64 l w m s → IsPlacedRow l s i r row v → IsHeld l w m s r row
 row_held laws l w m s i r row v h p = by (is_told row) refl
   where
     truly : (b : Bool) → not b ≡ false → b ≡ true
@@ -155,7 +156,7 @@ record IsBefore (l : Layout) (s : Item) (j : ℕ) (second : InputRelocation) : T
   skips : is_skip (rewrite_of row).next ≡ true
   listed : slice_get s.relocations (j + 1) ≡ Some second
 
-before_call : (l : Layout) (w : World) (m : Memory) (s : Item) (i : ℕ) (r : InputRelocation) → IsLoadedItem l w m s → HasDecision l s i r Partner → (j : ℕ) × IsBefore l s j r
+before_call : (l : Layout) (w : World) (m : Memory) (s : Item) (i : ℕ) (r : InputRelocation) → IsLoadedItem machine.X86_64 l w m s → HasDecision l s i r Partner → (j : ℕ) × IsBefore l s j r
 before_call l w m s i r h has =
     let t = decide_partner l s i r has.listed has.decided in
     (t.0, by_row t.0 t.2 t.3 (subst (λ (n : ℕ). slice_get s.relocations n ≡ Some r) t.1 has.listed))

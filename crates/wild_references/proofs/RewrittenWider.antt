@@ -146,10 +146,10 @@ out_of_windows laws l s i r v from x86 decided t j q row w h =
         let here : from < template_start PLAIN_LEA r = omega (arith, start) in
         subst (λ (x : InputRelocation). from < template_start row x) a (subst (λ (x : Row). from < template_start x r) b here)
 
-pub prefix_stays : LawsBelow → (l : Layout) (w : World) (m : Memory) (s : Item) (i : ℕ) (r : InputRelocation) (v from : ℕ) → IsLoadedItem l w m s → IsWider l s i r v from → IsInputByte w m s from
+pub prefix_stays : LawsBelow → (l : Layout) (w : World) (m : Memory) (s : Item) (i : ℕ) (r : InputRelocation) (v from : ℕ) → IsLoadedItem machine.X86_64 l w m s → IsWider l s i r v from → IsInputByte w m s from
 prefix_stays laws l w m s i r v from h t =
     let inside = room l s i r v from t.plain in
-    input_byte l w m s from h (omega (arith, inside)) t.alone (out_of_windows laws l s i r v from h.x86 h.decided t)
+    input_byte l w m s from h (omega (arith, inside)) t.alone (out_of_windows laws l s i r v from h.on h.decided t)
 
 -- ---- the same bytes
 
@@ -167,7 +167,7 @@ held_more : (m : Memory) (a b x : ℕ) (bs : List ℕ) → b ≡ a + 1 → byte_
 held_more m a b x bs e first rest zero lt = (let z : a ≡ a + 0 = omega arith in subst (λ (n : ℕ). byte_in m n ≡ Some x) z first)
 held_more m a b x bs e first rest (suc k) lt = (let z : b + k ≡ a + suc k = omega (arith, e) in subst (λ (n : ℕ). byte_in m n ≡ Some (slice_index bs k)) z (rest k (omega (arith, lt))))
 
-pub does_wider : LawsBelow → (l : Layout) (w : World) (m : Memory) (s : Item) (i : ℕ) (r : InputRelocation) (v from : ℕ) → IsLoadedItem l w m s → IsWider l s i r v from → DoesDemanded (reads_alone w m) l w m s r from wide_load
+pub does_wider : LawsBelow → (l : Layout) (w : World) (m : Memory) (s : Item) (i : ℕ) (r : InputRelocation) (v from : ℕ) → IsLoadedItem machine.X86_64 l w m s → IsWider l s i r v from → DoesDemanded (reads_alone w m) l w m s r from wide_load
 does_wider laws l w m s i r v from h t =
     let p = t.plain.row in
     let x = slice_index s.bytes from in
@@ -195,11 +195,11 @@ does_wider laws l w m s i r v from h t =
       demands = far.is.target;
       code = record {
         effect = e.0;
-        demanded = demand_on l.machine n a (slice_range s.bytes from (from + 8)) h.x86 ∙ (ap (λ (bs : List ℕ). demand_x86_64 n a bs) bytes ∙ e.1);
+        demanded = demand_on l.machine n a (slice_range s.bytes from (from + 8)) h.on ∙ (ap (λ (bs : List ℕ). demand_x86_64 n a bs) bytes ∙ e.1);
         bytes = x ∷ template_of PLAIN_LEA v old;
         whole = (let z = whole_is l w m s i r PLAIN_LEA v h p in omega (arith, z));
         held = held_more m a (place_at w s (template_start PLAIN_LEA r)) x (template_of PLAIN_LEA v old) next (prefix_stays laws l w m s i r v from h t) (h.item.rewritten i r PLAIN_LEA v p.has);
-        does = on_machine l.machine (reads_alone w m) a (x ∷ template_of PLAIN_LEA v old) h.x86 ∙ done;
+        does = on_machine l.machine (reads_alone w m) a (x ∷ template_of PLAIN_LEA v old) h.on ∙ done;
       };
     }
   where

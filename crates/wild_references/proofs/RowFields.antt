@@ -1,6 +1,7 @@
 -- The fields of rows that keep the bytes around them: of an own symbol the distance of its stub is that of itself, and so is the offset from the table.
 use Rattle.std.proofs.Common.{◌≡◌, ℕ, ◌+◌, ◌-◌, ◌%◌, ◌^◌, ◌<◌, ◌⊎◌, inl, inr, true, false, refl, sym, ap, ◌∙◌, arith, subst}
-use Rattle.std.specs.Prelude.{Option, Some, Ok, slice_get}
+use Rattle.std.specs.Prelude.{Option, Some, Ok, List, length, slice_get}
+use Rattle.wild_reloc.specs.declared.expression.Taken.TheVariants as taken
 use Rattle.std.proofs.lemmas.Bool.{cases_Bool, not-true}
 use Rattle.wild_words.proofs.ListLemmas.{holds_at}
 use Rattle.wild_records.specs.Abi.Relocation.{r_x86_64_pc32, r_x86_64_plt32, r_x86_64_gotoff64, r_x86_64_pltoff64}
@@ -12,8 +13,8 @@ use Rattle.wild_types.specs.Flags.{interposable}
 use Rattle.wild_types.specs.Kinds.{is_position_independent}
 use Rattle.wild_types.specs.Rows.{row_of}
 use Rattle.wild_slot.specs.Treatment.{flags_at}
-use Rattle.wild_reloc.specs.Agreement.{X86_64Agrees}
-use Rattle.wild_reloc.specs.Field.{allows, written}
+use Rattle.wild_geometry.specs.MachineFacts.{RowsAreRead}
+use Rattle.wild_reloc.specs.Field.{allows, written, field_width}
 use Rattle.wild_reloc.specs.Formula.{Value, Formula, Reads, formula, StubDistance, StubFromTable, Distance, FromTable, Plain, Full, Signed}
 use Rattle.wild_reloc.specs.FormulaX86_64.{x86_64_formula}
 use Rattle.wild_reloc.specs.Table.{plain}
@@ -48,7 +49,7 @@ use Rattle.wild_meaning.specs.Item.{place_at}
 use Rattle.wild_meaning.specs.Reference.{IsAsked}
 use Rattle.wild_meaning.specs.Value.{moved}
 use Rattle.wild_references.specs.Laws.{FieldHolds}
-use Rattle.wild_references.proofs.Fields.{IsItemLoaded, ReadsForm, place_is, place_ends, below_all, row_reads, formula_known, whole_bytes}
+use Rattle.wild_references.proofs.Fields.{IsItemLoaded, ReadsForm, old_field, old_long, place_is, place_ends, below_all, row_reads, formula_known, whole_bytes}
 use Rattle.wild_references.proofs.KnownRows.{row_fits}
 use Rattle.wild_references.proofs.Moves.{distance_is, table_is}
 use Rattle.wild_references.proofs.OwnSymbols.{IsOwnValue, own_value}
@@ -79,31 +80,31 @@ flat : (x c q : ℕ) → ((x + c) % 2 ^ 64 + q) % 2 ^ 64 ≡ (x + c + q) % 2 ^ 6
 flat x c q = omega arith
 
 gives_distance : (l : Layout) (w : World) (m : Memory) (s : Item) (i : ℕ) (r : InputRelocation) (f : Formula) (symbol a : ℕ) (z : RelocationSize) → (h : IsItemLoaded l w m s) → slice_get s.relocations i ≡ Some r → HasField l r z → IsAsked l w s r → formula_of l.machine r.number ≡ Some f → f.value ≡ StubDistance
-    → r.symbol ≡ Some symbol → IsOwnValue l w symbol a → Gives StubDistance l w m s r (displacement a r.addend (place_of s.address r))
-gives_distance l w m s i r f symbol a z h listed field asked known value named t =
+    → r.symbol ≡ Some symbol → IsOwnValue l w symbol a → l.machine ≡ machine.X86_64 → Gives StubDistance l w m s r (displacement a r.addend (place_of s.address r))
+gives_distance l w m s i r f symbol a z h listed field asked known value named t x86 =
     let x = moved t.still w.base a in
     let e = distance_is t.still w.base a (more r) (place_of s.address r) (right l w m s r f symbol a h asked known (subst IsPlaceRelative (sym value) tt) named t) (place_ends l w m s i r z h listed field) in
     let at = ap (λ (p : ℕ). (x + more r + (2 ^ 64 - p)) % 2 ^ 64) (sym (place_is l w m s i r z h listed field)) in
-    (x, goal_is StubDistance l w m s r symbol a h.placed.x86 named t, e ∙ flat x (more r) (2 ^ 64 - (w.base + place_of s.address r)) ∙ at)
+    (x, goal_is StubDistance l w m s r symbol a x86 named t, e ∙ flat x (more r) (2 ^ 64 - (w.base + place_of s.address r)) ∙ at)
 
 gives_offset : (l : Layout) (w : World) (m : Memory) (s : Item) (i : ℕ) (r : InputRelocation) (f : Formula) (symbol a : ℕ) → (h : IsItemLoaded l w m s) → IsAsked l w s r → formula_of l.machine r.number ≡ Some f → f.value ≡ StubFromTable
-    → r.symbol ≡ Some symbol → IsOwnValue l w symbol a → Gives StubFromTable l w m s r (displacement a r.addend l.got_base)
-gives_offset l w m s i r f symbol a h asked known value named t =
+    → r.symbol ≡ Some symbol → IsOwnValue l w symbol a → l.machine ≡ machine.X86_64 → Gives StubFromTable l w m s r (displacement a r.addend l.got_base)
+gives_offset l w m s i r f symbol a h asked known value named t x86 =
     let x = moved t.still w.base a in
     let e = table_is t.still w.base a (more r) l.got_base (right l w m s r f symbol a h asked known (subst IsPlaceRelative (sym value) tt) named t) h.placed.got in
-    (x, goal_is StubFromTable l w m s r symbol a h.placed.x86 named t, e ∙ flat x (more r) (2 ^ 64 - table_at l w))
+    (x, goal_is StubFromTable l w m s r symbol a x86 named t, e ∙ flat x (more r) (2 ^ 64 - table_at l w))
 
 -- ---- fields
 
 -- a field of the row of type k reads in the form of that type
-form_of_row : (k : ℕ) (info : RelocationKindInfo) (f : Formula) (v : ℕ) → X86_64Agrees → row_of machine.X86_64 k ≡ Some info → HasValue info.kind → x86_64_formula k ≡ Some f → v < 2 ^ 64 → allows info v ≡ true → ReadsForm info f.form v
-form_of_row k info f v agrees known kind is low allowed =
-    let fits = row_fits k info agrees known kind in
+form_of_row : (k : ℕ) (info : RelocationKindInfo) (f : Formula) (v : ℕ) (old : List ℕ) → RowsAreRead → row_of machine.X86_64 k ≡ Some info → HasValue info.kind → x86_64_formula k ≡ Some f → v < 2 ^ 64 → allows info v ≡ true → length old ≡ field_width info → ReadsForm info f.form v v old
+form_of_row k info f v old agree known kind is low allowed long =
+    let fits = row_fits agree machine.X86_64 k info known kind in
     let same : fits.formula ≡ f = (let e : Some fits.formula ≡ Some f = sym fits.known ∙ is in cc) in
     record {
       width = fits.width ∙ ap (λ (g : Formula). form_width g.form) same;
-      reads = λ old long. subst (λ (g : Formula). Reads g.form (written info v old) v) same (fits.reads v old low long allowed);
-      keeps = whole_bytes k f is;
+      reads = subst (λ (g : Formula). Reads g.form (written info v old) v) same (fits.reads v old low long allowed);
+      keeps = whole_bytes k f is old (written info v old);
     }
 
 info_is : (k : ℕ) (row info : RelocationKindInfo) → row_of machine.X86_64 k ≡ Some row → row_of machine.X86_64 k ≡ Some info → row ≡ info
@@ -164,41 +165,41 @@ value_of_own l w m s i r term h listed t =
     let names : NamesSymbol l r = holds_at (NamesSymbol l) s.relocations i r listed h.symbols in
     own_value l w m t.symbol term h.placed (names t.symbol t.named) t.own t.direct t.given
 
-stub_distance_holds : (l : Layout) (w : World) (m : Memory) (s : Item) (i : ℕ) (r : InputRelocation) (term v : ℕ) → (h : IsItemLoaded l w m s) → slice_get s.relocations i ≡ Some r → IsAsked l w s r → r.number ≡ r_x86_64_plt32 → IsOwnTerm l r term → displacement term r.addend (place_of s.address r) ≡ v → allows (plain kinds.Relative Four sign.Signed) v ≡ true
+stub_distance_holds : (l : Layout) (w : World) (m : Memory) (s : Item) (i : ℕ) (r : InputRelocation) (term v : ℕ) → (h : IsItemLoaded l w m s) → l.machine ≡ machine.X86_64 → slice_get s.relocations i ≡ Some r → IsAsked l w s r → r.number ≡ r_x86_64_plt32 → IsOwnTerm l r term → displacement term r.addend (place_of s.address r) ≡ v → allows (plain kinds.Relative Four sign.Signed) v ≡ true
     → Holds m (place_at w s r.offset) (field_site s r.offset (plain kinds.Relative Four sign.Signed).size v).bytes → RowHolds l w m s r
-stub_distance_holds l w m s i r term v h listed asked number own value allowed held =
+stub_distance_holds l w m s i r term v h x86 listed asked number own value allowed held =
     let info = plain kinds.Relative Four sign.Signed in
-    let known = formula_known l r.number (formula StubDistance (Plain 32 Signed)) h.placed.x86 (ap x86_64_formula number ∙ plt32_formula) in
-    let field : HasField l r info.size = record { row = plain kinds.PltRelative Four sign.Signed; known = known_here l r.number r_x86_64_plt32 (plain kinds.PltRelative Four sign.Signed) h.placed.x86 number plt32_row; kind = refl; size = refl } in
+    let known = formula_known l r.number (formula StubDistance (Plain 32 Signed)) x86 (ap x86_64_formula number ∙ plt32_formula) in
+    let field : HasField l r info.size = record { row = plain kinds.PltRelative Four sign.Signed; known = known_here l r.number r_x86_64_plt32 (plain kinds.PltRelative Four sign.Signed) x86 number plt32_row; kind = refl; size = refl } in
     let t = value_of_own l w m s i r term h listed own in
-    let low = below_all l kinds.Relative term (place_of s.address r) v r.addend value in
+    let low = below_all l taken.Place term (place_of s.address r) v r.addend value in
     record {
       holds = record {
         formula = formula StubDistance (Plain 32 Signed);
         known = known;
         value = v;
-        gives = subst (λ (x : ℕ). Gives StubDistance l w m s r x) value (gives_distance l w m s i r (formula StubDistance (Plain 32 Signed)) own.symbol term info.size h listed field asked known refl own.named t);
-        field = row_reads l w m s i r info (Plain 32 Signed) v h listed field (form_of_row r_x86_64_pc32 info (formula Distance (Plain 32 Signed)) v h.tables.agree pc32_row refl pc32_formula low allowed) held;
+        gives = subst (λ (x : ℕ). Gives StubDistance l w m s r x) value (gives_distance l w m s i r (formula StubDistance (Plain 32 Signed)) own.symbol term info.size h listed field asked known refl own.named t x86);
+        field = row_reads l w m s i r info (Plain 32 Signed) v v h listed field (form_of_row r_x86_64_pc32 info (formula Distance (Plain 32 Signed)) v (old_field s r info) h.tables.agree pc32_row refl pc32_formula low allowed (old_long l w m s i r info h listed field)) held;
       };
       offset = λ o. o;
       address = λ a. a;
     }
 
-stub_offset_holds : (l : Layout) (w : World) (m : Memory) (s : Item) (i : ℕ) (r : InputRelocation) (term v : ℕ) → (h : IsItemLoaded l w m s) → slice_get s.relocations i ≡ Some r → IsAsked l w s r → r.number ≡ r_x86_64_pltoff64 → IsOwnTerm l r term → displacement term r.addend l.got_base ≡ v → allows (plain kinds.SymRelGotBase Eight sign.Signed) v ≡ true
+stub_offset_holds : (l : Layout) (w : World) (m : Memory) (s : Item) (i : ℕ) (r : InputRelocation) (term v : ℕ) → (h : IsItemLoaded l w m s) → l.machine ≡ machine.X86_64 → slice_get s.relocations i ≡ Some r → IsAsked l w s r → r.number ≡ r_x86_64_pltoff64 → IsOwnTerm l r term → displacement term r.addend l.got_base ≡ v → allows (plain kinds.SymRelGotBase Eight sign.Signed) v ≡ true
     → Holds m (place_at w s r.offset) (field_site s r.offset (plain kinds.SymRelGotBase Eight sign.Signed).size v).bytes → RowHolds l w m s r
-stub_offset_holds l w m s i r term v h listed asked number own value allowed held =
+stub_offset_holds l w m s i r term v h x86 listed asked number own value allowed held =
     let info = plain kinds.SymRelGotBase Eight sign.Signed in
-    let known = formula_known l r.number (formula StubFromTable Full) h.placed.x86 (ap x86_64_formula number ∙ pltoff64_formula) in
-    let field : HasField l r info.size = record { row = plain kinds.PltRelGotBase Eight sign.Signed; known = known_here l r.number r_x86_64_pltoff64 (plain kinds.PltRelGotBase Eight sign.Signed) h.placed.x86 number pltoff64_row; kind = refl; size = refl } in
+    let known = formula_known l r.number (formula StubFromTable Full) x86 (ap x86_64_formula number ∙ pltoff64_formula) in
+    let field : HasField l r info.size = record { row = plain kinds.PltRelGotBase Eight sign.Signed; known = known_here l r.number r_x86_64_pltoff64 (plain kinds.PltRelGotBase Eight sign.Signed) x86 number pltoff64_row; kind = refl; size = refl } in
     let t = value_of_own l w m s i r term h listed own in
-    let low = below_all l kinds.SymRelGotBase term (place_of s.address r) v r.addend value in
+    let low = below_all l taken.Table term (place_of s.address r) v r.addend value in
     record {
       holds = record {
         formula = formula StubFromTable Full;
         known = known;
         value = v;
-        gives = subst (λ (x : ℕ). Gives StubFromTable l w m s r x) value (gives_offset l w m s i r (formula StubFromTable Full) own.symbol term h asked known refl own.named t);
-        field = row_reads l w m s i r info Full v h listed field (form_of_row r_x86_64_gotoff64 info (formula FromTable Full) v h.tables.agree gotoff64_row refl gotoff64_formula low allowed) held;
+        gives = subst (λ (x : ℕ). Gives StubFromTable l w m s r x) value (gives_offset l w m s i r (formula StubFromTable Full) own.symbol term h asked known refl own.named t x86);
+        field = row_reads l w m s i r info Full v v h listed field (form_of_row r_x86_64_gotoff64 info (formula FromTable Full) v (old_field s r info) h.tables.agree gotoff64_row refl gotoff64_formula low allowed (old_long l w m s i r info h listed field)) held;
       };
       offset = λ o. o;
       address = λ a. a;
@@ -221,14 +222,14 @@ row_holds l w m s i r h asked f = by_row f.kept.row f.kept.keeps f.kept.chosen (
 
     plt : (c : IsChosen l s r (slice_get s.relocations (i + 1)) PLT) → IsApplied (question_of l s r c.symbol (slice_get s.relocations (i + 1))) PLT → row_of l.machine r_x86_64_pc32 ≡ Some k.info → RowHolds l w m s r
     plt c stands known =
-        let e = info_is r_x86_64_pc32 k.info (plain kinds.Relative Four sign.Signed) (row_here l r_x86_64_pc32 k.info h.placed.x86 known) pc32_row in
-        stub_distance_holds l w m s i r k.term f.value h f.has.listed asked c.number (own_term (plain kinds.Relative Four sign.Signed) c.symbol e refl c.named (not-true _ stands.value) (not-true _ stands.symbol))
+        let e = info_is r_x86_64_pc32 k.info (plain kinds.Relative Four sign.Signed) (row_here l r_x86_64_pc32 k.info c.machine known) pc32_row in
+        stub_distance_holds l w m s i r k.term f.value h c.machine f.has.listed asked c.number (own_term (plain kinds.Relative Four sign.Signed) c.symbol e refl c.named (not-true _ stands.value) (not-true _ stands.symbol))
         (subst (λ (x : RelocationKindInfo). value_by l x.kind k.term r.addend (place_of s.address r) ≡ f.value) e k.value) (subst (λ (x : RelocationKindInfo). allows x f.value ≡ true) e k.allowed) (held (plain kinds.Relative Four sign.Signed) e)
 
     offset : (c : IsChosen l s r (slice_get s.relocations (i + 1)) PLT_OFF) → IsApplied (question_of l s r c.symbol (slice_get s.relocations (i + 1))) PLT_OFF → row_of l.machine r_x86_64_gotoff64 ≡ Some k.info → RowHolds l w m s r
     offset c stands known =
-        let e = info_is r_x86_64_gotoff64 k.info (plain kinds.SymRelGotBase Eight sign.Signed) (row_here l r_x86_64_gotoff64 k.info h.placed.x86 known) gotoff64_row in
-        stub_offset_holds l w m s i r k.term f.value h f.has.listed asked c.number (own_term (plain kinds.SymRelGotBase Eight sign.Signed) c.symbol e refl c.named (not-true _ stands.value) (not-true _ stands.symbol))
+        let e = info_is r_x86_64_gotoff64 k.info (plain kinds.SymRelGotBase Eight sign.Signed) (row_here l r_x86_64_gotoff64 k.info c.machine known) gotoff64_row in
+        stub_offset_holds l w m s i r k.term f.value h c.machine f.has.listed asked c.number (own_term (plain kinds.SymRelGotBase Eight sign.Signed) c.symbol e refl c.named (not-true _ stands.value) (not-true _ stands.symbol))
         (subst (λ (x : RelocationKindInfo). value_by l x.kind k.term r.addend (place_of s.address r) ≡ f.value) e k.value) (subst (λ (x : RelocationKindInfo). allows x f.value ≡ true) e k.allowed) (held (plain kinds.SymRelGotBase Eight sign.Signed) e)
 
     by_row : (row : Row) → (row ≡ PLT) ⊎ (row ≡ PLT_OFF) → (c : IsChosen l s r (slice_get s.relocations (i + 1)) row) → IsApplied (question_of l s r c.symbol (slice_get s.relocations (i + 1))) row → row_of l.machine (rewrite_of row).number ≡ Some k.info → RowHolds l w m s r

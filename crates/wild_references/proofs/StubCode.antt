@@ -1,25 +1,45 @@
 -- A stub in memory: its bytes jump to the word of its slot.
-use Rattle.std.proofs.Common.{◌≡◌, ℕ, ◌+◌, ◌-◌, ◌%◌, ◌^◌, ◌<◌, inl, inr, true, List, refl, sym, ap, ◌∙◌, arith, subst}
-use Rattle.std.specs.Prelude.{nat_lt}
-use Rattle.std.proofs.lemmas.Bool.{cases_Bool, ltb-true, leb-true}
+use Rattle.std.proofs.Common.{◌≡◌, ℕ, ◌+◌, ◌-◌, ◌/◌, ◌%◌, ◌^◌, ◌<◌, ◌≤◌, inl, inr, Bool, true, false, List, [], ◌∷◌, ◌++◌, Option, Some, refl, sym, ap, ◌∙◌, arith, subst}
+use Rattle.std.specs.Prelude.{⊤, ◌&&◌, nat_le, nat_lt, slice_get}
+use Rattle.std.proofs.lemmas.Bool.{cases_Bool, and_parts, eqb-true, ltb-true, leb-true}
+use Rattle.wild_words.proofs.ListLemmas.{holds_at}
 use Rattle.wild_words.specs.Words.{word, place}
 use Rattle.wild_reloc.specs.Range.{of_bits, contains}
 use Rattle.wild_reloc.specs.declared.range.Sign.TheVariants.{Signed}
+use Rattle.wild_reloc.specs.declared.instruction.AArch64Instruction.TheVariants.{Adr, Imm12}
+use Rattle.wild_relax.proofs.FieldsAArch64Lemmas.{fields_agree}
+use Rattle.wild_aarch64.specs.Machine.{page}
+use Rattle.wild_aarch64.specs.Stub as reader
+use Rattle.wild_aarch64.specs.Stub.{HasSlot, StandsAt}
 use Rattle.wild_slot.specs.Stub.{stub_x86_64, displacement_x86_64}
+use Rattle.wild_slot.specs.StubAArch64 as writer
+use Rattle.wild_slot.specs.StubAArch64.{stub_aarch64}
 use Rattle.wild_loader.specs.declared.memory.Machine.TheVariants as machines
 use Rattle.wild_loader.specs.declared.memory.Memory.{Memory}
 use Rattle.wild_loader.specs.Memory.{Holds}
 use Rattle.wild_loader.specs.StepLaws.{IsSigned32, StubsOfValuesAreRead, stub_bytes}
+use Rattle.wild_loader.specs.StepLawsAArch64 as code
+use Rattle.wild_loader.specs.declared.world.World.{World}
 use Rattle.wild_loader.proofs.Mapped.{byte_below}
 use Rattle.wild_meaning.specs.Slot.{HasWord}
 use Rattle.wild_loader.specs.Reach.{JumpsTo}
 use Rattle.wild_meaning.proofs.WorldLemmas.{word_below}
 use Rattle.wild_types.specs.declared.kind.Machine.{Machine}
 use Rattle.wild_types.specs.declared.kind.Machine.TheVariants as machine
+use Rattle.wild_types.specs.declared.symbol.Symbol.{Symbol}
 use Rattle.wild_types.specs.declared.layout.Layout.{Layout}
+use Rattle.wild_types.specs.SymbolSlots.{got_of, plt_of}
+use Rattle.wild_clauses.specs.SlotPlaces.{is_even_slot, slot_is_even}
 use Rattle.wild_slot.specs.MachineStub.{stub_of, stub_in}
 use Rattle.wild_slot.proofs.StubLemmas.{length-stub_of}
 use Rattle.wild_meaning.specs.Linked.{processor_of}
+use Rattle.wild_references.specs.Terms.{IsPaged, MovesByPages}
+
+-- what a stub does, of either machine
+pub record StubLaws : Type 0 where
+  pub value : StubsOfValuesAreRead
+  pub plain : code.StubsAreRead
+  pub marked : code.MarkedStubsAreRead
 
 -- ---- the displacement
 
@@ -56,7 +76,60 @@ stub_below l m base slot stub held =
     let first = byte_below m (base + stub + 0) _ (held 0 (omega (arith, n))) in
     omega (arith, first)
 
--- so it is of an output for x86-64
-pub stub_goes : StubsOfValuesAreRead → (l : Layout) (m : Memory) (base slot stub x : ℕ) → l.machine ≡ machine.X86_64 → m.machine ≡ processor_of l.machine → (stub_in l slot stub).reaches ≡ true → Holds m (base + stub) (stub_in l slot stub).bytes → HasWord m (base + slot) x → JumpsTo m (base + stub) x
-stub_goes law l m base slot stub x is loaded reaches held there =
-    stub_jumps law m base slot stub x (loaded ∙ ap processor_of is) (subst (λ (k : Machine). (stub_of k l.options.bti slot stub).reaches ≡ true) is reaches) (subst (λ (k : Machine). Holds m (base + stub) (stub_of k l.options.bti slot stub).bytes) is held) there
+-- ---- AArch64
+
+-- the words of a stub, as they are written and as they are read
+jump_is : (k : ℕ) → writer.jump_to_slot k ≡ reader.jump_to_slot k
+jump_is k = rw (fields_agree Adr (k / 4096) 0x90000010, fields_agree Imm12 (k % 4096 / 8) 0xf9400211) refl
+
+-- the slot that a stub reaches
+reached_slot : (q p g : ℕ) → q ≡ page p → nat_le q g && nat_lt g (q + 2 ^ 32) ≡ true → g % 8 ≡ 0 → HasSlot p g
+reached_slot q p g e h even =
+    let parts = and_parts _ _ h in
+    let low = leb-true _ _ parts.0 in
+    let high = ltb-true _ _ parts.1 in
+    record { from = subst (λ (i : ℕ). i ≤ g) e low; near = subst (λ (i : ℕ). g < i + 2 ^ 32) e high; aligned = even }
+
+-- the stub at base + stub, in reach of its slot at base + slot, jumps to the word there, behind a landing pad too
+words_jump : StubLaws → (m : Memory) (base slot stub x : ℕ) (bti : Bool) → m.machine ≡ machines.AArch64 → slot % 8 ≡ 0 → StandsAt base stub slot → (stub_aarch64 slot stub bti).reaches ≡ true → Holds m (base + stub) (stub_aarch64 slot stub bti).bytes → HasWord m (base + slot) x → JumpsTo m (base + stub) x
+words_jump laws m base slot stub x false machine even at reaches held there =
+    let k = slot - page stub in
+    let bytes = subst (λ (ws : List ℕ). Holds m (base + stub) (writer.spelled (ws ++ (0xd503201f ∷ [])))) (jump_is k) held in
+    record { effect = _; known = laws.plain m base stub slot x machine (reached_slot (page stub) stub slot refl reaches even) at bytes there; jump = refl }
+words_jump laws m base slot stub x true machine even at reaches held there =
+    let code = at.code in
+    let next : (stub + 4) % 2 ^ 64 ≡ stub + 4 = omega arith in
+    let start : page ((stub + 4) % 2 ^ 64) ≡ page (stub + 4) = ap page next in
+    let k = slot - page ((stub + 4) % 2 ^ 64) in
+    let bytes = subst (λ (ws : List ℕ). Holds m (base + stub) (writer.spelled (0xd503245f ∷ ws))) (jump_is k ∙ ap (λ (i : ℕ). reader.jump_to_slot (slot - i)) start) held in
+    record { effect = _; known = laws.marked m base stub slot x machine (reached_slot (page ((stub + 4) % 2 ^ 64)) (stub + 4) slot start reaches even) at bytes there; jump = refl }
+
+-- ---- either machine
+
+-- what an AArch64 output rests on besides
+pub paged_on : (l : Layout) (w : World) → MovesByPages l.machine l w → l.machine ≡ machine.AArch64 → IsPaged l w
+paged_on l w h on = subst (λ (k : Machine). MovesByPages k l w) on h
+
+-- where the stub of a symbol stands, as its machine asks
+abbrev pub HasPlaces : Machine → (base slot stub : ℕ) → Type 0
+HasPlaces machine.X86_64 base slot stub = ⊤
+HasPlaces machine.AArch64 base slot stub = (base % 4096 ≡ 0) × (slot % 8 ≡ 0) × (base + stub + 16 < 2 ^ 64)
+
+-- of the symbol that has the stub and the slot
+pub has_places : (l : Layout) (w : World) (i slot stub : ℕ) (s : Symbol) → MovesByPages l.machine l w → slice_get l.symbols i ≡ Some s → got_of s ≡ Some slot → plt_of s ≡ Some stub → HasPlaces l.machine w.base slot stub
+has_places l w i slot stub s h listed got plt = by_machine l.machine h
+  where
+    even : slot_is_even s ≡ true → slot % 8 ≡ 0
+    even t = eqb-true _ _ (subst (λ (o : Option ℕ). is_even_slot o ≡ true) got t)
+
+    by_machine : (k : Machine) → MovesByPages k l w → HasPlaces k w.base slot stub
+    by_machine machine.X86_64 h = tt
+    by_machine machine.AArch64 h = (h.pages, even (holds_at (λ (x : Symbol). slot_is_even x ≡ true) l.symbols i s listed h.even), holds_at (λ (x : Symbol). (p : ℕ) → plt_of x ≡ Some p → w.base + p + 16 < 2 ^ 64) l.symbols i s listed h.below stub plt)
+
+pub stub_goes : StubLaws → (l : Layout) (m : Memory) (base slot stub x : ℕ) → HasPlaces l.machine base slot stub → m.machine ≡ processor_of l.machine → (stub_in l slot stub).reaches ≡ true → Holds m (base + stub) (stub_in l slot stub).bytes → HasWord m (base + slot) x → JumpsTo m (base + stub) x
+stub_goes laws l m base slot stub x places loaded reaches held there = by_machine l.machine places loaded reaches held
+  where
+    by_machine : (k : Machine) → HasPlaces k base slot stub → m.machine ≡ processor_of k → (stub_of k l.options.bti slot stub).reaches ≡ true → Holds m (base + stub) (stub_of k l.options.bti slot stub).bytes → JumpsTo m (base + stub) x
+    by_machine machine.X86_64 places loaded reaches held = stub_jumps laws.value m base slot stub x loaded reaches held there
+    by_machine machine.AArch64 places loaded reaches held =
+        words_jump laws m base slot stub x l.options.bti loaded places.1 (record { pages = places.0; code = places.2; top = word_below m (base + slot) x there }) reaches held there

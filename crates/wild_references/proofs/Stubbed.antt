@@ -51,7 +51,7 @@ no_resolution l i none h = let e : None ≡ Some h.there.resolution = sym none �
 no_stub : (l : Layout) (i : ℕ) → stub_of l i ≡ None → IsStubbed l i → ⊥
 no_stub l i none h = let e : None ≡ Some h.stub = sym none ∙ stub_given l i h.stub h.there in cc
 
-one_stub : (l : Layout) (i p : ℕ) → stub_of l i ≡ Some p → (h : IsStubbed l i) → p ≡ h.stub
+pub one_stub : (l : Layout) (i p : ℕ) → stub_of l i ≡ Some p → (h : IsStubbed l i) → p ≡ h.stub
 one_stub l i p e h = let f : Some p ≡ Some h.stub = sym e ∙ stub_given l i h.stub h.there in cc
 
 has_stub : (l : Layout) (i p : ℕ) (r : Resolution) → IsResolvedBy l i r → r.plt_address ≡ Some p → HasStub l i p

@@ -12,10 +12,12 @@ use Rattle.wild_slot.specs.MachineStub.{far_between, far_of, stub_in}
 use Rattle.wild_types.specs.SymbolSlots.{resolved_got, resolved_plt, plt_of, has_thread_slot}
 use Rattle.wild_clauses.proofs.ClauseLemmas.{not_thread}
 use Rattle.wild_layout.specs.SlotValues.{resolution_of, stub_of, stub_address}
-use Rattle.wild_loader.specs.StepLaws.{StubsOfValuesAreRead}
 use Rattle.wild_loader.specs.declared.memory.Memory.{Memory}
 use Rattle.wild_loader.specs.declared.world.World.{World}
+use Rattle.wild_reloc.specs.Formula.{Value, StubDistance}
+use Rattle.wild_types.specs.declared.input.InputRelocation.{InputRelocation}
 use Rattle.wild_meaning.specs.Formula.{IsTarget}
+use Rattle.wild_meaning.specs.ReferentAArch64.{StandsOnAArch64}
 use Rattle.wild_meaning.specs.Value.{HasValue}
 use Rattle.wild_loader.specs.Reach.{JumpsTo, Reaches}
 use Rattle.wild_meaning.specs.Denotes.{Denotes, HasStub, IsStub}
@@ -23,7 +25,7 @@ use Rattle.wild_references.specs.Terms.{IsPlaced}
 use Rattle.wild_references.proofs.FirstSlots.{first_held, items_behind}
 use Rattle.wild_references.proofs.SlotContents.{ItemsHold}
 use Rattle.wild_references.proofs.SlotFlags.{symbol_fits, slot_of_stub}
-use Rattle.wild_references.proofs.StubCode.{stub_goes, stub_below}
+use Rattle.wild_references.proofs.StubCode.{StubLaws, has_places, stub_goes, stub_below}
 use Rattle.wild_references.proofs.Symbols.{IsResolvedBy, resolved}
 use Rattle.wild_references.proofs.Written.{given_some}
 
@@ -64,7 +66,7 @@ resolved_stub l i stub h = by_resolution (resolution_of l i) refl h
     by_resolution None e h = cc
     by_resolution (Some r) e h = (r, resolved l i r e, h)
 
-pub stub_from : StubsOfValuesAreRead → (l : Layout) (w : World) (m : Memory) (i stub : ℕ) (r : Resolution) → IsPlaced l w m → IsResolvedBy l i r → r.plt_address ≡ Some stub → StubStands l w m i stub
+pub stub_from : StubLaws → (l : Layout) (w : World) (m : Memory) (i stub : ℕ) (r : Resolution) → IsPlaced l w m → IsResolvedBy l i r → r.plt_address ≡ Some stub → StubStands l w m i stub
 stub_from law l w m i stub r p d f =
     let s = d.symbol in
     let fits = symbol_fits l i s p.symbols d.listed in
@@ -81,11 +83,11 @@ stub_from law l w m i stub r p d f =
       below = stub_below l m w.base at stub held;
       value = first.value;
       is = first.is;
-      jumps = stub_goes law l m w.base at stub first.value p.x86 p.loaded (in_reach l w m at stub r e f first.behind) held first.there;
+      jumps = stub_goes law l m w.base at stub first.value (has_places l w (canonical l i) at stub s p.paged d.listed slot.1 has) p.loaded (in_reach l w m at stub r e f first.behind) held first.there;
     }
 
 -- where the writer knows of a stub, memory has it
-pub stub_stands : StubsOfValuesAreRead → (l : Layout) (w : World) (m : Memory) (i stub : ℕ) → IsPlaced l w m → stub_of l i ≡ Some stub → StubStands l w m i stub
+pub stub_stands : StubLaws → (l : Layout) (w : World) (m : Memory) (i stub : ℕ) → IsPlaced l w m → stub_of l i ≡ Some stub → StubStands l w m i stub
 stub_stands law l w m i stub p h = let r = resolved_stub l i stub h in stub_from law l w m i stub r.0 p r.1 r.2
 
 -- ---- it reaches the value
@@ -102,8 +104,14 @@ pub stub_is : (l : Layout) (w : World) (m : Memory) (i stub : ℕ) → StubStand
 stub_is l w m i stub h = record { stub = stub; given = h.given; moves = refl; value = h.value; is = h.is; reaches = stub_reaches l w m i stub h }
 
 -- the writer's L is the reader's
-pub goal_given : StubsOfValuesAreRead → (l : Layout) (w : World) (m : Memory) (symbol : Option ℕ) (i term : ℕ) → IsPlaced l w m → symbol ≡ Some i → stub_address l symbol ≡ Ok term → IsTarget l w m symbol ((w.base + term) % 2 ^ 64)
+pub goal_given : StubLaws → (l : Layout) (w : World) (m : Memory) (symbol : Option ℕ) (i term : ℕ) → IsPlaced l w m → symbol ≡ Some i → stub_address l symbol ≡ Ok term → IsTarget l w m symbol ((w.base + term) % 2 ^ 64)
 goal_given law l w m symbol i term p named given =
     let here : stub_address l (Some i) ≡ Ok term = subst (λ (o : Option ℕ). stub_address l o ≡ Ok term) named given in
     let goal : Denotes l w m i ((w.base + term) % 2 ^ 64) = inr (stub_is l w m i term (stub_stands law l w m i term p (given_some missing.Stub i (stub_of l i) term here))) in
     subst (λ (o : Option ℕ). IsTarget l w m o ((w.base + term) % 2 ^ 64)) (sym named) goal
+
+-- and it is L to an AArch64 reader, to whom a branch comes to the symbol's value
+pub goal_stands : StubLaws → (v : Value) (l : Layout) (w : World) (m : Memory) (r : InputRelocation) (i term : ℕ) → IsPlaced l w m → v ≡ StubDistance → stub_address l (Some i) ≡ Ok term → StandsOnAArch64 v l w m i ((w.base + term) % 2 ^ 64)
+goal_stands law v l w m r i term p e given =
+    let there = stub_stands law l w m i term p (given_some missing.Stub i (stub_of l i) term given) in
+    subst (λ (q : Value). StandsOnAArch64 q l w m i ((w.base + term) % 2 ^ 64)) (sym e) (there.value, there.is, stub_reaches l w m i term there)

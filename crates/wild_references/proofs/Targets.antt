@@ -1,5 +1,5 @@
 -- What the writer takes for S stands for the symbol: its value, or its stub.
-use Rattle.std.proofs.Common.{◌≡◌, ℕ, ◌⊎◌, inl, inr, Bool, true, false, Option, Some, None, refl, sym, ap, ◌∙◌, subst}
+use Rattle.std.proofs.Common.{◌≡◌, ℕ, ◌+◌, ◌%◌, ◌^◌, ◌⊎◌, inl, inr, Bool, true, false, Option, Some, None, refl, sym, ap, ◌∙◌, subst}
 use Rattle.std.specs.Prelude.{Ok}
 use Rattle.std.proofs.lemmas.Bool.{cases_Bool}
 use Rattle.wild_types.specs.declared.fault.Missing.TheVariants as missing
@@ -9,20 +9,22 @@ use Rattle.wild_types.specs.Flags.{has_flag, absolute, ifunc}
 use Rattle.wild_slot.specs.Treatment.{flags_at}
 use Rattle.wild_layout.specs.SymbolValues.{raw_address}
 use Rattle.wild_layout.specs.SlotValues.{is_chosen, address_of, stub_of}
-use Rattle.wild_loader.specs.StepLaws.{StubsOfValuesAreRead}
 use Rattle.wild_loader.specs.declared.memory.Memory.{Memory}
 use Rattle.wild_loader.specs.declared.world.World.{World}
 use Rattle.wild_meaning.specs.Formula.{IsTarget}
 use Rattle.wild_meaning.specs.Reference.{IsStubbed}
-use Rattle.wild_meaning.specs.Value.{HasRaw, HasFlag, HasOwnValue, IsAbsolute, IsReplaceable, moved}
+use Rattle.wild_meaning.specs.Value.{HasRaw, HasFlag, HasOwnValue, HasValue, IsAbsolute, IsReplaceable, moved}
+use Rattle.wild_meaning.specs.Denotes.{Denotes}
+use Rattle.wild_meaning.specs.ReferentAArch64.{IsOneAddress}
 use Rattle.wild_geometry.proofs.JudgedLemmas.{flag_is}
 use Rattle.wild_references.specs.Terms.{IsPlaced}
 use Rattle.wild_references.proofs.SlotFlags.{symbol_fits, resolver_not_absolute, listed_at}
 use Rattle.wild_references.proofs.Symbols.{definition_listed, flags_are}
-use Rattle.wild_references.proofs.Stubbed.{raw_is, stub_given}
+use Rattle.wild_references.proofs.Stubbed.{raw_is, stub_given, one_stub, stubbed_or_not}
 use Rattle.wild_references.proofs.SymbolStubs.{StubStands, stub_stands, stub_is}
 use Rattle.wild_references.proofs.Values.{has_raw}
 use Rattle.wild_references.proofs.Written.{address_given, given_some}
+use Rattle.wild_references.proofs.StubCode.{StubLaws}
 
 -- an address in the world: the layout's own, or that moved with the base
 pub record IsAddressed (l : Layout) (w : World) (m : Memory) (symbol : Option ℕ) (a : ℕ) : Type 0 where
@@ -75,7 +77,7 @@ own_addressed l w m i a own t = record {
 }
 
 -- the stub's, which moves with the base
-stub_moves : StubsOfValuesAreRead → (l : Layout) (w : World) (m : Memory) (i a : ℕ) → IsPlaced l w m → has_flag (flags_at l i) absolute ≡ false → stub_of l i ≡ Some a → IsAddressed l w m (Some i) a
+stub_moves : StubLaws → (l : Layout) (w : World) (m : Memory) (i a : ℕ) → IsPlaced l w m → has_flag (flags_at l i) absolute ≡ false → stub_of l i ≡ Some a → IsAddressed l w m (Some i) a
 stub_moves law l w m i a p moves h = record {
   still = false;
   denoted = inr (stub_is l w m i a (stub_stands law l w m i a p h));
@@ -84,7 +86,7 @@ stub_moves law l w m i a p moves h = record {
 }
 
 -- where a resolver chooses the function
-chosen_moves : StubsOfValuesAreRead → (l : Layout) (w : World) (m : Memory) (i a : ℕ) → IsPlaced l w m → is_chosen l i ≡ true → stub_of l i ≡ Some a → StubStands l w m i a × (has_flag (flags_at l i) absolute ≡ false)
+chosen_moves : StubLaws → (l : Layout) (w : World) (m : Memory) (i a : ℕ) → IsPlaced l w m → is_chosen l i ≡ true → stub_of l i ≡ Some a → StubStands l w m i a × (has_flag (flags_at l i) absolute ≡ false)
 chosen_moves law l w m i a p chosen h =
     let stub = stub_stands law l w m i a p h in
     let s = stub.given.symbol in
@@ -94,7 +96,7 @@ chosen_moves law l w m i a p chosen h =
     (stub, ap (λ (f : ValueFlags). has_flag f absolute) flags ∙ moves)
 
 -- whose address is the stub's
-chosen_stubbed : StubsOfValuesAreRead → (l : Layout) (w : World) (m : Memory) (i a : ℕ) → IsPlaced l w m → is_chosen l i ≡ true → stub_of l i ≡ Some a → IsStubbed l i
+chosen_stubbed : StubLaws → (l : Layout) (w : World) (m : Memory) (i a : ℕ) → IsPlaced l w m → is_chosen l i ≡ true → stub_of l i ≡ Some a → IsStubbed l i
 chosen_stubbed law l w m i a p chosen h =
     let c = chosen_moves law l w m i a p chosen h in
     let g = c.0.given in
@@ -117,7 +119,7 @@ stubbed_address l i a plain h st = by_case st.stands
         let stubs = raw_is l i st.stub t.definition t.symbol t.resolution raw t.defined t.listed t.decided in
         stub_given l i st.stub t ∙ ap (λ (n : ℕ). Some n) (stubs ∙ sym mine)
 
-followed_by : StubsOfValuesAreRead → (l : Layout) (w : World) (m : Memory) (i a : ℕ) → IsPlaced l w m → Follows l i → address_of l (Some i) ≡ Ok a → IsAddressed l w m (Some i) a
+followed_by : StubLaws → (l : Layout) (w : World) (m : Memory) (i a : ℕ) → IsPlaced l w m → Follows l i → address_of l (Some i) ≡ Ok a → IsAddressed l w m (Some i) a
 followed_by law l w m i a p f h =
     elim (cases_Bool (is_chosen l i)) [
       | inl t ↦ (let there = given_some missing.Stub i (stub_of l i) a (rw t at h) in stub_moves law l w m i a p (chosen_moves law l w m i a p t there).1 there)
@@ -128,12 +130,42 @@ followed_by law l w m i a p f h =
     plain n (inl own) h = own_addressed l w m i a own (raw_addressed l w m i a p n h)
     plain n (inr st) h = stub_moves law l w m i a p (flag_is l i absolute false st.moves) (stubbed_address l i a n h st)
 
-pub addressed : StubsOfValuesAreRead → (l : Layout) (w : World) (m : Memory) (symbol : Option ℕ) (a : ℕ) → IsPlaced l w m → ((i : ℕ) → symbol ≡ Some i → Follows l i) → address_of l symbol ≡ Ok a → IsAddressed l w m symbol a
+-- it is the one address that stands for the symbol
+pub one_addressed : StubLaws → (l : Layout) (w : World) (m : Memory) (i a : ℕ) (still : Bool) → IsPlaced l w m → Follows l i → address_of l (Some i) ≡ Ok a → has_flag (flags_at l i) absolute ≡ still → Denotes l w m i (moved still w.base a) → IsOneAddress l w m i (moved still w.base a)
+one_addressed law l w m i a still p f h flag denoted = by_stub (stubbed_or_not l i)
+  where
+    given : IsStubbed l i → stub_of l i ≡ Some a
+    given st =
+        elim (cases_Bool (is_chosen l i)) [
+          | inl t ↦ given_some missing.Stub i (stub_of l i) a (rw t at h)
+          | inr n ↦ stubbed_address l i a n (rw n at h) st
+        ]
+
+    value : (IsStubbed l i → ⊥) → Follows l i → HasValue l w i (moved still w.base a)
+    value none (inr st) = absurd (none st)
+    value none (inl own) =
+        elim (cases_Bool (is_chosen l i)) [
+          | inl t ↦ absurd (none (chosen_stubbed law l w m i a p t (given_some missing.Stub i (stub_of l i) a (rw t at h))))
+          | inr n ↦
+              (let o = raw_addressed l w m i a p n (rw n at h) in
+              let same : o.still ≡ still = sym o.flag ∙ flag in
+              subst (λ (b : Bool). HasValue l w i (moved b w.base a)) same (inr (own, o.value)))
+        ]
+
+    by_stub : IsStubbed l i ⊎ (IsStubbed l i → ⊥) → IsOneAddress l w m i (moved still w.base a)
+    by_stub (inl st) =
+        let same = one_stub l i a (given st) st in
+        let moves : still ≡ false = sym flag ∙ flag_is l i absolute false st.moves in
+        let at : moved still w.base a ≡ (w.base + a) % 2 ^ 64 = ap (λ (b : Bool). moved b w.base a) moves in
+        inl (st.stub, record { stub = st.there; stands = st.stands; moves = st.moves }, at ∙ ap (λ (n : ℕ). (w.base + n) % 2 ^ 64) same, denoted)
+    by_stub (inr none) = inr (λ q s. none (record { stub = q; there = s.stub; stands = s.stands; moves = s.moves }), value none f)
+
+pub addressed : StubLaws → (l : Layout) (w : World) (m : Memory) (symbol : Option ℕ) (a : ℕ) → IsPlaced l w m → ((i : ℕ) → symbol ≡ Some i → Follows l i) → address_of l symbol ≡ Ok a → IsAddressed l w m symbol a
 addressed law l w m None a p f h = record { still = true; denoted = address_given l None a h; flag = λ i e. cc; absolute = λ i e t. cc }
 addressed law l w m (Some i) a p f h = followed_by law l w m i a p (f i refl) h
 
 -- of a symbol without such a stub it is the own symbol's
-pub linked : StubsOfValuesAreRead → (l : Layout) (w : World) (m : Memory) (i a : ℕ) → IsPlaced l w m → (IsStubbed l i → ⊥) → address_of l (Some i) ≡ Ok a → IsOwnAddressed l w i a
+pub linked : StubLaws → (l : Layout) (w : World) (m : Memory) (i a : ℕ) → IsPlaced l w m → (IsStubbed l i → ⊥) → address_of l (Some i) ≡ Ok a → IsOwnAddressed l w i a
 linked law l w m i a p alone h =
     elim (cases_Bool (is_chosen l i)) [
       | inl t ↦ absurd (alone (chosen_stubbed law l w m i a p t (given_some missing.Stub i (stub_of l i) a (rw t at h))))

@@ -1,105 +1,141 @@
--- The value of each kind with a term is what the kind's expression gives.
-use Rattle.std.proofs.Common.{◌≡◌, ℕ, ◌+◌, ◌%◌, ◌^◌, refl, sym, subst}
-use Rattle.std.specs.Prelude.{Option, Ok, true}
+-- The value of each row with a term is what the row's expression gives.
+use Rattle.std.proofs.Common.{◌≡◌, ℕ, ◌+◌, ◌-◌, ◌*◌, ◌/◌, ◌%◌, ◌^◌, ◌<◌, ◌≤◌, ◌⊎◌, inl, inr, Bool, true, false, refl, sym, ap, ◌∙◌, arith, subst}
+use Rattle.std.specs.Prelude.{Option, Some, None, Ok, not, ◌&&◌, ◌||◌, ◌==◌, is_none, if◌then◌else◌}
+use Rattle.std.proofs.lemmas.Bool.{cases_Bool, and_parts, or_cases, eqb-true}
+use Rattle.wild_types.specs.declared.kind.Machine.{Machine}
+use Rattle.wild_types.specs.declared.kind.Machine.TheVariants as machine
 use Rattle.wild_types.specs.declared.input.InputRelocation.{InputRelocation}
 use Rattle.wild_types.specs.declared.layout.Layout.{Layout}
+use Rattle.wild_types.specs.Lookups.{place_of}
 use Rattle.wild_slot.specs.declared.treatment.Treatment.TheVariants as treatments
-use Rattle.wild_slot.specs.Treatment.{named}
-use Rattle.wild_reloc.specs.Expression.{expression_of, slot_sort, writes}
-use Rattle.wild_reloc.specs.Agreement.{plain_value}
-use Rattle.wild_reloc.specs.Formula.{Value, StubDistance, StubFromTable}
+use Rattle.wild_slot.specs.Treatment.{named, kind_treatment, is_slot, suits}
+use Rattle.wild_reloc.specs.Agreement as shape
+use Rattle.wild_reloc.specs.Expression.{expression_of, paged, taken_of, expressed, slot_sort, writes}
+use Rattle.wild_reloc.specs.Formula.{Value, AddressSlot, Descriptor, StubDistance, StubFromTable, SlotAddress, SlotDistance, SlotPageDistance, SlotFromTable, SlotFromTablePage}
+use Rattle.wild_reloc.specs.declared.expression.Class.TheVariants as class
 use Rattle.wild_reloc.specs.declared.expression.SlotSort.{SlotSort}
 use Rattle.wild_reloc.specs.declared.expression.SlotSort.TheVariants as sorts
 use Rattle.wild_reloc.specs.declared.expression.Taken.{Taken}
-use Rattle.wild_reloc.specs.declared.expression.Taken.TheVariants as less
+use Rattle.wild_reloc.specs.declared.expression.Taken.TheVariants as taken
+use Rattle.wild_reloc.specs.declared.expression.Term.{Term}
 use Rattle.wild_reloc.specs.declared.expression.Term.TheVariants as term
+use Rattle.wild_reloc.specs.declared.info.PageMask.{PageMask}
+use Rattle.wild_reloc.specs.declared.info.PageMask.TheVariants as masks
 use Rattle.wild_reloc.specs.declared.info.RelocationKind.{RelocationKind}
 use Rattle.wild_reloc.specs.declared.info.RelocationKind.TheVariants as kinds
+use Rattle.wild_reloc.specs.declared.info.RelocationKindInfo.{RelocationKindInfo}
 use Rattle.wild_layout.specs.SlotValues.{stub_address, slot_address}
-use Rattle.wild_loader.specs.StepLaws.{StubsOfValuesAreRead}
+use Rattle.wild_layout.specs.Values.{term_value, term_of, value_less, is_absent, is_place, is_symbol, is_own_place, undefined_weak_target}
 use Rattle.wild_loader.specs.declared.memory.Memory.{Memory}
 use Rattle.wild_loader.specs.declared.world.World.{World}
-use Rattle.wild_meaning.specs.Formula.{IsReferent, HasOffsetMode, Gives}
 use Rattle.wild_types.specs.Item.{Item}
+use Rattle.wild_meaning.specs.Item.{place_at}
+use Rattle.wild_meaning.specs.Formula.{page_of, table_at, IsReferent, IsPlaceRelative, TakesOwnPlace, HasOffsetMode, Gives, GivesLinked, TakesAddress, TakesOffset}
 use Rattle.wild_meaning.specs.Slot.{IsSlot}
-use Rattle.wild_meaning.proofs.SymbolLemmas.{referent_is}
-use Rattle.wild_references.specs.Terms.{IsPlaced, HasTerm}
-use Rattle.wild_references.specs.Laws.{KindGives, KindGivesLinked, TermGives, TermGivesLinked, SlotsGive}
+use Rattle.wild_meaning.specs.Reference.{IsStubbed}
+use Rattle.wild_references.specs.Terms.{IsPlaced, is_expressed, value_by_row, HasTerm, IsFollowed}
+use Rattle.wild_references.specs.Laws.{RowGives, RowGivesLinked, TermGives, TermGivesLinked, SlotsGive, GivesPart, PartsGive, PartsGiveLinked}
 use Rattle.wild_references.proofs.AddressSlots.{slots_stand}
 use Rattle.wild_references.proofs.DescriptorSlots.{descriptors_stand}
+use Rattle.wild_references.proofs.Referents.{no_mask, with_mask, of_table, sized_is, absent, present, own_parts, not_own, named_absent, own_at, own_referent, referent}
 use Rattle.wild_references.proofs.Relatives.{less_place, less_table}
 use Rattle.wild_references.proofs.SlotTerms.{SlotsAgree, SlotsStand, address_slots, offset_slots, pair_slots, descriptor_slots, own_pair_slot, slot_given}
-use Rattle.wild_references.proofs.SymbolStubs.{goal_given}
+use Rattle.wild_references.proofs.StubCode.{StubLaws, paged_on}
+use Rattle.wild_references.proofs.SymbolStubs.{goal_given, goal_stands}
 use Rattle.wild_references.proofs.ThreadKinds.{gives_pointer, links_pointer, gives_offset, links_offset}
 use Rattle.wild_references.proofs.ThreadPlaces.{offsets_stand, pairs_stand, own_pair_stands}
 use Rattle.wild_references.proofs.Treated.{symbol_named}
-use Rattle.wild_references.proofs.ValueKinds.{gives_sum, gives_distance, gives_from_table, links_sum, links_distance, links_from_table, gives_table, gives_size}
+use Rattle.wild_references.proofs.ValueKinds.{more, value_is, taken_is, plain_term, gives_sum, gives_part, gives_distance, gives_from_table, links_address, links_distance, links_from_table, gives_table, gives_size}
 
 -- ---- S
 
--- the kind with S, by what is taken
-abbrev symbol_less : Taken → RelocationKind
-symbol_less less.Nothing = kinds.Absolute
-symbol_less less.Place = kinds.Relative
-symbol_less other = kinds.SymRelGotBase
-
-symbol_kind : (k : RelocationKind) → (expression_of k).term ≡ term.Symbol → writes (expression_of k).class ≡ true → k ≡ symbol_less (expression_of k).taken
-symbol_kind kinds.Absolute e v = refl
-symbol_kind kinds.Relative e v = refl
-symbol_kind kinds.SymRelGotBase e v = refl
+-- the kinds with S
+symbol_kind : (k : RelocationKind) → (expression_of k).term ≡ term.Symbol → writes (expression_of k).class ≡ true → (k ≡ kinds.Absolute) ⊎ ((k ≡ kinds.Relative) ⊎ (k ≡ kinds.SymRelGotBase))
+symbol_kind kinds.Absolute e v = inl refl
+symbol_kind kinds.Relative e v = inr (inl refl)
+symbol_kind kinds.SymRelGotBase e v = inr (inr refl)
 symbol_kind other e v = cc
 
-symbol_gives : StubsOfValuesAreRead → (u : Taken) → KindGives (symbol_less u)
-symbol_gives law less.Nothing = gives_sum law
-symbol_gives law less.Place = gives_distance law
-symbol_gives law less.Table = gives_from_table law
-symbol_gives law less.PagePlace = gives_from_table law
-symbol_gives law less.PageTable = gives_from_table law
+pub symbols_give : StubLaws → TermGives term.Symbol
+symbols_give law = λ info e v. by_kind law info (symbol_kind info.kind e v)
+  where
+    by_kind : StubLaws → (info : RelocationKindInfo) → (info.kind ≡ kinds.Absolute) ⊎ ((info.kind ≡ kinds.Relative) ⊎ (info.kind ≡ kinds.SymRelGotBase)) → RowGives info
+    by_kind law info (inl k) = gives_sum law info k
+    by_kind law info (inr (inl k)) = gives_distance law info k
+    by_kind law info (inr (inr k)) = gives_from_table law info k
 
-symbol_links : StubsOfValuesAreRead → (u : Taken) → KindGivesLinked (symbol_less u)
-symbol_links law less.Nothing = links_sum law
-symbol_links law less.Place = links_distance law
-symbol_links law less.Table = links_from_table law
-symbol_links law less.PagePlace = links_from_table law
-symbol_links law less.PageTable = links_from_table law
-
-pub symbols_give : StubsOfValuesAreRead → TermGives term.Symbol
-symbols_give law = λ k e v. subst KindGives (sym (symbol_kind k e v)) (symbol_gives law (expression_of k).taken)
-
-pub symbols_link : StubsOfValuesAreRead → TermGivesLinked term.Symbol
-symbols_link law = λ k e v. subst KindGivesLinked (sym (symbol_kind k e v)) (symbol_links law (expression_of k).taken)
+pub symbols_link : StubLaws → TermGivesLinked term.Symbol
+symbols_link law = λ info e v. by_kind law info e (symbol_kind info.kind e v)
+  where
+    by_kind : StubLaws → (info : RelocationKindInfo) → (expression_of info.kind).term ≡ term.Symbol → (info.kind ≡ kinds.Absolute) ⊎ ((info.kind ≡ kinds.Relative) ⊎ (info.kind ≡ kinds.SymRelGotBase)) → RowGivesLinked info
+    by_kind law info e (inl k) = links_address law info e (ap (λ (j : RelocationKind). (expression_of j).taken) k)
+    by_kind law info e (inr (inl k)) = links_distance law info k
+    by_kind law info e (inr (inr k)) = links_from_table law info k
 
 -- ---- L
 
-abbrev stub_less : Taken → RelocationKind
-stub_less less.Table = kinds.PltRelGotBase
-stub_less other = kinds.PltRelative
+-- L, as the writer has it, or the place itself
+stub_refers : StubLaws → (v : Value) (l : Layout) (w : World) (m : Memory) (s : Item) (r : InputRelocation) (info : RelocationKindInfo) (x : ℕ) → (h : HasTerm l w m s r info x) → (expression_of info.kind).term ≡ term.Stub → named r.symbol (λ i. treatments.Value h.row) ≡ treatments.Value h.row → (v ≡ StubDistance) ⊎ (l.machine ≡ machine.X86_64) → (l.machine ≡ machine.AArch64 → is_place (taken_of info.kind info.mask) ≡ true) → IsReferent l.machine v l w m s r ((w.base + h.term) % 2 ^ 64)
+stub_refers law v l w m s r info x h stub treated which place = by_own (is_own_place l.machine l r info) refl h.given
+  where
+    on_both : l.machine ≡ machine.AArch64 → l.machine ≡ machine.X86_64 → ⊥
+    on_both a b = (let e : machine.AArch64 ≡ machine.X86_64 = sym a ∙ b in cc)
 
-stub_kind : (k : RelocationKind) → (expression_of k).term ≡ term.Stub → k ≡ stub_less (expression_of k).taken
-stub_kind kinds.PltRelative e = refl
-stub_kind kinds.PltRelGotBase e = refl
+    distance : l.machine ≡ machine.AArch64 → (v ≡ StubDistance) ⊎ (l.machine ≡ machine.X86_64) → v ≡ StubDistance
+    distance on (inl e) = e
+    distance on (inr x86) = absurd (on_both on x86)
+
+    by_own : (b : Bool) → is_own_place l.machine l r info ≡ b → (if b then Ok (undefined_weak_target r.number (place_of s.address r)) else term_of l r.symbol info.kind) ≡ Ok h.term → IsReferent l.machine v l w m s r ((w.base + h.term) % 2 ^ 64)
+    by_own true e g =
+        let o = own_parts l.machine l r info e in
+        let n = named_absent l r.symbol o.absent in
+        let a = absent l w m r n.0 h.placed h.listed n.1 n.2 in
+        let relative : IsPlaceRelative v = subst IsPlaceRelative (sym (distance o.on which)) tt in
+        let term : undefined_weak_target r.number (place_of s.address r) ≡ h.term = cc in
+        let at = own_at w s r h.place ∙ ap (λ (n : ℕ). (w.base + n) % 2 ^ 64) term in
+        subst (λ (n : ℕ). IsReferent l.machine v l w m s r n) at (own_referent v l w m s r n.0 o.on n.1 (relative, a))
+    by_own false e g =
+        let i = symbol_named r.symbol (λ i. treatments.Value h.row) h.row treated in
+        let given : stub_address l r.symbol ≡ Ok h.term = subst (λ (t : Term). term_value l r.symbol t ≡ Ok h.term) stub g in
+        referent v l w m s r ((w.base + h.term) % 2 ^ 64) (goal_given law l w m r.symbol i.0 h.term h.placed i.1 given)
+        (λ j n on. (
+          λ own. present l j (subst (λ (o : Option ℕ). is_absent l o ≡ false) n (not_own l.machine l r info e on (ap is_symbol stub) (place on))) own.1,
+          goal_stands law v l w m r j h.term h.placed (distance on which) (subst (λ (o : Option ℕ). stub_address l o ≡ Ok h.term) n given),
+        ))
+
+stub_kind : (k : RelocationKind) → (expression_of k).term ≡ term.Stub → (k ≡ kinds.PltRelative) ⊎ (k ≡ kinds.PltRelGotBase)
+stub_kind kinds.PltRelative e = inl refl
+stub_kind kinds.PltRelGotBase e = inr refl
 stub_kind other e = cc
 
-stub_here : StubsOfValuesAreRead → (v : Value) (l : Layout) (w : World) (m : Memory) (s : Item) (r : InputRelocation) (k : RelocationKind) (x : ℕ) → (h : HasTerm l w m s r k x) → named r.symbol (λ i. treatments.Value h.row) ≡ treatments.Value h.row → stub_address l r.symbol ≡ Ok h.term → IsReferent l.machine v l w m s r ((w.base + h.term) % 2 ^ 64)
-stub_here law v l w m s r k x h treated given =
-    let i = symbol_named r.symbol (λ i. treatments.Value h.row) h.row treated in
-    referent_is v l w m s r ((w.base + h.term) % 2 ^ 64) h.placed.x86 (goal_given law l w m r.symbol i.0 h.term h.placed i.1 given)
+stub_distance : StubLaws → (info : RelocationKindInfo) → info.kind ≡ kinds.PltRelative → RowGives info
+stub_distance law info kind = λ l w m s r x h f.
+    let mask = no_mask l.machine term.Stub taken.Place info.mask (subst (λ (k : RelocationKind). is_expressed l.machine (expression_of k).term (expression_of k).taken info.mask ≡ true) kind h.expressed) refl in
+    let is : value_by_row info ≡ StubDistance = value_is info kinds.PltRelative None kind mask ∙ sized_is info.size StubDistance refl in
+    let less : taken_of info.kind info.mask ≡ taken.Place = taken_is info kinds.PltRelative None kind mask in
+    let treated = subst (λ (k : RelocationKind). kind_treatment l s.flags h.number r.symbol h.row k ≡ treatments.Value h.row) kind h.treated in
+    let a = stub_refers law StubDistance l w m s r info x h (ap (λ (k : RelocationKind). (expression_of k).term) kind) treated (inl refl) (λ on. ap is_place less) in
+    let value = subst (λ (u : Taken). value_less l u h.term r.addend (place_of s.address r) ≡ x) less h.value in
+    subst (λ (v : Value). Gives v l w m s r x) (sym is) ((w.base + h.term) % 2 ^ 64, a, less_place l w m s r info x h value)
 
-stub_distance : StubsOfValuesAreRead → KindGives kinds.PltRelative
-stub_distance law = λ l w m s r x h f. ((w.base + h.term) % 2 ^ 64, stub_here law StubDistance l w m s r kinds.PltRelative x h h.treated h.given, less_place l w m s r kinds.PltRelative x h h.value)
+stub_offset : StubLaws → (info : RelocationKindInfo) → info.kind ≡ kinds.PltRelGotBase → RowGives info
+stub_offset law info kind = λ l w m s r x h f.
+    let expressed = subst (λ (k : RelocationKind). is_expressed l.machine (expression_of k).term (expression_of k).taken info.mask ≡ true) kind h.expressed in
+    let mask = no_mask l.machine term.Stub taken.Table info.mask expressed refl in
+    let x86 = of_table l.machine term.Stub (subst (λ (o : Option PageMask). is_expressed l.machine term.Stub taken.Table o ≡ true) mask expressed) in
+    let is : value_by_row info ≡ StubFromTable = value_is info kinds.PltRelGotBase None kind mask ∙ sized_is info.size StubFromTable refl in
+    let less : taken_of info.kind info.mask ≡ taken.Table = taken_is info kinds.PltRelGotBase None kind mask in
+    let treated = subst (λ (k : RelocationKind). kind_treatment l s.flags h.number r.symbol h.row k ≡ treatments.Value h.row) kind h.treated in
+    let a = stub_refers law StubFromTable l w m s r info x h (ap (λ (k : RelocationKind). (expression_of k).term) kind) treated (inr x86) (λ on. (let e : machine.AArch64 ≡ machine.X86_64 = sym on ∙ x86 in cc)) in
+    let value = subst (λ (u : Taken). value_less l u h.term r.addend (place_of s.address r) ≡ x) less h.value in
+    subst (λ (v : Value). Gives v l w m s r x) (sym is) ((w.base + h.term) % 2 ^ 64, a, less_table l w m s r info x h value)
 
-stub_offset : StubsOfValuesAreRead → KindGives kinds.PltRelGotBase
-stub_offset law = λ l w m s r x h f. ((w.base + h.term) % 2 ^ 64, stub_here law StubFromTable l w m s r kinds.PltRelGotBase x h h.treated h.given, less_table l w m s r kinds.PltRelGotBase x h h.value)
-
-stub_gives : StubsOfValuesAreRead → (u : Taken) → KindGives (stub_less u)
-stub_gives law less.Nothing = stub_distance law
-stub_gives law less.Place = stub_distance law
-stub_gives law less.Table = stub_offset law
-stub_gives law less.PagePlace = stub_distance law
-stub_gives law less.PageTable = stub_distance law
-
-pub stubs_give : StubsOfValuesAreRead → TermGives term.Stub
-stubs_give law = λ k e v. subst KindGives (sym (stub_kind k e)) (stub_gives law (expression_of k).taken)
+pub stubs_give : StubLaws → TermGives term.Stub
+stubs_give law = λ info e v. by_kind law info (stub_kind info.kind e)
+  where
+    by_kind : StubLaws → (info : RelocationKindInfo) → (info.kind ≡ kinds.PltRelative) ⊎ (info.kind ≡ kinds.PltRelGotBase) → RowGives info
+    by_kind law info (inl k) = stub_distance law info k
+    by_kind law info (inr k) = stub_offset law info k
 
 -- ---- G
 
@@ -111,59 +147,186 @@ slots_agree sorts.OwnPair l w m p = own_pair_slot l
 slots_agree sorts.Offset l w m p = offset_slots l p.symbols.own
 slots_agree sorts.Descriptor l w m p = descriptor_slots l p.symbols.own
 
-all_stand : StubsOfValuesAreRead → (sort : SlotSort) (l : Layout) (w : World) (m : Memory) → IsPlaced l w m → SlotsStand sort l w m
+all_stand : StubLaws → (sort : SlotSort) (l : Layout) (w : World) (m : Memory) → IsPlaced l w m → SlotsStand sort l w m
 all_stand law sorts.Address l w m p = slots_stand law l w m p
 all_stand law sorts.Pair l w m p = pairs_stand l w m p
 all_stand law sorts.OwnPair l w m p = own_pair_stands l w m p
 all_stand law sorts.Offset l w m p = offsets_stand l w m p
 all_stand law sorts.Descriptor l w m p = descriptors_stand l w m p
 
-slot_here : StubsOfValuesAreRead → (sort : SlotSort) (l : Layout) (w : World) (m : Memory) (s : Item) (r : InputRelocation) (k : RelocationKind) (x : ℕ) → (h : HasTerm l w m s r k x) → named r.symbol (λ i. treatments.Value h.row) ≡ treatments.Value h.row → slot_address l sort r.symbol ≡ Ok h.term → IsSlot (slot_sort sort) l w m r.symbol ((w.base + h.term) % 2 ^ 64)
-slot_here law sort l w m s r k x h treated given =
-    let i = symbol_named r.symbol (λ i. treatments.Value h.row) h.row treated in
-    slot_given sort l w m r.symbol i.0 h.term (slots_agree sort l w m h.placed) (all_stand law sort l w m h.placed) i.1 given
+-- a kind of a slot needs a symbol
+slot_named : (sort : SlotSort) (k : RelocationKind) (l : Layout) (s : Item) (r : InputRelocation) (number : ℕ) (row : RelocationKindInfo) → (expression_of k).term ≡ term.Slot sort → kind_treatment l s.flags number r.symbol row k ≡ treatments.Value row → (i : ℕ) × (r.symbol ≡ Some i)
+slot_named sort k l s r number row e treated = by_symbol r.symbol refl treated
+  where
+    nameless : (k : RelocationKind) → (expression_of k).term ≡ term.Slot sort → kind_treatment l s.flags number None row k ≡ treatments.Value row → ⊥
+    nameless kinds.Got e t = cc
+    nameless kinds.GotRelative e t = cc
+    nameless kinds.GotRelGotBase e t = cc
+    nameless kinds.TlsGd e t = cc
+    nameless kinds.TlsGdGot e t = cc
+    nameless kinds.TlsLd e t = cc
+    nameless kinds.GotTpOff e t = cc
+    nameless kinds.GotTpOffGot e t = cc
+    nameless kinds.TlsDesc e t = cc
+    nameless kinds.TlsDescGot e t = cc
+    nameless other e t = cc
+
+    by_symbol : (o : Option ℕ) → r.symbol ≡ o → kind_treatment l s.flags number o row k ≡ treatments.Value row → (i : ℕ) × (r.symbol ≡ Some i)
+    by_symbol None named t = absurd (nameless k e t)
+    by_symbol (Some i) named t = (i, named)
+
+slot_here : StubLaws → (sort : SlotSort) (l : Layout) (w : World) (m : Memory) (s : Item) (r : InputRelocation) (info : RelocationKindInfo) (x : ℕ) → (h : HasTerm l w m s r info x) → (expression_of info.kind).term ≡ term.Slot sort → IsSlot (slot_sort sort) l w m r.symbol ((w.base + h.term) % 2 ^ 64)
+slot_here law sort l w m s r info x h e =
+    let i = slot_named sort info.kind l s r h.number h.row e h.treated in
+    let plain = plain_term l w m s r info x h (ap is_symbol e) in
+    slot_given sort l w m r.symbol i.0 h.term (slots_agree sort l w m h.placed) (all_stand law sort l w m h.placed) i.1 (subst (λ (t : Term). term_value l r.symbol t ≡ Ok h.term) e plain)
+
+-- on AArch64 nothing is added to it
+adds_nothing : (k : Machine) (r : InputRelocation) (info : RelocationKindInfo) (sort : SlotSort) → k ≡ machine.AArch64 → suits k r info ≡ true → (expression_of info.kind).term ≡ term.Slot sort → more r ≡ 0
+adds_nothing machine.X86_64 r info sort on h e = cc
+adds_nothing machine.AArch64 r info sort on h e =
+    let a = (and_parts (more r == 0 || not (is_slot (expression_of info.kind).term)) (not (is_none r.symbol && not (is_none info.mask))) h).0 in
+    eqb-true _ _ (first (more r == 0) (is_slot (expression_of info.kind).term) a (ap is_slot e))
+  where
+    first : (a b : Bool) → (a || not b) ≡ true → b ≡ true → a ≡ true
+    first true b h e = refl
+    first false true h e = cc
+    first false false h e = cc
+
+-- ---- what is taken
 
 -- the kind with the slot of a sort, by what is taken
-abbrev slot_less : SlotSort → Taken → RelocationKind
-slot_less sorts.Address less.Table = kinds.GotRelGotBase
-slot_less sorts.Address other = kinds.GotRelative
-slot_less sorts.Pair u = kinds.TlsGd
-slot_less sorts.OwnPair u = kinds.TlsLd
-slot_less sorts.Offset u = kinds.GotTpOff
-slot_less sorts.Descriptor u = kinds.TlsDesc
+slot_taken : (sort : SlotSort) (k : RelocationKind) → (expression_of k).term ≡ term.Slot sort → writes (expression_of k).class ≡ true → ((expression_of k).taken ≡ taken.Place) ⊎ ((sort ≡ sorts.Address) × ((expression_of k).taken ≡ taken.Table))
+slot_taken sort kinds.GotRelative e v = inl refl
+slot_taken sorts.Address kinds.GotRelGotBase e v = inr (refl, refl)
+slot_taken sort kinds.TlsGd e v = inl refl
+slot_taken sort kinds.TlsLd e v = inl refl
+slot_taken sort kinds.GotTpOff e v = inl refl
+slot_taken sort kinds.TlsDesc e v = inl refl
+slot_taken sort other e v = cc
 
-slot_kind : (sort : SlotSort) (k : RelocationKind) → (expression_of k).term ≡ term.Slot sort → writes (expression_of k).class ≡ true → k ≡ slot_less sort (expression_of k).taken
-slot_kind sorts.Address kinds.GotRelative e v = refl
-slot_kind sorts.Address kinds.GotRelGotBase e v = refl
-slot_kind sorts.Pair kinds.TlsGd e v = refl
-slot_kind sorts.OwnPair kinds.TlsLd e v = refl
-slot_kind sorts.Offset kinds.GotTpOff e v = refl
-slot_kind sorts.Descriptor kinds.TlsDesc e v = refl
-slot_kind sort other e v = cc
+-- the distance of a slot that is not taken by its page, where a descriptor's reference is no offset
+gives_slot_distance : (sort : SlotSort) (l : Layout) (w : World) (m : Memory) (s : Item) (r : InputRelocation) (x g : ℕ) → IsSlot (slot_sort sort) l w m r.symbol g → (sort ≡ sorts.Descriptor → HasOffsetMode l s → ⊥) → x ≡ (g + more r + (2 ^ 64 - place_at w s r.offset)) % 2 ^ 64 → Gives (SlotDistance (slot_sort sort)) l w m s r x
+gives_slot_distance sorts.Address l w m s r x g slot none e = (g, slot, e)
+gives_slot_distance sorts.Pair l w m s r x g slot none e = (g, slot, e)
+gives_slot_distance sorts.OwnPair l w m s r x g slot none e = (g, slot, e)
+gives_slot_distance sorts.Offset l w m s r x g slot none e = (g, slot, e)
+gives_slot_distance sorts.Descriptor l w m s r x g slot none e = (g, slot, none refl, e)
+
+-- pages move with the base
+slot_pages : (base a c p : ℕ) → base % 4096 ≡ 0 → c ≡ 0 → base + p ≤ 2 ^ 64 → ((a + c) % 2 ^ 64 / 4096 * 4096 + (2 ^ 64 - p / 4096 * 4096)) % 2 ^ 64 ≡ (page_of ((base + a) % 2 ^ 64) + (2 ^ 64 - page_of (base + p))) % 2 ^ 64
+slot_pages base a c p pages none ends = omega (arith, pages, none, ends)
+
+table_pages : (base a c g : ℕ) → base % 4096 ≡ 0 → c ≡ 0 → g < 2 ^ 64 → ((a + c) % 2 ^ 64 + (2 ^ 64 - g / 4096 * 4096)) % 2 ^ 64 ≡ ((base + a) % 2 ^ 64 + (2 ^ 64 - page_of ((base + g) % 2 ^ 64))) % 2 ^ 64
+table_pages base a c g pages none low = omega (arith, pages, none, low)
+
+-- what is taken, and the value of a slot's row
+slot_less : (info : RelocationKindInfo) (u : Taken) (mask : Option PageMask) → (expression_of info.kind).taken ≡ u → info.mask ≡ mask → taken_of info.kind info.mask ≡ paged mask u
+slot_less info u mask f g = ap (λ (y : Taken). paged info.mask y) f ∙ ap (λ (o : Option PageMask). paged o u) g
+
+slot_value : (sort : SlotSort) (info : RelocationKindInfo) (u : Taken) (mask : Option PageMask) → (expression_of info.kind).term ≡ term.Slot sort → (expression_of info.kind).taken ≡ u → info.mask ≡ mask → value_by_row info ≡ shape.sized info.size (expressed (term.Slot sort) (paged mask u))
+slot_value sort info u mask e f g = ap (λ (t : Term). shape.sized info.size (expressed t (taken_of info.kind info.mask))) e ∙ ap (λ (y : Taken). shape.sized info.size (expressed (term.Slot sort) y)) (slot_less info u mask f g)
 
 -- what is said of it
-abbrev SlotGives : SlotSort → RelocationKind → Type 0
-SlotGives sort k = (l : Layout) (w : World) (m : Memory) (s : Item) (r : InputRelocation) (x : ℕ) → HasTerm l w m s r k x → (sort ≡ sorts.Descriptor → HasOffsetMode l s → ⊥) → Gives (plain_value k) l w m s r x
+abbrev SlotGives : SlotSort → RelocationKindInfo → Type 0
+SlotGives sort info = (l : Layout) (w : World) (m : Memory) (s : Item) (r : InputRelocation) (x : ℕ) → HasTerm l w m s r info x → (sort ≡ sorts.Descriptor → HasOffsetMode l s → ⊥) → Gives (value_by_row info) l w m s r x
 
-slot_offset : StubsOfValuesAreRead → SlotGives sorts.Address kinds.GotRelGotBase
-slot_offset law = λ l w m s r x h none. ((w.base + h.term) % 2 ^ 64, slot_here law sorts.Address l w m s r kinds.GotRelGotBase x h h.treated h.given, less_table l w m s r kinds.GotRelGotBase x h h.value)
+place_given : StubLaws → (sort : SlotSort) (info : RelocationKindInfo) → (expression_of info.kind).term ≡ term.Slot sort → (expression_of info.kind).taken ≡ taken.Place → SlotGives sort info
+place_given law sort info e f = λ l w m s r x h none. by_mask law sort info e f l w m s r x h none info.mask refl (here sort info e f l.machine h.expressed)
+  where
+    here : (sort : SlotSort) (info : RelocationKindInfo) → (expression_of info.kind).term ≡ term.Slot sort → (expression_of info.kind).taken ≡ taken.Place → (k : Machine) → is_expressed k (expression_of info.kind).term (expression_of info.kind).taken info.mask ≡ true → is_expressed k (term.Slot sort) taken.Place info.mask ≡ true
+    here sort info e f k h = subst (λ (t : Term). is_expressed k t taken.Place info.mask ≡ true) e (subst (λ (u : Taken). is_expressed k (expression_of info.kind).term u info.mask ≡ true) f h)
 
-slot_distance : StubsOfValuesAreRead → SlotGives sorts.Address kinds.GotRelative
-slot_distance law = λ l w m s r x h none. ((w.base + h.term) % 2 ^ 64, slot_here law sorts.Address l w m s r kinds.GotRelative x h h.treated h.given, less_place l w m s r kinds.GotRelative x h h.value)
+    by_mask : StubLaws → (sort : SlotSort) (info : RelocationKindInfo) → (expression_of info.kind).term ≡ term.Slot sort → (expression_of info.kind).taken ≡ taken.Place → (l : Layout) (w : World) (m : Memory) (s : Item) (r : InputRelocation) (x : ℕ) → (h : HasTerm l w m s r info x) → (sort ≡ sorts.Descriptor → HasOffsetMode l s → ⊥) → (o : Option PageMask) → info.mask ≡ o → is_expressed l.machine (term.Slot sort) taken.Place o ≡ true → Gives (value_by_row info) l w m s r x
+    by_mask law sort info e f l w m s r x h none None mask fit =
+        let is = slot_value sort info taken.Place None e f mask ∙ sized_is info.size (SlotDistance (slot_sort sort)) refl in
+        let value = subst (λ (u : Taken). value_less l u h.term r.addend (place_of s.address r) ≡ x) (slot_less info taken.Place None f mask) h.value in
+        subst (λ (v : Value). Gives v l w m s r x) (sym is) (gives_slot_distance sort l w m s r x ((w.base + h.term) % 2 ^ 64) (slot_here law sort l w m s r info x h e) none (less_place l w m s r info x h value))
+    by_mask law sort info e f l w m s r x h none (Some masks.GotEntryAndPosition) mask fit =
+        let on = (with_mask l.machine (term.Slot sort) taken.Place masks.GotEntryAndPosition fit).0 in
+        let is = slot_value sort info taken.Place (Some masks.GotEntryAndPosition) e f mask ∙ sized_is info.size (SlotPageDistance (slot_sort sort)) refl in
+        let value = subst (λ (u : Taken). value_less l u h.term r.addend (place_of s.address r) ≡ x) (slot_less info taken.Place (Some masks.GotEntryAndPosition) f mask) h.value in
+        let g = (w.base + h.term) % 2 ^ 64 in
+        let pages = slot_pages w.base h.term (more r) (place_of s.address r) (paged_on l w h.placed.paged on).pages (adds_nothing l.machine r info sort on h.suited e) h.ends in
+        let at = ap (λ (p : ℕ). (page_of g + (2 ^ 64 - page_of p)) % 2 ^ 64) (sym h.place) in
+        subst (λ (v : Value). Gives v l w m s r x) (sym is) (g, slot_here law sort l w m s r info x h e, sym value ∙ pages ∙ at)
+    by_mask law sort info e f l w m s r x h none (Some masks.SymbolPlusAddendAndPosition) mask fit = (let no = (with_mask l.machine (term.Slot sort) taken.Place masks.SymbolPlusAddendAndPosition fit).1 in cc)
+    by_mask law sort info e f l w m s r x h none (Some masks.GotBase) mask fit = (let no = (with_mask l.machine (term.Slot sort) taken.Place masks.GotBase fit).1 in cc)
 
-slot_gives : StubsOfValuesAreRead → (sort : SlotSort) (u : Taken) → SlotGives sort (slot_less sort u)
-slot_gives law sorts.Address less.Table = slot_offset law
-slot_gives law sorts.Address less.Nothing = slot_distance law
-slot_gives law sorts.Address less.Place = slot_distance law
-slot_gives law sorts.Address less.PagePlace = slot_distance law
-slot_gives law sorts.Address less.PageTable = slot_distance law
-slot_gives law sorts.Pair u = λ l w m s r x h none. ((w.base + h.term) % 2 ^ 64, slot_here law sorts.Pair l w m s r kinds.TlsGd x h h.treated h.given, less_place l w m s r kinds.TlsGd x h h.value)
-slot_gives law sorts.OwnPair u = λ l w m s r x h none. ((w.base + h.term) % 2 ^ 64, slot_here law sorts.OwnPair l w m s r kinds.TlsLd x h h.treated h.given, less_place l w m s r kinds.TlsLd x h h.value)
-slot_gives law sorts.Offset u = λ l w m s r x h none. ((w.base + h.term) % 2 ^ 64, slot_here law sorts.Offset l w m s r kinds.GotTpOff x h h.treated h.given, less_place l w m s r kinds.GotTpOff x h h.value)
-slot_gives law sorts.Descriptor u = λ l w m s r x h none. ((w.base + h.term) % 2 ^ 64, slot_here law sorts.Descriptor l w m s r kinds.TlsDesc x h h.treated h.given, none refl, less_place l w m s r kinds.TlsDesc x h h.value)
+table_given : StubLaws → (info : RelocationKindInfo) → (expression_of info.kind).term ≡ term.Slot sorts.Address → (expression_of info.kind).taken ≡ taken.Table → SlotGives sorts.Address info
+table_given law info e f = λ l w m s r x h none. by_mask law info e f l w m s r x h info.mask refl (here info e f l.machine h.expressed)
+  where
+    here : (info : RelocationKindInfo) → (expression_of info.kind).term ≡ term.Slot sorts.Address → (expression_of info.kind).taken ≡ taken.Table → (k : Machine) → is_expressed k (expression_of info.kind).term (expression_of info.kind).taken info.mask ≡ true → is_expressed k (term.Slot sorts.Address) taken.Table info.mask ≡ true
+    here info e f k h = subst (λ (t : Term). is_expressed k t taken.Table info.mask ≡ true) e (subst (λ (u : Taken). is_expressed k (expression_of info.kind).term u info.mask ≡ true) f h)
 
-pub slots_give : StubsOfValuesAreRead → SlotsGive
-slots_give law = λ sort k e v. subst (SlotGives sort) (sym (slot_kind sort k e v)) (slot_gives law sort (expression_of k).taken)
+    by_mask : StubLaws → (info : RelocationKindInfo) → (expression_of info.kind).term ≡ term.Slot sorts.Address → (expression_of info.kind).taken ≡ taken.Table → (l : Layout) (w : World) (m : Memory) (s : Item) (r : InputRelocation) (x : ℕ) → (h : HasTerm l w m s r info x) → (o : Option PageMask) → info.mask ≡ o → is_expressed l.machine (term.Slot sorts.Address) taken.Table o ≡ true → Gives (value_by_row info) l w m s r x
+    by_mask law info e f l w m s r x h None mask fit =
+        let is = slot_value sorts.Address info taken.Table None e f mask ∙ sized_is info.size SlotFromTable refl in
+        let value = subst (λ (u : Taken). value_less l u h.term r.addend (place_of s.address r) ≡ x) (slot_less info taken.Table None f mask) h.value in
+        subst (λ (v : Value). Gives v l w m s r x) (sym is) ((w.base + h.term) % 2 ^ 64, slot_here law sorts.Address l w m s r info x h e, less_table l w m s r info x h value)
+    by_mask law info e f l w m s r x h (Some masks.GotBase) mask fit =
+        let on = (with_mask l.machine (term.Slot sorts.Address) taken.Table masks.GotBase fit).0 in
+        let is = slot_value sorts.Address info taken.Table (Some masks.GotBase) e f mask ∙ sized_is info.size SlotFromTablePage refl in
+        let value = subst (λ (u : Taken). value_less l u h.term r.addend (place_of s.address r) ≡ x) (slot_less info taken.Table (Some masks.GotBase) f mask) h.value in
+        let pages = table_pages w.base h.term (more r) l.got_base (paged_on l w h.placed.paged on).pages (adds_nothing l.machine r info sorts.Address on h.suited e) h.placed.got in
+        subst (λ (v : Value). Gives v l w m s r x) (sym is) ((w.base + h.term) % 2 ^ 64, slot_here law sorts.Address l w m s r info x h e, sym value ∙ pages)
+    by_mask law info e f l w m s r x h (Some masks.SymbolPlusAddendAndPosition) mask fit = (let no = (with_mask l.machine (term.Slot sorts.Address) taken.Table masks.SymbolPlusAddendAndPosition fit).1 in cc)
+    by_mask law info e f l w m s r x h (Some masks.GotEntryAndPosition) mask fit = (let no = (with_mask l.machine (term.Slot sorts.Address) taken.Table masks.GotEntryAndPosition fit).1 in cc)
+
+pub slots_give : StubLaws → SlotsGive
+slots_give law = λ sort info e v. by_taken law sort info e (slot_taken sort info.kind e v)
+  where
+    by_taken : StubLaws → (sort : SlotSort) (info : RelocationKindInfo) → (expression_of info.kind).term ≡ term.Slot sort → ((expression_of info.kind).taken ≡ taken.Place) ⊎ ((sort ≡ sorts.Address) × ((expression_of info.kind).taken ≡ taken.Table)) → SlotGives sort info
+    by_taken law sort info e (inl f) = place_given law sort info e f
+    by_taken law sort info e (inr t) = subst (λ (y : SlotSort). SlotGives y info) (sym t.0) (table_given law info (subst (λ (y : SlotSort). (expression_of info.kind).term ≡ term.Slot y) t.0 e) t.1)
+
+-- ---- the bits below a page
+
+-- of a symbol's address, or of a slot's
+part_kind : (k : RelocationKind) → (expression_of k).class ≡ class.Part → ((expression_of k).taken ≡ taken.Nothing) × (((expression_of k).term ≡ term.Symbol) ⊎ ((sort : SlotSort) × ((expression_of k).term ≡ term.Slot sort)))
+part_kind kinds.AbsoluteLowPart e = (refl, inl refl)
+part_kind kinds.Got e = (refl, inr (sorts.Address, refl))
+part_kind kinds.TlsGdGot e = (refl, inr (sorts.Pair, refl))
+part_kind kinds.GotTpOffGot e = (refl, inr (sorts.Offset, refl))
+part_kind kinds.TlsDescGot e = (refl, inr (sorts.Descriptor, refl))
+part_kind other e = cc
+
+slot_part_same : (base a c x : ℕ) → base % 4096 ≡ 0 → c ≡ 0 → (a + c) % 2 ^ 64 ≡ x → (base + a) % 2 ^ 64 % 2 ^ 64 % 4096 ≡ x % 4096
+slot_part_same base a c x pages none e = omega (arith, pages, none, e)
+
+slot_part : StubLaws → (sort : SlotSort) (info : RelocationKindInfo) → (expression_of info.kind).term ≡ term.Slot sort → (expression_of info.kind).taken ≡ taken.Nothing → (l : Layout) (w : World) (m : Memory) (s : Item) (r : InputRelocation) (x : ℕ) → l.machine ≡ machine.AArch64 → HasTerm l w m s r info x → GivesPart (value_by_row info) l w m s r x
+slot_part law sort info e f l w m s r x on h =
+    let fit = subst (λ (t : Term). is_expressed l.machine t taken.Nothing info.mask ≡ true) e (subst (λ (u : Taken). is_expressed l.machine (expression_of info.kind).term u info.mask ≡ true) f h.expressed) in
+    let mask = no_mask l.machine (term.Slot sort) taken.Nothing info.mask fit refl in
+    let is = slot_value sort info taken.Nothing None e f mask ∙ sized_is info.size (SlotAddress (slot_sort sort)) refl in
+    let value : (h.term + more r) % 2 ^ 64 ≡ x = subst (λ (u : Taken). value_less l u h.term r.addend (place_of s.address r) ≡ x) (slot_less info taken.Nothing None f mask) h.value in
+    let g = (w.base + h.term) % 2 ^ 64 in
+    let gives : Gives (SlotAddress (slot_sort sort)) l w m s r (g % 2 ^ 64) = (g, slot_here law sort l w m s r info x h e, refl) in
+    (g % 2 ^ 64, subst (λ (v : Value). Gives v l w m s r (g % 2 ^ 64)) (sym is) gives, slot_part_same w.base h.term (more r) x (paged_on l w h.placed.paged on).pages (adds_nothing l.machine r info sort on h.suited e) value)
+
+pub parts_give : StubLaws → PartsGive
+parts_give law = λ info c l w m s r x on h f. by_term law info (part_kind info.kind c).0 (part_kind info.kind c).1 l w m s r x on h f
+  where
+    by_term : StubLaws → (info : RelocationKindInfo) → (expression_of info.kind).taken ≡ taken.Nothing → ((expression_of info.kind).term ≡ term.Symbol) ⊎ ((sort : SlotSort) × ((expression_of info.kind).term ≡ term.Slot sort)) → (l : Layout) (w : World) (m : Memory) (s : Item) (r : InputRelocation) (x : ℕ) → l.machine ≡ machine.AArch64 → HasTerm l w m s r info x → IsFollowed l r (value_by_row info) → GivesPart (value_by_row info) l w m s r x
+    by_term law info nothing (inl symbol) l w m s r x on h f = gives_part law info symbol nothing l w m s r x (paged_on l w h.placed.paged on).pages h f
+    by_term law info nothing (inr slot) l w m s r x on h f = slot_part law slot.0 info slot.1 nothing l w m s r x on h
+
+-- with the output's own symbol it is its address; a slot takes none
+no_slot : (sort : SlotSort) (info : RelocationKindInfo) → (expression_of info.kind).term ≡ term.Slot sort → (expression_of info.kind).taken ≡ taken.Nothing → info.mask ≡ None → TakesOffset (value_by_row info) ⊎ TakesAddress (value_by_row info) → ⊥
+no_slot sort info e f mask takes = neither (subst (λ (v : Value). TakesOffset v ⊎ TakesAddress v) (slot_value sort info taken.Nothing None e f mask ∙ sized_is info.size (SlotAddress (slot_sort sort)) refl) takes)
+  where
+    neither : TakesOffset (SlotAddress (slot_sort sort)) ⊎ TakesAddress (SlotAddress (slot_sort sort)) → ⊥
+    neither (inl o) = o
+    neither (inr a) = a
+
+pub parts_link : StubLaws → PartsGiveLinked
+parts_link law = λ info c l w m s r x i h zero named alone takes. by_term law info (part_kind info.kind c).0 (part_kind info.kind c).1 l w m s r x i h zero named alone takes
+  where
+    by_term : StubLaws → (info : RelocationKindInfo) → (expression_of info.kind).taken ≡ taken.Nothing → ((expression_of info.kind).term ≡ term.Symbol) ⊎ ((sort : SlotSort) × ((expression_of info.kind).term ≡ term.Slot sort)) → (l : Layout) (w : World) (m : Memory) (s : Item) (r : InputRelocation) (x i : ℕ) → HasTerm l w m s r info x → w.base ≡ 0 → r.symbol ≡ Some i → (IsStubbed l i → ⊥) ⊎ TakesOffset (value_by_row info) → TakesOffset (value_by_row info) ⊎ TakesAddress (value_by_row info) → GivesLinked (value_by_row info) l w s r x
+    by_term law info nothing (inl symbol) l w m s r x i h zero named alone takes = links_address law info symbol nothing l w m s r x i h zero named alone
+    by_term law info nothing (inr slot) l w m s r x i h zero named alone takes =
+        let fit = subst (λ (t : Term). is_expressed l.machine t taken.Nothing info.mask ≡ true) slot.1 (subst (λ (u : Taken). is_expressed l.machine (expression_of info.kind).term u info.mask ≡ true) nothing h.expressed) in
+        absurd (no_slot slot.0 info slot.1 nothing (no_mask l.machine (term.Slot slot.0) taken.Nothing info.mask fit refl) takes)
 
 -- ---- the other terms
 
@@ -183,26 +346,20 @@ module_kind : (k : RelocationKind) → (expression_of k).term ≡ term.ModuleOff
 module_kind kinds.DtpOff e = refl
 module_kind other e = cc
 
-of_table : KindGives kinds.GotBaseRelative
-of_table = λ l w m s r x h f. gives_table l w m s r x h
-
-of_size : KindGives kinds.SymbolSize
-of_size = λ l w m s r x h f. gives_size l w m s r x h
-
 pub table_gives : TermGives term.Table
-table_gives = λ k e v. subst KindGives (sym (table_kind k e)) of_table
+table_gives = λ info e v. gives_table info (table_kind info.kind e)
 
 pub sizes_give : TermGives term.Size
-sizes_give = λ k e v. subst KindGives (sym (size_kind k e)) of_size
+sizes_give = λ info e v. gives_size info (size_kind info.kind e)
 
 pub pointers_give : TermGives term.PointerOffset
-pointers_give = λ k e v. subst KindGives (sym (pointer_kind k e)) gives_pointer
+pointers_give = λ info e v. gives_pointer info (pointer_kind info.kind e)
 
 pub pointers_link : TermGivesLinked term.PointerOffset
-pointers_link = λ k e v. subst KindGivesLinked (sym (pointer_kind k e)) links_pointer
+pointers_link = λ info e v. links_pointer info (pointer_kind info.kind e)
 
 pub modules_give : TermGives term.ModuleOffset
-modules_give = λ k e v. subst KindGives (sym (module_kind k e)) gives_offset
+modules_give = λ info e v. gives_offset info (module_kind info.kind e)
 
 pub modules_link : TermGivesLinked term.ModuleOffset
-modules_link = λ k e v. subst KindGivesLinked (sym (module_kind k e)) links_offset
+modules_link = λ info e v. links_offset info (module_kind info.kind e)

@@ -4,6 +4,8 @@ use Rattle.std.specs.Prelude.{◌||◌, if◌then◌else◌}
 use Rattle.std.specs.Int.{w64, cast_unsigned}
 use Rattle.std.proofs.lemmas.Bool.{or_left}
 use Rattle.wild_reloc.specs.declared.dynamic.DynamicRelocationKind.TheVariants.{DtpMod}
+use Rattle.wild_types.specs.declared.kind.Machine.{Machine}
+use Rattle.wild_types.specs.declared.kind.Machine.TheVariants as machine
 use Rattle.wild_types.specs.declared.kind.OutputKind.TheVariants as output
 use Rattle.wild_slot.specs.declared.slot.SlotEntry.{SlotEntry}
 use Rattle.wild_slot.specs.declared.slot.SlotWord.{SlotWord}
@@ -26,7 +28,7 @@ use Rattle.wild_meaning.specs.Thread as judge
 use Rattle.wild_meaning.specs.World.{IsExecutable}
 use Rattle.wild_meaning.proofs.WorldLemmas.{distance_known, word_below, next_word}
 use Rattle.wild_meaning.proofs.OutputLemmas.{executable_is}
-use Rattle.wild_references.specs.Terms.{IsPlaced}
+use Rattle.wild_references.specs.Terms.{MovesByPages, IsPlaced}
 use Rattle.wild_references.proofs.EntryWords.{own_module_filled}
 use Rattle.wild_references.proofs.FirstSlots.{thread_held}
 use Rattle.wild_references.proofs.OutputKinds.{loadable_cases}
@@ -101,27 +103,27 @@ own_pair_at l w m i at h = record { holds = h.pair; below = word_below m (w.base
 program_same : (d pointer tp start : ℕ) → (pointer + d) % 2 ^ 64 ≡ start → pointer % 2 ^ 64 ≡ tp → 0 ≡ (d + (tp + (2 ^ 64 - start)) % 2 ^ 64) % 2 ^ 64
 program_same d pointer tp start begins same = omega (arith, begins, same)
 
-program_pair : (l : Layout) (w : World) (m : Memory) (at : ℕ) → IsPlaced l w m → IsExecutable l.kind → HasWords w m at (Number 1 ∷ Number (less (thread_pointer l.machine l.tls) l.tls.start) ∷ []) → HasOwnPair l w m at
-program_pair l w m at p program h =
+program_pair : (l : Layout) (w : World) (m : Memory) (at : ℕ) → IsPlaced l w m → l.machine ≡ machine.X86_64 → IsExecutable l.kind → HasWords w m at (Number 1 ∷ Number (less (thread_pointer l.machine l.tls) l.tls.start) ∷ []) → HasOwnPair l w m at
+program_pair l w m at p x86 program h =
     let n = less (thread_pointer l.machine l.tls) l.tls.start in
     let f = p.legal.first program in
     let a = word_first w m at (Number 1) (Number n ∷ []) h in
     let b = word_first w m (at + 8) (Number n) [] (words_behind w m at (Number 1) (Number n ∷ []) h) in
     let dist = cast_unsigned w64 f.distance in
     let words : HasPairWords w m at w.own_module n = record { first = subst (λ (k : ℕ). HasWord m (w.base + at) k) (a.2 ∙ sym f.own) a.1; second = subst (λ (k : ℕ). HasWord m (w.base + at + 8) k) b.2 (next_word w m at b.0 b.1) } in
-    let zero = program_same dist (judge.thread_pointer l) (thread_pointer l.machine l.tls) l.tls.start f.is.begins (pointer_same l p.x86 p.tls_end) in
+    let zero = program_same dist (judge.thread_pointer l) (thread_pointer l.machine l.tls) l.tls.start f.is.begins (pointer_same l w p.paged p.tls_end) in
     record {
       owner = w.own_module;
       first = words.first;
-      pair = record { begin = 0; counted = own_base l.machine l.kind w p.x86 program; pair = subst (λ (k : ℕ). IsPair w m (w.base + at) k) (sym zero) (pair_is w m at w.own_module n dist (own_distance l w f) words) };
+      pair = record { begin = 0; counted = own_base l.machine l.kind w x86 program; pair = subst (λ (k : ℕ). IsPair w m (w.base + at) k) (sym zero) (pair_is w m at w.own_module n dist (own_distance l w f) words) };
     }
 
 -- a library's from its data
 library_same : (d : ℕ) → d < 2 ^ 64 → (d + 0) % 2 ^ 64 ≡ d
 library_same d low = omega (arith, low)
 
-library_pair : (l : Layout) (w : World) (m : Memory) (at : ℕ) → IsPlaced l w m → l.kind ≡ output.SharedObject → HasWords w m at (General (record { kind = DtpMod; symbol = 0; addend = 0 }) ∷ Number 0 ∷ []) → HasOwnPair l w m at
-library_pair l w m at p library h =
+library_pair : (l : Layout) (w : World) (m : Memory) (at : ℕ) → IsPlaced l w m → l.machine ≡ machine.X86_64 → l.kind ≡ output.SharedObject → HasWords w m at (General (record { kind = DtpMod; symbol = 0; addend = 0 }) ∷ Number 0 ∷ []) → HasOwnPair l w m at
+library_pair l w m at p x86 library h =
     let e : SlotEntry = record { kind = DtpMod; symbol = 0; addend = 0 } in
     let a = word_first w m at (General e) (Number 0 ∷ []) h in
     let b = word_first w m (at + 8) (Number 0) [] (words_behind w m at (General e) (Number 0 ∷ []) h) in
@@ -132,14 +134,22 @@ library_pair l w m at p library h =
     record {
       owner = w.own_module;
       first = words.first;
-      pair = record { begin = dist; counted = library_base l.machine l.kind w dist p.x86 library known; pair = subst (λ (n : ℕ). IsPair w m (w.base + at) n) (library_same dist (distance_below w w.own_module k)) (pair_is w m at w.own_module 0 dist known words) };
+      pair = record { begin = dist; counted = library_base l.machine l.kind w dist x86 library known; pair = subst (λ (n : ℕ). IsPair w m (w.base + at) n) (library_same dist (distance_below w w.own_module k)) (pair_is w m at w.own_module 0 dist known words) };
     }
 
+-- which AArch64 outputs have none of
 pub own_pair_stands : (l : Layout) (w : World) (m : Memory) → IsPlaced l w m → SlotsStand sorts.OwnPair l w m
-own_pair_stands l w m p = λ i at e.
-    let same : storage_words l ≡ storage_pair (setting_of l) = ap (storage_at (setting_of l)) e in
-    let there = subst (λ (ws : List SlotWord). HasWords w m at ws) same (p.slots.pair at e) in
-    own_pair_at l w m i at (elim (loadable_cases l.kind p.loadable) [
-      | inl program ↦ program_pair l w m at p program (rw (executable_is l.kind program) at there)
-      | inr library ↦ library_pair l w m at p library (rw library at there)
-    ])
+own_pair_stands l w m p = λ i at e. by_machine i at e l.machine refl p.paged
+  where
+    on_x86_64 : (i at : ℕ) → l.tlsld ≡ Some at → l.machine ≡ machine.X86_64 → SlotStands OwnModulePair l w m i at
+    on_x86_64 i at e x86 =
+        let same : storage_words l ≡ storage_pair (setting_of l) = ap (storage_at (setting_of l)) e in
+        let there = subst (λ (ws : List SlotWord). HasWords w m at ws) same (p.slots.pair at e) in
+        own_pair_at l w m i at (elim (loadable_cases l.kind p.loadable) [
+          | inl program ↦ program_pair l w m at p x86 program (rw (executable_is l.kind program) at there)
+          | inr library ↦ library_pair l w m at p x86 library (rw library at there)
+        ])
+
+    by_machine : (i at : ℕ) → l.tlsld ≡ Some at → (k : Machine) → l.machine ≡ k → MovesByPages k l w → SlotStands OwnModulePair l w m i at
+    by_machine i at e machine.X86_64 is h = on_x86_64 i at e is
+    by_machine i at e machine.AArch64 is h = (let none = h.single in let both : None ≡ Some at = sym none ∙ e in cc)

@@ -63,7 +63,7 @@ program_offset : (l : Layout) (w : World) (m : Memory) (i t : ℕ) (r : Resoluti
 program_offset l w m i t r p d program e =
     let f = p.legal.first (is_program l.kind program) in
     let place = cast_unsigned w64 f.distance + r.raw_value + (2 ^ 64 - l.tls.start) in
-    let same = offset_same place r.raw_value (thread_pointer l.machine l.tls) (judge.thread_pointer l % 2 ^ 64) (thread_sum l w r.raw_value 0 f) (pointer_same l p.x86 p.tls_end) in
+    let same = offset_same place r.raw_value (thread_pointer l.machine l.tls) (judge.thread_pointer l % 2 ^ 64) (thread_sum l w r.raw_value 0 f) (pointer_same l w p.paged p.tls_end) in
     inl (subst (λ (n : ℕ). judge.IsThreadPlace l w i n) (sym (e ∙ same)) (thread_place l w i r.raw_value f (resolved_raw l i r d)))
 
 -- a library's own is its place in the module's data

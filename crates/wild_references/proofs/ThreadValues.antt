@@ -17,7 +17,8 @@ use Rattle.wild_meaning.specs.Value.{HasRaw}
 use Rattle.wild_meaning.specs.Thread.{thread_pointer_of, thread_pointer, HasDistance, IsThreadPlace, IsOffsetBase}
 use Rattle.wild_meaning.specs.World.{first_module, IsExecutable, IsFirstModule, IsKnownModule}
 use Rattle.wild_meaning.proofs.WorldLemmas.{first_filtered}
-use Rattle.wild_geometry.proofs.MachineLemmas.{rounded_same}
+use Rattle.wild_geometry.proofs.MachineLemmas.{rounded_same, facts_of}
+use Rattle.wild_references.specs.Terms.{MovesByPages}
 
 -- so that the world has the distance of its module
 found : (w : World) (m : ℕ) (d : ℤ) → first_value w.modules m ≡ Some d → distance_of w m ≡ Ok (cast_unsigned w64 d)
@@ -51,8 +52,12 @@ thread_sum l w raw a f = by_numbers (cast_unsigned w64 f.distance) (thread_point
 -- ---- the thread pointer
 
 -- the writer's number is the reader's, modulo 2^64
-pub pointer_same : (l : Layout) → l.machine ≡ machine.X86_64 → l.tls.end < 2 ^ 64 → thread_pointer l % 2 ^ 64 ≡ storage.thread_pointer l.machine l.tls
-pointer_same l x86 low = subst (λ (m : Machine). thread_pointer_of m l.tls % 2 ^ 64 ≡ storage.thread_pointer m l.tls) (sym x86) (rounded_same l.tls.end l.tls.align low)
+pub pointer_same : (l : Layout) (w : World) → MovesByPages l.machine l w → l.tls.end < 2 ^ 64 → thread_pointer l % 2 ^ 64 ≡ storage.thread_pointer l.machine l.tls
+pointer_same l w paged low = by_machine l.machine paged
+  where
+    by_machine : (k : Machine) → MovesByPages k l w → thread_pointer_of k l.tls % 2 ^ 64 ≡ storage.thread_pointer k l.tls
+    by_machine machine.X86_64 h = rounded_same l.tls.end l.tls.align low
+    by_machine machine.AArch64 h = (facts_of machine.AArch64).pointer l.tls low h.block
 
 -- offsets in an x86-64 executable's data count from the thread pointer
 pub own_base : (m : Machine) (k : OutputKind) (w : World) → m ≡ machine.X86_64 → IsExecutable k → IsOffsetBase m k w 0
@@ -64,6 +69,13 @@ own_base m k w x e = subst (λ (n : Machine). IsOffsetBase n k w 0) (sym x) (by_
     by_kind output.SharedObject h = absurd h
     by_kind output.PartialObject h = absurd h
 
--- and those of a library from its own data
+-- those of a library from its own data
 pub library_base : (m : Machine) (k : OutputKind) (w : World) (d : ℕ) → m ≡ machine.X86_64 → k ≡ output.SharedObject → HasDistance w d → IsOffsetBase m k w d
 library_base m k w d x e h = subst (λ (n : Machine). IsOffsetBase n k w d) (sym x) (subst (λ (j : OutputKind). IsOffsetBase machine.X86_64 j w d) (sym e) h)
+
+-- and so do those of any AArch64 output
+pub data_base : (k : OutputKind) (w : World) (d : ℕ) → HasDistance w d → IsOffsetBase machine.AArch64 k w d
+data_base (output.StaticExecutable any) w d h = h
+data_base (output.DynamicExecutable any) w d h = h
+data_base output.SharedObject w d h = h
+data_base output.PartialObject w d h = h

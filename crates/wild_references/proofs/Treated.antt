@@ -24,6 +24,15 @@ treated_by l s r row t known is some = by_row (suits l.machine r row) (rw known 
     by_row true h = h
     by_row false h = absurd (some h)
 
+-- so the row takes them
+pub suits_by : (l : Layout) (s : Item) (r : InputRelocation) (row : RelocationKindInfo) (t : Treatment) → row_of l.machine r.number ≡ Some row → treatment l s.flags r ≡ t → (treatments.Unsupported ≡ t → ⊥) → suits l.machine r row ≡ true
+unfolding treatment row_treatment
+suits_by l s r row t known is some = by_row (suits l.machine r row) (rw known at is)
+  where
+    by_row : (b : Bool) → row_treatment l s.flags r.number r.symbol (if b then Some row else None) ≡ t → b ≡ true
+    by_row true h = refl
+    by_row false h = absurd (some h)
+
 -- ---- symbols
 
 -- a value that needs a symbol has one

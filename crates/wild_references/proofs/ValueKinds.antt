@@ -1,9 +1,10 @@
--- The value that a relocation writes is what its expression gives, kind by kind.
-use Rattle.std.proofs.Common.{◌≡◌, ℕ, ◌+◌, ◌-◌, ◌%◌, ◌^◌, ◌⊎◌, inl, inr, Bool, true, false, refl, sym, ap, ◌∙◌, subst}
-use Rattle.std.specs.Prelude.{Option, Some, None, Ok, not, ◌&&◌, ◌||◌}
+-- The value that a relocation writes is what its expression gives, of S and of numbers.
+use Rattle.std.proofs.Common.{◌≡◌, ℕ, ◌+◌, ◌-◌, ◌*◌, ◌/◌, ◌%◌, ◌^◌, ◌≤◌, ◌⊎◌, inl, inr, Bool, true, false, refl, sym, ap, ◌∙◌, arith, subst}
+use Rattle.std.specs.Prelude.{Option, Some, None, Ok, not, ◌&&◌, ◌||◌, if◌then◌else◌}
 use Rattle.std.specs.Int.{w64, cast_unsigned}
 use Rattle.std.proofs.lemmas.Bool.{cases_Bool}
 use Rattle.wild_words.proofs.Basics.{slice_get_inside}
+use Rattle.wild_types.specs.declared.kind.Machine.{Machine}
 use Rattle.wild_types.specs.declared.kind.Machine.TheVariants as machine
 use Rattle.wild_types.specs.declared.input.InputRelocation.{InputRelocation}
 use Rattle.wild_types.specs.declared.layout.Layout.{Layout}
@@ -14,135 +15,300 @@ use Rattle.wild_types.specs.Flags.{has_flag, interposable, dynamic, non_interpos
 use Rattle.wild_types.specs.Kinds.{is_position_independent, is_shared_object}
 use Rattle.wild_types.specs.Lookups.{place_of, allocated}
 use Rattle.wild_slot.specs.Treatment.{flags_at, is_sized, where_there, address_treatment, size_treatment, kind_treatment}
-use Rattle.wild_reloc.specs.Agreement.{plain_value}
-use Rattle.wild_reloc.specs.Formula.{Value, SymbolAddress, Distance, FromTable}
+use Rattle.wild_reloc.specs.Agreement as shape
+use Rattle.wild_reloc.specs.Agreement.{value_of}
+use Rattle.wild_reloc.specs.Expression.{expression_of, paged, taken_of, expressed}
+use Rattle.wild_reloc.specs.Formula.{Value, SymbolAddress, Distance, PageDistance, FromTable, TableDistance, Size}
+use Rattle.wild_reloc.specs.declared.expression.Term.{Term}
+use Rattle.wild_reloc.specs.declared.expression.Term.TheVariants as term
+use Rattle.wild_reloc.specs.declared.expression.Taken.{Taken}
+use Rattle.wild_reloc.specs.declared.expression.Taken.TheVariants as taken
+use Rattle.wild_reloc.specs.declared.info.PageMask.{PageMask}
+use Rattle.wild_reloc.specs.declared.info.PageMask.TheVariants as masks
 use Rattle.wild_reloc.specs.declared.info.RelocationKind.{RelocationKind}
 use Rattle.wild_reloc.specs.declared.info.RelocationKind.TheVariants as kinds
+use Rattle.wild_reloc.specs.declared.info.RelocationKindInfo.{RelocationKindInfo}
+use Rattle.wild_reloc.specs.declared.info.RelocationSize.{RelocationSize}
+use Rattle.wild_reloc.specs.declared.info.RelocationSize.TheVariants.{ByteSize, BitMasking}
 use Rattle.wild_layout.specs.SymbolValues.{symbol_size}
-use Rattle.wild_layout.specs.SlotValues.{address_of}
-use Rattle.wild_layout.specs.Values.{term_of}
-use Rattle.wild_loader.specs.StepLaws.{StubsOfValuesAreRead}
+use Rattle.wild_layout.specs.Values.{term_of, term_at, value_less, is_symbol, is_own_place, undefined_weak_target}
 use Rattle.wild_loader.specs.declared.world.World.{World}
 use Rattle.wild_loader.specs.declared.memory.Memory.{Memory}
 use Rattle.wild_meaning.specs.Value.{IsSymbol, IsReplaceable, HasOwnSize, moved}
 use Rattle.wild_types.specs.Item.{Item}
-use Rattle.wild_meaning.specs.Formula.{IsSum, IsExtent, Gives, IsOwnTarget, IsOwnSum, GivesLinked, IsPlaceRelative, TakesAddress, TakesOffset, table_at}
+use Rattle.wild_meaning.specs.Formula.{page_of, IsSum, IsExtent, Gives, IsOwnSum, GivesLinked, IsPlaceRelative, TakesAddress, TakesOffset, table_at}
 use Rattle.wild_meaning.specs.Reference.{IsStubbed}
-use Rattle.wild_meaning.proofs.SymbolLemmas.{referent_is, own_referent_is}
 use Rattle.wild_references.proofs.OutputKinds.{library_is}
 use Rattle.wild_references.proofs.SlotFlags.{symbol_fits, dynamic_interposable, listed_at}
 use Rattle.wild_references.proofs.Symbols.{sized, replaceable_at, flags_are, definition_there}
-use Rattle.wild_references.proofs.Targets.{IsAddressed, IsOwnAddressed, Follows, addressed, linked}
 use Rattle.wild_references.proofs.Moves.{sum_is, distance_is, table_is, moved_distance}
 use Rattle.wild_references.proofs.Treated.{symbol_named, address_still, distance_still, size_kept, peeled}
-use Rattle.wild_references.specs.Terms.{IsPlaced, HasTerm, IsFollowed}
+use Rattle.wild_references.proofs.StubCode.{StubLaws, paged_on}
+use Rattle.wild_references.proofs.Referents.{no_mask, with_mask, sized_is, own_parts, Refers, OwnRefers, symbol_value, refers, own_refers}
+use Rattle.wild_references.specs.Terms.{IsPlaced, is_expressed, value_by_row, HasTerm, IsFollowed}
+use Rattle.wild_references.specs.Laws.{RowGives, RowGivesLinked, GivesPart}
 
 -- A as it is added
 abbrev pub more : InputRelocation → ℕ
 more r = cast_unsigned w64 r.addend
 
--- an expression that takes the symbol's address, and no offset, is right whichever module has it
-pub follows : (l : Layout) (r : InputRelocation) (k : RelocationKind) → TakesAddress (plain_value k) → IsFollowed l r k → (i : ℕ) → r.symbol ≡ Some i → Follows l i
-follows l r k takes f i named = by_case (f i named)
+-- ---- rows
+
+-- the value of a row of a kind, with a mask
+pub value_is : (info : RelocationKindInfo) (k : RelocationKind) (mask : Option PageMask) → info.kind ≡ k → info.mask ≡ mask → value_by_row info ≡ value_of k mask info.size
+value_is info k mask e f = ap (λ (j : RelocationKind). value_of j info.mask info.size) e ∙ ap (λ (o : Option PageMask). value_of k o info.size) f
+
+pub taken_is : (info : RelocationKindInfo) (k : RelocationKind) (mask : Option PageMask) → info.kind ≡ k → info.mask ≡ mask → taken_of info.kind info.mask ≡ taken_of k mask
+taken_is info k mask e f = ap (λ (j : RelocationKind). taken_of j info.mask) e ∙ ap (λ (o : Option PageMask). taken_of k o) f
+
+-- a term that is neither S nor L is no place
+pub plain_given : (l : Layout) (r : InputRelocation) (info : RelocationKindInfo) (p term : ℕ) → term_at l r info p ≡ Ok term → is_symbol (expression_of info.kind).term ≡ false → term_of l r.symbol info.kind ≡ Ok term
+plain_given l r info p term h none = by_own (is_own_place l.machine l r info) refl h
   where
-    by_case : IsReplaceable l i false ⊎ (((TakesOffset (plain_value k) → ⊥) × (TakesAddress (plain_value k) → ⊥)) ⊎ ((TakesOffset (plain_value k) → ⊥) × IsStubbed l i)) → Follows l i
-    by_case (inl own) = inl own
-    by_case (inr (inl other)) = absurd (other.1 takes)
-    by_case (inr (inr stubbed)) = inr stubbed.1
+    by_own : (b : Bool) → is_own_place l.machine l r info ≡ b → (if b then Ok (undefined_weak_target r.number p) else term_of l r.symbol info.kind) ≡ Ok term → term_of l r.symbol info.kind ≡ Ok term
+    by_own false e g = g
+    by_own true e g = (let o = own_parts l.machine l r info e in let f : true ≡ false = sym o.symbol ∙ none in cc)
 
-address_here : StubsOfValuesAreRead → (l : Layout) (w : World) (m : Memory) (s : Item) (r : InputRelocation) (k : RelocationKind) (x : ℕ) → (h : HasTerm l w m s r k x) → TakesAddress (plain_value k) → IsFollowed l r k → term_of l r.symbol k ≡ address_of l r.symbol → IsAddressed l w m r.symbol h.term
-address_here law l w m s r k x h takes f same = addressed law l w m r.symbol h.term h.placed (follows l r k takes f) (sym same ∙ h.given)
-
--- with the own symbol
-own_here : StubsOfValuesAreRead → (l : Layout) (w : World) (m : Memory) (s : Item) (r : InputRelocation) (k : RelocationKind) (x i : ℕ) → (h : HasTerm l w m s r k x) → r.symbol ≡ Some i → (TakesOffset (plain_value k) → ⊥) → (IsStubbed l i → ⊥) ⊎ TakesOffset (plain_value k) → term_of l r.symbol k ≡ address_of l r.symbol → IsOwnAddressed l w i h.term
-own_here law l w m s r k x i h named none (inr offset) same = absurd (none offset)
-own_here law l w m s r k x i h named none (inl alone) same = linked law l w m i h.term h.placed alone (subst (λ (o : Option ℕ). address_of l o ≡ Ok h.term) named (sym same ∙ h.given))
-
-own_sum : (v : Value) (l : Layout) (w : World) (s : Item) (r : InputRelocation) (i a : ℕ) → l.machine ≡ machine.X86_64 → r.symbol ≡ Some i → (t : IsOwnAddressed l w i a) → IsOwnSum v l w s r ((moved t.still w.base a + more r) % 2 ^ 64)
-own_sum v l w s r i a x named t = record { symbol = moved t.still w.base a; denoted = own_referent_is v l w s r (moved t.still w.base a) x (subst (λ (o : Option ℕ). IsOwnTarget l w o (moved t.still w.base a)) (sym named) t.value); sum = refl }
-
-sum_of : (v : Value) (l : Layout) (w : World) (m : Memory) (s : Item) (r : InputRelocation) (a : ℕ) → l.machine ≡ machine.X86_64 → (t : IsAddressed l w m r.symbol a) → IsSum v l w m s r ((moved t.still w.base a + more r) % 2 ^ 64)
-sum_of v l w m s r a x t = record { symbol = moved t.still w.base a; denoted = referent_is v l w m s r (moved t.still w.base a) x t.denoted; sum = refl }
+pub plain_term : (l : Layout) (w : World) (m : Memory) (s : Item) (r : InputRelocation) (info : RelocationKindInfo) (x : ℕ) → (h : HasTerm l w m s r info x) → is_symbol (expression_of info.kind).term ≡ false → term_of l r.symbol info.kind ≡ Ok h.term
+plain_term l w m s r info x h none = plain_given l r info (place_of s.address r) h.term h.given none
 
 -- ---- S + A
 
-right_sum : (l : Layout) (w : World) (m : Memory) (s : Item) (r : InputRelocation) (x : ℕ) → (h : HasTerm l w m s r kinds.Absolute x) → (t : IsAddressed l w m r.symbol h.term) → (w.base ≡ 0) ⊎ (t.still ≡ true)
-right_sum l w m s r x h t =
-    let i = symbol_named r.symbol (λ k. where_there l h.row k (address_treatment l s.flags h.number h.row k)) h.row h.treated in
+-- a value that does not move is right
+right_sum : (l : Layout) (w : World) (m : Memory) (s : Item) (r : InputRelocation) (info : RelocationKindInfo) (x : ℕ) → (h : HasTerm l w m s r info x) → info.kind ≡ kinds.Absolute → (IsPlaceRelative (value_by_row info) → ⊥) → (t : Refers (value_by_row info) l w m s r h.term) → (w.base ≡ 0) ⊎ (t.still ≡ true)
+right_sum l w m s r info x h kind none t =
+    let treated = subst (λ (k : RelocationKind). kind_treatment l s.flags h.number r.symbol h.row k ≡ treatments.Value h.row) kind h.treated in
+    let i = symbol_named r.symbol (λ k. where_there l h.row k (address_treatment l s.flags h.number h.row k)) h.row treated in
     elim (address_still l s h.number h.row i.0 h.room (peeled l h.row i.0 (address_treatment l s.flags h.number h.row i.0) (treatments.Value h.row) (definition_there l i.0 h.placed.symbols.named (h.listed i.0 i.1)) i.2)) [
       | inl fixed ↦ inl (h.placed.still fixed)
-      | inr flag ↦ inr (sym (t.flag i.0 i.1) ∙ flag)
+      | inr flag ↦ inr (sym (t.flag none i.0 i.1) ∙ flag)
     ]
 
-pub gives_sum : StubsOfValuesAreRead → (l : Layout) (w : World) (m : Memory) (s : Item) (r : InputRelocation) (x : ℕ) → HasTerm l w m s r kinds.Absolute x → IsFollowed l r kinds.Absolute → IsSum SymbolAddress l w m s r x
-gives_sum law l w m s r x h f =
-    let t = address_here law l w m s r kinds.Absolute x h tt f refl in
-    let e = sum_is t.still w.base h.term (more r) (right_sum l w m s r x h t) in
-    subst (λ (n : ℕ). IsSum SymbolAddress l w m s r n) (sym e ∙ h.value) (sum_of SymbolAddress l w m s r h.term h.placed.x86 t)
+-- of an address, or a part of one
+takes_address : (z : RelocationSize) → TakesAddress (shape.sized z SymbolAddress)
+takes_address (ByteSize n) = tt
+takes_address (BitMasking bits) = tt
+
+not_relative : (z : RelocationSize) → IsPlaceRelative (shape.sized z SymbolAddress) → ⊥
+not_relative (ByteSize n) h = h
+not_relative (BitMasking bits) h = h
+
+gives_of_sum : (z : RelocationSize) (l : Layout) (w : World) (m : Memory) (s : Item) (r : InputRelocation) (x : ℕ) → IsSum (shape.sized z SymbolAddress) l w m s r x → Gives (shape.sized z SymbolAddress) l w m s r x
+gives_of_sum (ByteSize n) l w m s r x h = h
+gives_of_sum (BitMasking bits) l w m s r x h = h
+
+links_of_sum : (z : RelocationSize) (l : Layout) (w : World) (s : Item) (r : InputRelocation) (x : ℕ) → IsOwnSum (shape.sized z SymbolAddress) l w s r x → GivesLinked (shape.sized z SymbolAddress) l w s r x
+links_of_sum (ByteSize n) l w s r x h = h
+links_of_sum (BitMasking bits) l w s r x h = h
+
+sum_of : (v : Value) (l : Layout) (w : World) (m : Memory) (s : Item) (r : InputRelocation) (a : ℕ) → (t : Refers v l w m s r a) → IsSum v l w m s r ((moved t.still w.base a + more r) % 2 ^ 64)
+sum_of v l w m s r a t = record { symbol = moved t.still w.base a; denoted = t.referent; sum = refl }
+
+own_sum : (v : Value) (l : Layout) (w : World) (s : Item) (r : InputRelocation) (a : ℕ) → (t : OwnRefers v l w s r a) → IsOwnSum v l w s r ((moved t.still w.base a + more r) % 2 ^ 64)
+own_sum v l w s r a t = record { symbol = moved t.still w.base a; denoted = t.referent; sum = refl }
+
+-- what a row says of S + A itself
+record IsAddressRow (l : Layout) (w : World) (m : Memory) (s : Item) (r : InputRelocation) (info : RelocationKindInfo) (x term : ℕ) : Type 0 where
+  value : value_by_row info ≡ shape.sized info.size SymbolAddress
+  sum : (term + more r) % 2 ^ 64 ≡ x
+
+address_row : (l : Layout) (w : World) (m : Memory) (s : Item) (r : InputRelocation) (info : RelocationKindInfo) (x : ℕ) → (h : HasTerm l w m s r info x) → (expression_of info.kind).term ≡ term.Symbol → (expression_of info.kind).taken ≡ taken.Nothing → IsAddressRow l w m s r info x h.term
+address_row l w m s r info x h symbol nothing =
+    let expressed = subst (λ (u : Taken). is_expressed l.machine (expression_of info.kind).term u info.mask ≡ true) nothing h.expressed in
+    let mask = no_mask l.machine term.Symbol taken.Nothing info.mask (subst (λ (t : Term). is_expressed l.machine t taken.Nothing info.mask ≡ true) symbol expressed) refl in
+    let less : taken_of info.kind info.mask ≡ taken.Nothing = ap (λ (o : Option PageMask). paged o (expression_of info.kind).taken) mask ∙ nothing in
+    record {
+      value = symbol_value info symbol ∙ ap (λ (u : Taken). shape.sized info.size (expressed term.Symbol u)) less;
+      sum = subst (λ (u : Taken). value_less l u h.term r.addend (place_of s.address r) ≡ x) less h.value;
+    }
+
+pub gives_sum : StubLaws → (info : RelocationKindInfo) → info.kind ≡ kinds.Absolute → RowGives info
+gives_sum law info kind = λ l w m s r x h f.
+    let symbol : (expression_of info.kind).term ≡ term.Symbol = ap (λ (k : RelocationKind). (expression_of k).term) kind in
+    let a = address_row l w m s r info x h symbol (ap (λ (k : RelocationKind). (expression_of k).taken) kind) in
+    let takes = subst TakesAddress (sym a.value) (takes_address info.size) in
+    let t = refers law l w m s r info x h symbol takes f in
+    let e = sum_is t.still w.base h.term (more r) (right_sum l w m s r info x h kind (λ p. not_relative info.size (subst IsPlaceRelative a.value p)) t) in
+    let sum = subst (λ (n : ℕ). IsSum (value_by_row info) l w m s r n) (sym e ∙ a.sum) (sum_of (value_by_row info) l w m s r h.term t) in
+    subst (λ (v : Value). Gives v l w m s r x) (sym a.value) (gives_of_sum info.size l w m s r x (subst (λ (v : Value). IsSum v l w m s r x) a.value sum))
+
+-- the bits of it below a page
+part_same : (b : Bool) (base a c x : ℕ) → base % 4096 ≡ 0 → (a + c) % 2 ^ 64 ≡ x → (moved b base a + c) % 2 ^ 64 % 4096 ≡ x % 4096
+part_same true base a c x pages e = omega (arith, e)
+part_same false base a c x pages e = omega (arith, pages, e)
+
+pub gives_part : StubLaws → (info : RelocationKindInfo) → (expression_of info.kind).term ≡ term.Symbol → (expression_of info.kind).taken ≡ taken.Nothing → (l : Layout) (w : World) (m : Memory) (s : Item) (r : InputRelocation) (x : ℕ) → w.base % 4096 ≡ 0 → HasTerm l w m s r info x → IsFollowed l r (value_by_row info) → GivesPart (value_by_row info) l w m s r x
+gives_part law info symbol nothing l w m s r x pages h f =
+    let a = address_row l w m s r info x h symbol nothing in
+    let takes = subst TakesAddress (sym a.value) (takes_address info.size) in
+    let t = refers law l w m s r info x h symbol takes f in
+    let n = (moved t.still w.base h.term + more r) % 2 ^ 64 in
+    let sum = sum_of (value_by_row info) l w m s r h.term t in
+    (n, subst (λ (v : Value). Gives v l w m s r n) (sym a.value) (gives_of_sum info.size l w m s r n (subst (λ (v : Value). IsSum v l w m s r n) a.value sum)), part_same t.still w.base h.term (more r) x pages a.sum)
 
 -- ---- S + A - P, and S + A - GOT
 
-right_relative : (l : Layout) (w : World) (m : Memory) (s : Item) (r : InputRelocation) (k : RelocationKind) (x i : ℕ) → (h : HasTerm l w m s r k x) → IsPlaceRelative (plain_value k) → r.symbol ≡ Some i → (t : IsAddressed l w m r.symbol h.term) → (w.base ≡ 0) ⊎ (t.still ≡ false)
-right_relative l w m s r k x i h relative named t =
-    elim (cases_Bool t.still) [
-      | inr f ↦ inr f
-      | inl still ↦ elim (cases_Bool (is_position_independent l.kind)) [
-        | inr fixed ↦ inl (h.placed.still fixed)
-        | inl moves ↦ inl (h.asked relative (h.placed.movable moves) i named (t.absolute i named still))
-      ]
-    ]
-
-right_distance : (l : Layout) (w : World) (m : Memory) (s : Item) (r : InputRelocation) (x : ℕ) → (h : HasTerm l w m s r kinds.Relative x) → (t : IsAddressed l w m r.symbol h.term) → (w.base ≡ 0) ⊎ (t.still ≡ false)
-right_distance l w m s r x h t = by_symbol r.symbol refl
+pub right_relative : (l : Layout) (w : World) (m : Memory) (s : Item) (r : InputRelocation) (info : RelocationKindInfo) (x : ℕ) → (h : HasTerm l w m s r info x) → (info.kind ≡ kinds.Relative) ⊎ (info.kind ≡ kinds.SymRelGotBase) → IsPlaceRelative (value_by_row info) → (t : Refers (value_by_row info) l w m s r h.term) → (w.base ≡ 0) ⊎ (t.still ≡ false)
+right_relative l w m s r info x h kind relative t = by_symbol r.symbol refl
   where
+    named_one : (i : ℕ) → r.symbol ≡ Some i → (w.base ≡ 0) ⊎ (t.still ≡ false)
+    named_one i named =
+        elim (cases_Bool t.still) [
+          | inr f ↦ inr f
+          | inl still ↦ elim (cases_Bool (is_position_independent l.kind)) [
+            | inr fixed ↦ inl (h.placed.still fixed)
+            | inl moves ↦ inl (h.asked relative (h.placed.movable moves) i named (t.absolute i named still))
+          ]
+        ]
+
+    nameless : (info.kind ≡ kinds.Relative) ⊎ (info.kind ≡ kinds.SymRelGotBase) → kind_treatment l s.flags h.number None h.row info.kind ≡ treatments.Value h.row → w.base ≡ 0
+    nameless (inl k) treated = h.placed.still (distance_still l s h.number h.row h.room (subst (λ (j : RelocationKind). kind_treatment l s.flags h.number None h.row j ≡ treatments.Value h.row) k treated))
+    nameless (inr k) treated = (let none = subst (λ (j : RelocationKind). kind_treatment l s.flags h.number None h.row j ≡ treatments.Value h.row) k treated in cc)
+
     by_symbol : (o : Option ℕ) → r.symbol ≡ o → (w.base ≡ 0) ⊎ (t.still ≡ false)
-    by_symbol None e = inl (h.placed.still (distance_still l s h.number h.row h.room (subst (λ (o : Option ℕ). kind_treatment l s.flags h.number o h.row kinds.Relative ≡ treatments.Value h.row) e h.treated)))
-    by_symbol (Some i) e = right_relative l w m s r kinds.Relative x i h tt e t
+    by_symbol None e = inl (nameless kind (subst (λ (o : Option ℕ). kind_treatment l s.flags h.number o h.row info.kind ≡ treatments.Value h.row) e h.treated))
+    by_symbol (Some i) e = named_one i e
 
-pub gives_distance : StubsOfValuesAreRead → (l : Layout) (w : World) (m : Memory) (s : Item) (r : InputRelocation) (x : ℕ) → HasTerm l w m s r kinds.Relative x → IsFollowed l r kinds.Relative → Gives (plain_value kinds.Relative) l w m s r x
-gives_distance law l w m s r x h f =
-    let t = address_here law l w m s r kinds.Relative x h tt f refl in
-    let e = distance_is t.still w.base h.term (more r) (place_of s.address r) (right_distance l w m s r x h t) h.ends in
-    let at = ap (λ (p : ℕ). ((moved t.still w.base h.term + more r) % 2 ^ 64 + (2 ^ 64 - p)) % 2 ^ 64) (sym h.place) in
-    ((moved t.still w.base h.term + more r) % 2 ^ 64, sum_of Distance l w m s r h.term h.placed.x86 t, sym h.value ∙ e ∙ at)
+-- the distance of two pages
+page_distance_is : (b : Bool) (base a c p : ℕ) → base % 4096 ≡ 0 → (base ≡ 0) ⊎ (b ≡ false) → base + p ≤ 2 ^ 64 → ((a + c) % 2 ^ 64 / 4096 * 4096 + (2 ^ 64 - p / 4096 * 4096)) % 2 ^ 64 ≡ (page_of ((moved b base a + c) % 2 ^ 64) + (2 ^ 64 - page_of (base + p))) % 2 ^ 64
+page_distance_is true base a c p pages (inl z) ends = omega (arith, z, ends)
+page_distance_is false base a c p pages (inl z) ends = omega (arith, z, ends)
+page_distance_is true base a c p pages (inr f) ends = cc
+page_distance_is false base a c p pages (inr f) ends = omega (arith, pages, ends)
 
-pub gives_from_table : StubsOfValuesAreRead → (l : Layout) (w : World) (m : Memory) (s : Item) (r : InputRelocation) (x : ℕ) → HasTerm l w m s r kinds.SymRelGotBase x → IsFollowed l r kinds.SymRelGotBase → Gives (plain_value kinds.SymRelGotBase) l w m s r x
-gives_from_table law l w m s r x h f =
-    let t = address_here law l w m s r kinds.SymRelGotBase x h tt f refl in
-    let i = symbol_named r.symbol (λ i. treatments.Value h.row) h.row h.treated in
-    let e = table_is t.still w.base h.term (more r) l.got_base (right_relative l w m s r kinds.SymRelGotBase x i.0 h tt i.1 t) h.placed.got in
-    ((moved t.still w.base h.term + more r) % 2 ^ 64, sum_of FromTable l w m s r h.term h.placed.x86 t, sym h.value ∙ e)
+-- which of the two it is
+record IsDistanceRow (l : Layout) (w : World) (m : Memory) (s : Item) (r : InputRelocation) (info : RelocationKindInfo) (x term : ℕ) : Type 0 where
+  value : value_by_row info ≡ Distance
+  distance : ((term + more r) % 2 ^ 64 + (2 ^ 64 - place_of s.address r)) % 2 ^ 64 ≡ x
+
+record IsPageRow (l : Layout) (w : World) (m : Memory) (s : Item) (r : InputRelocation) (info : RelocationKindInfo) (x term : ℕ) : Type 0 where
+  on : l.machine ≡ machine.AArch64
+  value : value_by_row info ≡ PageDistance
+  distance : ((term + more r) % 2 ^ 64 / 4096 * 4096 + (2 ^ 64 - place_of s.address r / 4096 * 4096)) % 2 ^ 64 ≡ x
+
+distance_row : (l : Layout) (w : World) (m : Memory) (s : Item) (r : InputRelocation) (info : RelocationKindInfo) (x : ℕ) → (h : HasTerm l w m s r info x) → info.kind ≡ kinds.Relative → IsDistanceRow l w m s r info x h.term ⊎ IsPageRow l w m s r info x h.term
+distance_row l w m s r info x h kind = by_mask info.mask refl (subst (λ (k : RelocationKind). is_expressed l.machine (expression_of k).term (expression_of k).taken info.mask ≡ true) kind h.expressed)
+  where
+    paged_row : (mask : PageMask) → info.mask ≡ Some mask → taken_of kinds.Relative (Some mask) ≡ taken.PagePlace → l.machine ≡ machine.AArch64 → IsPageRow l w m s r info x h.term
+    paged_row mask e less on =
+        let is = taken_is info kinds.Relative (Some mask) kind e ∙ less in
+        record {
+          on = on;
+          value = symbol_value info (ap (λ (k : RelocationKind). (expression_of k).term) kind) ∙ (ap (λ (u : Taken). shape.sized info.size (expressed term.Symbol u)) is ∙ sized_is info.size PageDistance refl);
+          distance = subst (λ (u : Taken). value_less l u h.term r.addend (place_of s.address r) ≡ x) is h.value;
+        }
+
+    by_mask : (o : Option PageMask) → info.mask ≡ o → is_expressed l.machine term.Symbol taken.Place o ≡ true → IsDistanceRow l w m s r info x h.term ⊎ IsPageRow l w m s r info x h.term
+    by_mask None e f =
+        let is : taken_of info.kind info.mask ≡ taken.Place = taken_is info kinds.Relative None kind e in
+        inl (record {
+          value = symbol_value info (ap (λ (k : RelocationKind). (expression_of k).term) kind) ∙ (ap (λ (u : Taken). shape.sized info.size (expressed term.Symbol u)) is ∙ sized_is info.size Distance refl);
+          distance = subst (λ (u : Taken). value_less l u h.term r.addend (place_of s.address r) ≡ x) is h.value;
+        })
+    by_mask (Some masks.SymbolPlusAddendAndPosition) e f = inr (paged_row masks.SymbolPlusAddendAndPosition e refl (with_mask l.machine term.Symbol taken.Place masks.SymbolPlusAddendAndPosition f).0)
+    by_mask (Some masks.GotEntryAndPosition) e f = (let no = (with_mask l.machine term.Symbol taken.Place masks.GotEntryAndPosition f).1 in cc)
+    by_mask (Some masks.GotBase) e f = (let no = (with_mask l.machine term.Symbol taken.Place masks.GotBase f).1 in cc)
+
+pub gives_distance : StubLaws → (info : RelocationKindInfo) → info.kind ≡ kinds.Relative → RowGives info
+gives_distance law info kind = λ l w m s r x h f. by_row law info kind l w m s r x h f (distance_row l w m s r info x h kind)
+  where
+    by_row : StubLaws → (info : RelocationKindInfo) → info.kind ≡ kinds.Relative → (l : Layout) (w : World) (m : Memory) (s : Item) (r : InputRelocation) (x : ℕ) → (h : HasTerm l w m s r info x) → IsFollowed l r (value_by_row info) → IsDistanceRow l w m s r info x h.term ⊎ IsPageRow l w m s r info x h.term → Gives (value_by_row info) l w m s r x
+    by_row law info kind l w m s r x h f (inl d) =
+        let t = refers law l w m s r info x h (ap (λ (k : RelocationKind). (expression_of k).term) kind) (subst TakesAddress (sym d.value) tt) f in
+        let e = distance_is t.still w.base h.term (more r) (place_of s.address r) (right_relative l w m s r info x h (inl kind) (subst IsPlaceRelative (sym d.value) tt) t) h.ends in
+        let n = (moved t.still w.base h.term + more r) % 2 ^ 64 in
+        let at = ap (λ (p : ℕ). (n + (2 ^ 64 - p)) % 2 ^ 64) (sym h.place) in
+        subst (λ (v : Value). Gives v l w m s r x) (sym d.value) (n, subst (λ (v : Value). IsSum v l w m s r n) d.value (sum_of (value_by_row info) l w m s r h.term t), sym d.distance ∙ e ∙ at)
+    by_row law info kind l w m s r x h f (inr d) =
+        let t = refers law l w m s r info x h (ap (λ (k : RelocationKind). (expression_of k).term) kind) (subst TakesAddress (sym d.value) tt) f in
+        let pages = (paged_on l w h.placed.paged d.on).pages in
+        let e = page_distance_is t.still w.base h.term (more r) (place_of s.address r) pages (right_relative l w m s r info x h (inl kind) (subst IsPlaceRelative (sym d.value) tt) t) h.ends in
+        let n = (moved t.still w.base h.term + more r) % 2 ^ 64 in
+        let at = ap (λ (p : ℕ). (page_of n + (2 ^ 64 - page_of p)) % 2 ^ 64) (sym h.place) in
+        subst (λ (v : Value). Gives v l w m s r x) (sym d.value) (n, subst (λ (v : Value). IsSum v l w m s r n) d.value (sum_of (value_by_row info) l w m s r h.term t), sym d.distance ∙ e ∙ at)
+
+-- what is less the table
+record IsTableRow (l : Layout) (w : World) (m : Memory) (s : Item) (r : InputRelocation) (info : RelocationKindInfo) (x term : ℕ) : Type 0 where
+  value : value_by_row info ≡ FromTable
+  distance : ((term + more r) % 2 ^ 64 + (2 ^ 64 - l.got_base)) % 2 ^ 64 ≡ x
+
+table_row : (l : Layout) (w : World) (m : Memory) (s : Item) (r : InputRelocation) (info : RelocationKindInfo) (x : ℕ) → (h : HasTerm l w m s r info x) → info.kind ≡ kinds.SymRelGotBase → IsTableRow l w m s r info x h.term
+table_row l w m s r info x h kind =
+    let mask = no_mask l.machine term.Symbol taken.Table info.mask (subst (λ (k : RelocationKind). is_expressed l.machine (expression_of k).term (expression_of k).taken info.mask ≡ true) kind h.expressed) refl in
+    let less : taken_of info.kind info.mask ≡ taken.Table = taken_is info kinds.SymRelGotBase None kind mask in
+    record {
+      value = symbol_value info (ap (λ (k : RelocationKind). (expression_of k).term) kind) ∙ (ap (λ (u : Taken). shape.sized info.size (expressed term.Symbol u)) less ∙ sized_is info.size FromTable refl);
+      distance = subst (λ (u : Taken). value_less l u h.term r.addend (place_of s.address r) ≡ x) less h.value;
+    }
+
+pub gives_from_table : StubLaws → (info : RelocationKindInfo) → info.kind ≡ kinds.SymRelGotBase → RowGives info
+gives_from_table law info kind = λ l w m s r x h f.
+    let d = table_row l w m s r info x h kind in
+    let t = refers law l w m s r info x h (ap (λ (k : RelocationKind). (expression_of k).term) kind) (subst TakesAddress (sym d.value) tt) f in
+    let e = table_is t.still w.base h.term (more r) l.got_base (right_relative l w m s r info x h (inr kind) (subst IsPlaceRelative (sym d.value) tt) t) h.placed.got in
+    let n = (moved t.still w.base h.term + more r) % 2 ^ 64 in
+    subst (λ (v : Value). Gives v l w m s r x) (sym d.value) (n, subst (λ (v : Value). IsSum v l w m s r n) d.value (sum_of (value_by_row info) l w m s r h.term t), sym d.distance ∙ e)
 
 -- ---- the same with the own symbol, at base 0
 
-pub links_sum : StubsOfValuesAreRead → (l : Layout) (w : World) (m : Memory) (s : Item) (r : InputRelocation) (x i : ℕ) → HasTerm l w m s r kinds.Absolute x → w.base ≡ 0 → r.symbol ≡ Some i → (IsStubbed l i → ⊥) ⊎ TakesOffset (plain_value kinds.Absolute) → IsOwnSum SymbolAddress l w s r x
-links_sum law l w m s r x i h zero named alone =
-    let t = own_here law l w m s r kinds.Absolute x i h named (λ o. o) alone refl in
+-- such an expression takes no offset
+bare : (v : Value) (l : Layout) (i : ℕ) → (TakesOffset v → ⊥) → (IsStubbed l i → ⊥) ⊎ TakesOffset v → IsStubbed l i → ⊥
+bare v l i none (inl alone) = alone
+bare v l i none (inr offset) = absurd (none offset)
+
+no_offset : (z : RelocationSize) → TakesOffset (shape.sized z SymbolAddress) → ⊥
+no_offset (ByteSize n) h = h
+no_offset (BitMasking bits) h = h
+
+pub links_address : StubLaws → (info : RelocationKindInfo) → (expression_of info.kind).term ≡ term.Symbol → (expression_of info.kind).taken ≡ taken.Nothing → RowGivesLinked info
+links_address law info symbol nothing = λ l w m s r x i h zero named alone.
+    let a = address_row l w m s r info x h symbol nothing in
+    let t = own_refers law l w m s r info x i h symbol named (bare (value_by_row info) l i (λ o. no_offset info.size (subst TakesOffset a.value o)) alone) in
     let e = sum_is t.still w.base h.term (more r) (inl zero) in
-    subst (λ (n : ℕ). IsOwnSum SymbolAddress l w s r n) (sym e ∙ h.value) (own_sum SymbolAddress l w s r i h.term h.placed.x86 named t)
+    let sum = subst (λ (n : ℕ). IsOwnSum (value_by_row info) l w s r n) (sym e ∙ a.sum) (own_sum (value_by_row info) l w s r h.term t) in
+    subst (λ (v : Value). GivesLinked v l w s r x) (sym a.value) (links_of_sum info.size l w s r x (subst (λ (v : Value). IsOwnSum v l w s r x) a.value sum))
 
-pub links_distance : StubsOfValuesAreRead → (l : Layout) (w : World) (m : Memory) (s : Item) (r : InputRelocation) (x i : ℕ) → HasTerm l w m s r kinds.Relative x → w.base ≡ 0 → r.symbol ≡ Some i → (IsStubbed l i → ⊥) ⊎ TakesOffset (plain_value kinds.Relative) → GivesLinked (plain_value kinds.Relative) l w s r x
-links_distance law l w m s r x i h zero named alone =
-    let t = own_here law l w m s r kinds.Relative x i h named (λ o. o) alone refl in
-    let e = distance_is t.still w.base h.term (more r) (place_of s.address r) (inl zero) h.ends in
-    let at = ap (λ (p : ℕ). ((moved t.still w.base h.term + more r) % 2 ^ 64 + (2 ^ 64 - p)) % 2 ^ 64) (sym h.place) in
-    ((moved t.still w.base h.term + more r) % 2 ^ 64, own_sum Distance l w s r i h.term h.placed.x86 named t, sym h.value ∙ e ∙ at)
+pub links_distance : StubLaws → (info : RelocationKindInfo) → info.kind ≡ kinds.Relative → RowGivesLinked info
+links_distance law info kind = λ l w m s r x i h zero named alone. by_row law info kind l w m s r x i h zero named alone (distance_row l w m s r info x h kind)
+  where
+    by_row : StubLaws → (info : RelocationKindInfo) → info.kind ≡ kinds.Relative → (l : Layout) (w : World) (m : Memory) (s : Item) (r : InputRelocation) (x i : ℕ) → (h : HasTerm l w m s r info x) → w.base ≡ 0 → r.symbol ≡ Some i → (IsStubbed l i → ⊥) ⊎ TakesOffset (value_by_row info) → IsDistanceRow l w m s r info x h.term ⊎ IsPageRow l w m s r info x h.term → GivesLinked (value_by_row info) l w s r x
+    by_row law info kind l w m s r x i h zero named alone (inl d) =
+        let t = own_refers law l w m s r info x i h (ap (λ (k : RelocationKind). (expression_of k).term) kind) named (bare (value_by_row info) l i (λ o. subst TakesOffset d.value o) alone) in
+        let e = distance_is t.still w.base h.term (more r) (place_of s.address r) (inl zero) h.ends in
+        let n = (moved t.still w.base h.term + more r) % 2 ^ 64 in
+        let at = ap (λ (p : ℕ). (n + (2 ^ 64 - p)) % 2 ^ 64) (sym h.place) in
+        subst (λ (v : Value). GivesLinked v l w s r x) (sym d.value) (n, subst (λ (v : Value). IsOwnSum v l w s r n) d.value (own_sum (value_by_row info) l w s r h.term t), sym d.distance ∙ e ∙ at)
+    by_row law info kind l w m s r x i h zero named alone (inr d) =
+        let t = own_refers law l w m s r info x i h (ap (λ (k : RelocationKind). (expression_of k).term) kind) named (bare (value_by_row info) l i (λ o. subst TakesOffset d.value o) alone) in
+        let pages = (paged_on l w h.placed.paged d.on).pages in
+        let e = page_distance_is t.still w.base h.term (more r) (place_of s.address r) pages (inl zero) h.ends in
+        let n = (moved t.still w.base h.term + more r) % 2 ^ 64 in
+        let at = ap (λ (p : ℕ). (page_of n + (2 ^ 64 - page_of p)) % 2 ^ 64) (sym h.place) in
+        subst (λ (v : Value). GivesLinked v l w s r x) (sym d.value) (n, subst (λ (v : Value). IsOwnSum v l w s r n) d.value (own_sum (value_by_row info) l w s r h.term t), sym d.distance ∙ e ∙ at)
 
-pub links_from_table : StubsOfValuesAreRead → (l : Layout) (w : World) (m : Memory) (s : Item) (r : InputRelocation) (x i : ℕ) → HasTerm l w m s r kinds.SymRelGotBase x → w.base ≡ 0 → r.symbol ≡ Some i → (IsStubbed l i → ⊥) ⊎ TakesOffset (plain_value kinds.SymRelGotBase) → GivesLinked (plain_value kinds.SymRelGotBase) l w s r x
-links_from_table law l w m s r x i h zero named alone =
-    let t = own_here law l w m s r kinds.SymRelGotBase x i h named (λ o. o) alone refl in
+pub links_from_table : StubLaws → (info : RelocationKindInfo) → info.kind ≡ kinds.SymRelGotBase → RowGivesLinked info
+links_from_table law info kind = λ l w m s r x i h zero named alone.
+    let d = table_row l w m s r info x h kind in
+    let t = own_refers law l w m s r info x i h (ap (λ (k : RelocationKind). (expression_of k).term) kind) named (bare (value_by_row info) l i (λ o. subst TakesOffset d.value o) alone) in
     let e = table_is t.still w.base h.term (more r) l.got_base (inl zero) h.placed.got in
-    ((moved t.still w.base h.term + more r) % 2 ^ 64, own_sum FromTable l w s r i h.term h.placed.x86 named t, sym h.value ∙ e)
+    let n = (moved t.still w.base h.term + more r) % 2 ^ 64 in
+    subst (λ (v : Value). GivesLinked v l w s r x) (sym d.value) (n, subst (λ (v : Value). IsOwnSum v l w s r n) d.value (own_sum (value_by_row info) l w s r h.term t), sym d.distance ∙ e)
 
 -- ---- GOT + A - P
 
-pub gives_table : (l : Layout) (w : World) (m : Memory) (s : Item) (r : InputRelocation) (x : ℕ) → HasTerm l w m s r kinds.GotBaseRelative x → Gives (plain_value kinds.GotBaseRelative) l w m s r x
-gives_table l w m s r x h =
-    let g : l.got_base ≡ h.term = (let e : Ok l.got_base ≡ Ok h.term = h.given in cc) in
+pub gives_table : (info : RelocationKindInfo) → info.kind ≡ kinds.GotBaseRelative → RowGives info
+gives_table info kind = λ l w m s r x h f.
+    let mask = no_mask l.machine term.Table taken.Place info.mask (subst (λ (k : RelocationKind). is_expressed l.machine (expression_of k).term (expression_of k).taken info.mask ≡ true) kind h.expressed) refl in
+    let is : value_by_row info ≡ TableDistance = value_is info kinds.GotBaseRelative None kind mask ∙ sized_is info.size TableDistance refl in
+    let less : taken_of info.kind info.mask ≡ taken.Place = taken_is info kinds.GotBaseRelative None kind mask in
+    let plain = plain_term l w m s r info x h (ap (λ (k : RelocationKind). is_symbol (expression_of k).term) kind) in
+    let given : Ok l.got_base ≡ Ok h.term = subst (λ (k : RelocationKind). term_of l r.symbol k ≡ Ok h.term) kind plain in
+    let g : l.got_base ≡ h.term = cc in
+    let value : ((h.term + more r) % 2 ^ 64 + (2 ^ 64 - place_of s.address r)) % 2 ^ 64 ≡ x = subst (λ (u : Taken). value_less l u h.term r.addend (place_of s.address r) ≡ x) less h.value in
     let e = moved_distance w.base l.got_base (more r) (place_of s.address r) h.ends in
     let here = ap (λ (n : ℕ). ((n + more r) % 2 ^ 64 + (2 ^ 64 - place_of s.address r)) % 2 ^ 64) g in
     let at = ap (λ (p : ℕ). (table_at l w + more r + (2 ^ 64 - p)) % 2 ^ 64) (sym h.place) in
-    sym (here ∙ h.value) ∙ e ∙ at
+    subst (λ (v : Value). Gives v l w m s r x) (sym is) (sym (here ∙ value) ∙ e ∙ at)
 
 -- ---- sizes
 
@@ -170,12 +336,18 @@ own_size l w m s i symbol p listed room kept =
     by_tests true false false copied true exported e f h = cc
     by_tests true fixed false copied false exported e f h = refl
 
-pub gives_size : (l : Layout) (w : World) (m : Memory) (s : Item) (r : InputRelocation) (x : ℕ) → HasTerm l w m s r kinds.SymbolSize x → Gives (plain_value kinds.SymbolSize) l w m s r x
-gives_size l w m s r x h =
-    let i = symbol_named r.symbol (λ k. where_there l h.row k (size_treatment l s.flags h.row k)) h.row h.treated in
+pub gives_size : (info : RelocationKindInfo) → info.kind ≡ kinds.SymbolSize → RowGives info
+gives_size info kind = λ l w m s r x h f.
+    let mask = no_mask l.machine term.Size taken.Nothing info.mask (subst (λ (k : RelocationKind). is_expressed l.machine (expression_of k).term (expression_of k).taken info.mask ≡ true) kind h.expressed) refl in
+    let is : value_by_row info ≡ Size = value_is info kinds.SymbolSize None kind mask ∙ sized_is info.size Size refl in
+    let less = taken_is info kinds.SymbolSize None kind mask in
+    let treated = subst (λ (k : RelocationKind). kind_treatment l s.flags h.number r.symbol h.row k ≡ treatments.Value h.row) kind h.treated in
+    let i = symbol_named r.symbol (λ k. where_there l h.row k (size_treatment l s.flags h.row k)) h.row treated in
     let z = slice_get_inside l.symbols i.0 (h.listed i.0 i.1) in
     let own = own_size l w m s i.0 z.0 h.placed z.1 h.room (size_kept l s h.row i.0 (peeled l h.row i.0 (size_treatment l s.flags h.row i.0) (treatments.Value h.row) (definition_there l i.0 h.placed.symbols.named (h.listed i.0 i.1)) i.2)) in
-    let given : term_of l (Some i.0) kinds.SymbolSize ≡ Ok h.term = subst (λ (o : Option ℕ). term_of l o kinds.SymbolSize ≡ Ok h.term) i.1 h.given in
+    let plain : term_of l r.symbol info.kind ≡ Ok h.term = plain_term l w m s r info x h (ap (λ (k : RelocationKind). is_symbol (expression_of k).term) kind) in
+    let given : term_of l (Some i.0) kinds.SymbolSize ≡ Ok h.term = subst (λ (o : Option ℕ). term_of l o kinds.SymbolSize ≡ Ok h.term) i.1 (subst (λ (k : RelocationKind). term_of l r.symbol k ≡ Ok h.term) kind plain) in
     let g : symbol_size l i.0 ≡ h.term = cc in
     let size : IsExtent l w (Some i.0) h.term = inr (own, subst (λ (n : ℕ). HasOwnSize l i.0 n) g (sized l i.0 z.0 h.placed.symbols.named z.1)) in
-    (h.term, subst (λ (o : Option ℕ). IsExtent l w o h.term) (sym i.1) size, inl (sym h.value))
+    let value : (h.term + more r) % 2 ^ 64 ≡ x = subst (λ (u : Taken). value_less l u h.term r.addend (place_of s.address r) ≡ x) less h.value in
+    subst (λ (v : Value). Gives v l w m s r x) (sym is) (h.term, subst (λ (o : Option ℕ). IsExtent l w o h.term) (sym i.1) size, inl (sym value))

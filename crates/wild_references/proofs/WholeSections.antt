@@ -1,5 +1,6 @@
 -- The fields of a kept item that memory has as it was decided hold.
-use Rattle.std.proofs.Common.{refl}
+use Rattle.std.proofs.Common.{refl, sym, subst}
+use Rattle.wild_types.specs.declared.kind.Machine.{Machine}
 use Rattle.wild_types.specs.Item.{Item}
 use Rattle.wild_types.specs.declared.layout.Layout.{Layout}
 use Rattle.wild_types.specs.ResolvedFlags.{HaveTheirFlags}
@@ -9,8 +10,8 @@ use Rattle.wild_loader.specs.declared.memory.Memory.{Memory}
 use Rattle.wild_loader.specs.declared.world.World.{World}
 use Rattle.wild_meaning.proofs.OutputLemmas.{still_fixed, moving_movable}
 use Rattle.wild_references.proofs.KeptItems.{item_lies, addends_fit}
-use Rattle.wild_references.specs.Terms.{SymbolsFit, IsPlaced}
-use Rattle.wild_references.specs.Laws.{IsLoadedItem, ItemFieldsHold}
+use Rattle.wild_references.specs.Terms.{SymbolsFit, MovesByPages, IsPlaced}
+use Rattle.wild_references.specs.Laws.{HasBytes, IsLoadedItem, ItemFieldsHold}
 use Rattle.wild_references.proofs.Fields.{Tables, KindLaws, LinkedLaws, IsItemLoaded}
 use Rattle.wild_references.proofs.References.{field_holds, field_links}
 
@@ -19,9 +20,9 @@ use Rattle.wild_references.proofs.References.{field_holds, field_links}
 symbols_fit : (l : Layout) → HaveTheirFlags l → NumbersFit l → IsLaidOut l → SymbolsFit l
 symbols_fit l own numbers laid = record { named = laid.definitions; own = own; flags = laid.slot_flags; dynsyms = laid.dynsyms; numbers = numbers.symbols }
 
-pub placed : (l : Layout) (w : World) (m : Memory) (s : Item) → IsLoadedItem l w m s → IsPlaced l w m
-placed l w m s h = record {
-  x86 = h.x86;
+pub placed : (k : Machine) (l : Layout) (w : World) (m : Memory) (s : Item) → IsLoadedItem k l w m s → IsPlaced l w m
+placed k l w m s h = record {
+  paged = subst (λ (j : Machine). MovesByPages j l w) (sym h.on) h.paged;
   loadable = h.loadable;
   still = λ e. h.legal.fixed (still_fixed l.kind h.loadable e);
   movable = moving_movable l.kind;
@@ -36,26 +37,27 @@ placed l w m s h = record {
 
 -- ---- a kept item
 
-item_loaded : (l : Layout) (w : World) (m : Memory) (s : Item) → Tables → KindLaws → LinkedLaws → IsLoadedItem l w m s → IsItemLoaded l w m s
-item_loaded l w m s tables kinds linked h =
+item_loaded : (k : Machine) (l : Layout) (w : World) (m : Memory) (s : Item) → Tables → KindLaws → LinkedLaws → IsLoadedItem k l w m s → IsItemLoaded l w m s
+item_loaded k l w m s tables kinds linked h =
     let lies = item_lies l s h.laid h.kept in
     record {
       tables = tables;
       kinds = kinds;
       linked = linked;
-      placed = placed l w m s h;
+      placed = placed k l w m s h;
       room = lies.room;
       symbols = lies.symbols;
       addends = addends_fit l s h.numbers h.kept;
+      bytes = subst (λ (j : Machine). HasBytes j s) (sym h.on) h.bytes;
       low = lies.low;
       lies = lies.lies;
       item = h.item;
     }
 
 pub item_fields_hold : Tables → KindLaws → LinkedLaws → ItemFieldsHold
-item_fields_hold tables kinds linked = λ l w m s h.
-    let there = item_loaded l w m s tables kinds linked h in
+item_fields_hold tables kinds linked = λ k l w m s h.
+    let there = item_loaded k l w m s tables kinds linked h in
     record {
-      references = λ i r k asked alone. field_holds l w m s i r there k asked alone;
-      linked = λ i r k a zero. field_links l w m s i r there k a zero;
+      references = λ i r kept asked alone. field_holds l w m s i r there kept asked alone;
+      linked = λ i r kept a zero. field_links l w m s i r there kept a zero;
     }

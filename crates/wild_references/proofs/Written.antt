@@ -10,7 +10,6 @@ use Rattle.wild_types.specs.declared.fault.Missing.TheVariants as missing
 use Rattle.wild_types.specs.declared.input.InputRelocation.{InputRelocation}
 use Rattle.wild_types.specs.Item.{Item}
 use Rattle.wild_types.specs.declared.layout.Layout.{Layout}
-use Rattle.wild_reloc.specs.Agreement.{X86_64Agrees}
 use Rattle.wild_reloc.specs.declared.info.RelocationKindInfo.{RelocationKindInfo}
 use Rattle.wild_reloc.specs.declared.info.RelocationSize.{RelocationSize}
 use Rattle.wild_types.specs.Rows.{row_of}
@@ -18,8 +17,6 @@ use Rattle.wild_layout.specs.declared.decision.Decision.{Decision}
 use Rattle.wild_layout.specs.declared.decision.Decision.TheVariants.{Nothing, Field, Moved, Left, Rewritten, Partner}
 use Rattle.wild_layout.specs.SymbolValues.{address_or, raw_address}
 use Rattle.wild_types.specs.Lookups.{place_of}
-use Rattle.wild_layout.specs.Values.{term_of, value_less, value_by, is_own_place, undefined_weak_target}
-use Rattle.wild_reloc.specs.declared.expression.Taken.{Taken}
 use Rattle.wild_types.specs.Addresses.{raw_value}
 use Rattle.wild_slot.specs.declared.treatment.Treatment.{Treatment}
 use Rattle.wild_slot.specs.declared.treatment.Treatment.TheVariants as treatments
@@ -29,10 +26,13 @@ use Rattle.wild_reloc.specs.declared.info.RelocationKind.TheVariants as kinds
 use Rattle.wild_layout.specs.Decide.{decided, decide_by}
 use Rattle.wild_layout.proofs.DecideLemmas.{IsField, IsMoved, IsLeft, decided_field, decided_moved, decided_left, decided_nothing}
 use Rattle.wild_slot.proofs.TreatmentLemmas.{has_value}
-use Rattle.wild_references.proofs.KnownRows.{RowFits, row_fits, none_is, call_is}
+use Rattle.wild_references.proofs.KnownRows.{RowFits, row_fits, none_is, call_is, call_known}
 use Rattle.wild_layout.proofs.DecisionLemmas.{IsOwn, IsKept, decide_nothing, decide_moved, decide_left, decide_field}
 use Rattle.wild_geometry.specs.Loaded.{HasDecision}
+use Rattle.wild_geometry.specs.MachineFacts.{RowsAreRead}
 use Rattle.wild_references.proofs.Treated.{treated_by}
+use Rattle.wild_reloc.specs.Formula.{NoValue, NoField}
+use Rattle.wild_meaning.specs.Field.{formula_of}
 use Rattle.wild_references.specs.Laws.{KeepsInstruction}
 
 -- ---- relocations
@@ -62,9 +62,7 @@ pub record IsValue (l : Layout) (s : Item) (i : ℕ) (r : InputRelocation) : Typ
   pub value : ℕ
   pub plain : IsPlain l s i r (Field size value)
   pub field : IsField l s r size value
-  pub fits : RowFits r.number field.row
-  pub given : term_of l r.symbol field.row.kind ≡ Ok field.term
-  pub is : value_by l field.row.kind field.term r.addend (place_of s.address r) ≡ value
+  pub fits : RowFits l.machine r.number field.row
 
 -- a relocation that writes an address, which moves with the base
 pub record IsAddress (l : Layout) (s : Item) (i : ℕ) (r : InputRelocation) : Type 0 where
@@ -72,7 +70,7 @@ pub record IsAddress (l : Layout) (s : Item) (i : ℕ) (r : InputRelocation) : T
   pub packed : Bool
   pub plain : IsPlain l s i r (Moved value packed)
   pub moved : IsMoved l s r value packed
-  pub fits : RowFits r.number moved.row
+  pub fits : RowFits l.machine r.number moved.row
 
 -- a relocation whose field is left to an entry
 pub record IsLeftField (l : Layout) (s : Item) (i : ℕ) (r : InputRelocation) : Type 0 where
@@ -82,39 +80,33 @@ pub record IsLeftField (l : Layout) (s : Item) (i : ℕ) (r : InputRelocation) :
   pub addend : ℕ
   pub plain : IsPlain l s i r (Left size number symbol addend)
   pub left : IsLeft l s r size number symbol addend
-  pub fits : RowFits r.number left.field.row
+  pub fits : RowFits l.machine r.number left.field.row
 
 -- the call through a descriptor, which writes nothing
 pub record IsCall (l : Layout) (s : Item) (i : ℕ) (r : InputRelocation) : Type 0 where
   pub plain : IsPlain l s i r Nothing
-  pub number : r.number ≡ r_x86_64_tlsdesc_call
+  pub number : l.machine ≡ machine.X86_64 → r.number ≡ r_x86_64_tlsdesc_call
+  pub known : formula_of l.machine r.number ≡ Some (record { value = NoValue; form = NoField })
   pub symbol : ℕ
   pub named : r.symbol ≡ Some symbol
 
 pub row_here : (l : Layout) (n : ℕ) (row : RelocationKindInfo) → l.machine ≡ machine.X86_64 → row_of l.machine n ≡ Some row → row_of machine.X86_64 n ≡ Some row
 row_here l n row m is = subst (λ (x : Machine). row_of x n ≡ Some row) m is
 
--- on x86-64 no place stands for a symbol
-own_term : (m : Machine) (l : Layout) (r : InputRelocation) (row : RelocationKindInfo) (a b : Result ℕ Fault) → m ≡ machine.X86_64 → (if is_own_place m l r row then a else b) ≡ b
-own_term machine.AArch64 l r row a b h = cc
-own_term machine.X86_64 l r row a b h = refl
-
-value_written : (l : Layout) (s : Item) (i : ℕ) (r : InputRelocation) (z : RelocationSize) (v : ℕ) → X86_64Agrees → l.machine ≡ machine.X86_64 → IsPlain l s i r (Field z v) → IsValue l s i r
-value_written l s i r z v agrees m p =
+value_written : (l : Layout) (s : Item) (i : ℕ) (r : InputRelocation) (z : RelocationSize) (v : ℕ) → RowsAreRead → IsPlain l s i r (Field z v) → IsValue l s i r
+value_written l s i r z v agrees p =
     let f = decided_field l s r z v p.own.made in
-    let fits = row_fits r.number f.row agrees (row_here l r.number f.row m f.known) f.kind in
-    let own = own_term l.machine l r f.row (Ok (undefined_weak_target r.number (place_of s.address r))) (term_of l r.symbol f.row.kind) m in
-    record { size = z; value = v; plain = p; field = f; fits = fits; given = sym own ∙ f.given; is = subst (λ (u : Taken). value_less l u f.term r.addend (place_of s.address r) ≡ v) fits.taken f.value }
+    record { size = z; value = v; plain = p; field = f; fits = row_fits agrees l.machine r.number f.row f.known f.kind }
 
-address_written : (l : Layout) (s : Item) (i : ℕ) (r : InputRelocation) (v : ℕ) (packed : Bool) → X86_64Agrees → l.machine ≡ machine.X86_64 → IsPlain l s i r (Moved v packed) → IsAddress l s i r
-address_written l s i r v packed agrees m p =
+address_written : (l : Layout) (s : Item) (i : ℕ) (r : InputRelocation) (v : ℕ) (packed : Bool) → RowsAreRead → IsPlain l s i r (Moved v packed) → IsAddress l s i r
+address_written l s i r v packed agrees p =
     let f = decided_moved l s r v packed p.own.made in
-    record { value = v; packed = packed; plain = p; moved = f; fits = row_fits r.number f.row agrees (row_here l r.number f.row m f.known) (ap has_value f.by.kind) }
+    record { value = v; packed = packed; plain = p; moved = f; fits = row_fits agrees l.machine r.number f.row f.known (ap has_value f.by.kind) }
 
-left_written : (l : Layout) (s : Item) (i : ℕ) (r : InputRelocation) (z : RelocationSize) (number symbol addend : ℕ) → X86_64Agrees → l.machine ≡ machine.X86_64 → IsPlain l s i r (Left z number symbol addend) → IsLeftField l s i r
-left_written l s i r z number symbol addend agrees m p =
+left_written : (l : Layout) (s : Item) (i : ℕ) (r : InputRelocation) (z : RelocationSize) (number symbol addend : ℕ) → RowsAreRead → IsPlain l s i r (Left z number symbol addend) → IsLeftField l s i r
+left_written l s i r z number symbol addend agrees p =
     let f = decided_left l s r z number symbol addend p.own.made in
-    record { size = z; number = number; symbol = symbol; addend = addend; plain = p; left = f; fits = row_fits r.number f.field.row agrees (row_here l r.number f.field.row m f.field.known) f.field.kind }
+    record { size = z; number = number; symbol = symbol; addend = addend; plain = p; left = f; fits = row_fits agrees l.machine r.number f.field.row f.field.known f.field.kind }
 
 -- a relocation whose field a row writes, which keeps the bytes around it
 pub record IsRowField (l : Layout) (s : Item) (i : ℕ) (r : InputRelocation) : Type 0 where
@@ -141,23 +133,31 @@ call_named l s r row known kind made =
 abbrev pub Writes : Layout → Item → ℕ → InputRelocation → Type 0
 Writes l s i r = IsValue l s i r ⊎ (IsAddress l s i r ⊎ (IsLeftField l s i r ⊎ (IsCall l s i r ⊎ IsRowField l s i r)))
 
-nothing_written : (l : Layout) (s : Item) (i : ℕ) (r : InputRelocation) → l.machine ≡ machine.X86_64 → IsPlain l s i r Nothing → (r.number ≡ r_x86_64_none → ⊥) → IsCall l s i r
-nothing_written l s i r m p some =
+nothing_written : (l : Layout) (s : Item) (i : ℕ) (r : InputRelocation) → IsPlain l s i r Nothing → (r.number ≡ r_x86_64_none → ⊥) → IsCall l s i r
+nothing_written l s i r p some =
     let none = decided_nothing l s r p.own.made in
     elim none.kind [
-      | inl kind ↦ absurd (some (none_is r.number none.row (row_here l r.number none.row m none.known) kind))
-      | inr kind ↦ (let symbol = call_named l s r none.row none.known kind p.own.made in record { plain = p; number = call_is r.number none.row (row_here l r.number none.row m none.known) kind; symbol = symbol.0; named = symbol.1 })
+      | inl kind ↦ absurd (some (none_is l.machine r.number none.row none.known kind))
+      | inr kind ↦
+          (let symbol = call_named l s r none.row none.known kind p.own.made in
+          record {
+            plain = p;
+            number = λ x86. call_is r.number none.row (row_here l r.number none.row x86 none.known) kind;
+            known = call_known l.machine r.number none.row none.known kind;
+            symbol = symbol.0;
+            named = symbol.1;
+          })
     ]
 
-field_written : (l : Layout) (s : Item) (i : ℕ) (r : InputRelocation) (z : RelocationSize) (v : ℕ) → X86_64Agrees → l.machine ≡ machine.X86_64 → HasDecision l s i r (Field z v) → IsOwn l s i r (Field z v) ⊎ IsKept l s r (slice_get s.relocations (i + 1)) z v → Writes l s i r
-field_written l s i r z v agrees m has (inl own) = inl (value_written l s i r z v agrees m (record { has = has; own = own }))
-field_written l s i r z v agrees m has (inr kept) = inr (inr (inr (inr (record { size = z; value = v; has = has; kept = kept }))))
+field_written : (l : Layout) (s : Item) (i : ℕ) (r : InputRelocation) (z : RelocationSize) (v : ℕ) → RowsAreRead → HasDecision l s i r (Field z v) → IsOwn l s i r (Field z v) ⊎ IsKept l s r (slice_get s.relocations (i + 1)) z v → Writes l s i r
+field_written l s i r z v agrees has (inl own) = inl (value_written l s i r z v agrees (record { has = has; own = own }))
+field_written l s i r z v agrees has (inr kept) = inr (inr (inr (inr (record { size = z; value = v; has = has; kept = kept }))))
 
 -- each but NONE writes a value or an address, is left to an entry, or is such a call
-pub relocation_written : (l : Layout) (s : Item) (i : ℕ) (r : InputRelocation) (d : Decision) → X86_64Agrees → l.machine ≡ machine.X86_64 → HasDecision l s i r d → KeepsInstruction d → (r.number ≡ r_x86_64_none → ⊥) → Writes l s i r
-relocation_written l s i r Nothing agrees m has keeps some = inr (inr (inr (inl (nothing_written l s i r m (record { has = has; own = decide_nothing l s i r has.listed has.decided }) some))))
-relocation_written l s i r (Field z v) agrees m has keeps some = field_written l s i r z v agrees m has (decide_field l s i r z v has.listed has.decided)
-relocation_written l s i r (Moved v packed) agrees m has keeps some = inr (inl (address_written l s i r v packed agrees m (record { has = has; own = decide_moved l s i r v packed has.listed has.decided })))
-relocation_written l s i r (Left z number symbol addend) agrees m has keeps some = inr (inr (inl (left_written l s i r z number symbol addend agrees m (record { has = has; own = decide_left l s i r z number symbol addend has.listed has.decided }))))
-relocation_written l s i r (Rewritten row v) agrees m has keeps some = absurd keeps
-relocation_written l s i r Partner agrees m has keeps some = absurd keeps
+pub relocation_written : (l : Layout) (s : Item) (i : ℕ) (r : InputRelocation) (d : Decision) → RowsAreRead → HasDecision l s i r d → KeepsInstruction d → (r.number ≡ r_x86_64_none → ⊥) → Writes l s i r
+relocation_written l s i r Nothing agrees has keeps some = inr (inr (inr (inl (nothing_written l s i r (record { has = has; own = decide_nothing l s i r has.listed has.decided }) some))))
+relocation_written l s i r (Field z v) agrees has keeps some = field_written l s i r z v agrees has (decide_field l s i r z v has.listed has.decided)
+relocation_written l s i r (Moved v packed) agrees has keeps some = inr (inl (address_written l s i r v packed agrees (record { has = has; own = decide_moved l s i r v packed has.listed has.decided })))
+relocation_written l s i r (Left z number symbol addend) agrees has keeps some = inr (inr (inl (left_written l s i r z number symbol addend agrees (record { has = has; own = decide_left l s i r z number symbol addend has.listed has.decided }))))
+relocation_written l s i r (Rewritten row v) agrees has keeps some = absurd keeps
+relocation_written l s i r Partner agrees has keeps some = absurd keeps

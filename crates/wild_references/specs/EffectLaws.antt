@@ -1,4 +1,4 @@
--- Instructions in memory, kept or rewritten: what makes each reference of a section hold, beyond its fields.
+-- Instructions in memory of x86-64 outputs, kept or rewritten: what makes each reference of a section hold, beyond its fields.
 --   WindowsAreAlone      no other relocation has a field among the bytes of an instruction that is rewritten
 --   RewrittenStand       an instruction that is rewritten is one that the reader knows, all of it
 --   RewrittenHold        the code that is written in place of an instruction does what that demands
@@ -52,15 +52,15 @@ pub record StandsAt (l : Layout) (item : Item) (r : InputRelocation) (start size
 
 -- all bytes that are rewritten are those of an instruction that the reader knows
 abbrev pub RewrittenStand : Type 0
-RewrittenStand = (l : Layout) (w : World) (m : Memory) (s : Item) → IsLoadedItem l w m s → (i : ℕ) (r : InputRelocation) (row : Row) (v : ℕ) → HasDecision l s i r (Rewritten row v) → StandsAt l s r (template_start row r) (pattern_size row)
+RewrittenStand = (l : Layout) (w : World) (m : Memory) (s : Item) → IsLoadedItem machine.X86_64 l w m s → (i : ℕ) (r : InputRelocation) (row : Row) (v : ℕ) → HasDecision l s i r (Rewritten row v) → StandsAt l s r (template_start row r) (pattern_size row)
 
 -- where an instruction is rewritten, the loaded code does what it demands, at each base at which the reference is asked
 abbrev pub RewrittenHold : Type 0
-RewrittenHold = (l : Layout) (w : World) (m : Memory) (s : Item) → IsLoadedItem l w m s → (i : ℕ) (r : InputRelocation) (row : Row) (v : ℕ) → HasDecision l s i r (Rewritten row v) → IsAsked l w s r → HoldsRewritten l w m s r
+RewrittenHold = (l : Layout) (w : World) (m : Memory) (s : Item) → IsLoadedItem machine.X86_64 l w m s → (i : ℕ) (r : InputRelocation) (row : Row) (v : ℕ) → HasDecision l s i r (Rewritten row v) → IsAsked l w s r → HoldsRewritten l w m s r
 
 -- the call of a sequence that is rewritten is taken along by that
 abbrev pub PartnersHold : Type 0
-PartnersHold = (l : Layout) (w : World) (m : Memory) (s : Item) → IsLoadedItem l w m s → (i : ℕ) (r : InputRelocation) → HasDecision l s i r Partner → IsTakenAlong l w m s r
+PartnersHold = (l : Layout) (w : World) (m : Memory) (s : Item) → IsLoadedItem machine.X86_64 l w m s → (i : ℕ) (r : InputRelocation) → HasDecision l s i r Partner → IsTakenAlong l w m s r
 
 -- where an instruction is rewritten its field names a slot of the symbol, so that the symbol is followed whichever module has it
 abbrev pub RewrittenAreFollowed : Type 0
@@ -68,7 +68,7 @@ RewrittenAreFollowed = (l : Layout) (s : Item) (i : ℕ) (r : InputRelocation) (
 
 -- an instruction whose reference keeps it has the input's bytes around its fields, whatever is rewritten beside it
 abbrev pub InstructionsAreKept : Type 0
-InstructionsAreKept = (l : Layout) (w : World) (m : Memory) (s : Item) → IsLoadedItem l w m s → (i : ℕ) (r : InputRelocation) (d : Decision) → HasDecision l s i r d → KeepsInstruction d
+InstructionsAreKept = (l : Layout) (w : World) (m : Memory) (s : Item) → IsLoadedItem machine.X86_64 l w m s → (i : ℕ) (r : InputRelocation) (d : Decision) → HasDecision l s i r d → KeepsInstruction d
     → (start : ℕ) (o : Instruction) (first : InputRelocation) → IsTemplate l s r start o first → (k : ℕ) → IsOwnByte o k → IsInputByte w m s (start + k)
 
 -- the first relocation of a sequence keeps its instruction too, and memory has bytes at a further field
@@ -83,18 +83,18 @@ pub record SequenceIsKept (l : Layout) (w : World) (m : Memory) (s : Item) (firs
 
 -- so it is where one of its relocations keeps its instruction
 abbrev pub SequencesAreKept : Type 0
-SequencesAreKept = (l : Layout) (w : World) (m : Memory) (s : Item) → IsLoadedItem l w m s → (i : ℕ) (r : InputRelocation) (d : Decision) → HasDecision l s i r d → KeepsInstruction d
+SequencesAreKept = (l : Layout) (w : World) (m : Memory) (s : Item) → IsLoadedItem machine.X86_64 l w m s → (i : ℕ) (r : InputRelocation) (d : Decision) → HasDecision l s i r d → KeepsInstruction d
     → (start : ℕ) (o : Instruction) (first : InputRelocation) → IsOfSequence l s r start o first → (p : CallField) → Contains o.partners p → SequenceIsKept l w m s first start p
 
 -- every byte that is in no field and in no instruction of a reference is the input's
 abbrev pub OthersAreKept : Type 0
-OthersAreKept = (l : Layout) (w : World) (m : Memory) (s : Item) → IsLoadedItem l w m s → (k : ℕ) → k < length s.bytes → IsOther l s k → IsInputByte w m s k
+OthersAreKept = (l : Layout) (w : World) (m : Memory) (s : Item) → IsLoadedItem machine.X86_64 l w m s → (k : ℕ) → k < length s.bytes → IsOther l s k → IsInputByte w m s k
 
 -- an instruction that is kept, with its fields as their formulas have them, does what is demanded
 abbrev pub KeptInstructionsDo : Type 0
-KeptInstructionsDo = (l : Layout) (w : World) (m : Memory) (s : Item) → IsLoadedItem l w m s → FieldsHold l w m s → (i : ℕ) (r : InputRelocation) → IsKeptReference l s i r → IsAsked l w s r → (IsLinkedAlone l s r → ⊥)
+KeptInstructionsDo = (l : Layout) (w : World) (m : Memory) (s : Item) → IsLoadedItem machine.X86_64 l w m s → FieldsHold l w m s → (i : ℕ) (r : InputRelocation) → IsKeptReference l s i r → IsAsked l w s r → (IsLinkedAlone l s r → ⊥)
     → (start : ℕ) (o : Instruction) (first : InputRelocation) → IsTemplate l s r start o first → DoesDemanded (reads w m) l w m s first start o
 
 -- each reference of a loaded section holds, its instruction does what is demanded, and other bytes are the input's
 abbrev pub ItemsHold : Type 0
-ItemsHold = (l : Layout) (w : World) (m : Memory) (s : Item) → IsLoadedItem l w m s → FieldsHold l w m s → ItemHolds l w m s
+ItemsHold = (l : Layout) (w : World) (m : Memory) (s : Item) → IsLoadedItem machine.X86_64 l w m s → FieldsHold l w m s → ItemHolds l w m s

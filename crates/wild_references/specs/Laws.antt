@@ -1,7 +1,8 @@
 -- What the writer's decisions write is what the judge's formulas give.
---   KindGives k           the value of a kind is what the kind's expression gives
---   KindGivesLinked k     or what it gives with the output's own symbol
---   TermGives t           so it is of each kind with that term; SlotsGive of slots
+--   RowGives info         the value of a row is what the row's expression gives
+--   RowGivesLinked info   or what it gives with the output's own symbol
+--   TermGives t           so it is of each row with that term; SlotsGive of slots
+--   PartsGive             of a part of an address below its page, what the bits of the value are those of
 --   AddressesGive, AddressesGiveLinked   an address that moves is S + A, once it is moved
 --   EntriesGive           so is what an entry stores in a field that is left to it
 --   ThreadPlacesAreKnown  a symbol's place in the thread's data, and its distance from the thread pointer
@@ -9,21 +10,21 @@
 --   FieldHolds ..         a field in memory reads as its formula; FieldIsLinked with the output's own symbol
 --   FieldsHold ..         memory has an item's fields as the formulas have them, where they keep their instructions
 --   ItemFieldsHold          so it has each kept item that is there as it was decided
-use Rattle.std.specs.Prelude.{◌≡◌, ℕ, ◌+◌, ◌-◌, ◌%◌, ◌^◌, ◌≢◌, ◌⊎◌, ⊤, FitsSigned, Bool, true, List, Some, Ok}
+use Rattle.std.specs.Prelude.{◌≡◌, ℕ, ◌+◌, ◌-◌, ◌%◌, ◌^◌, ◌<◌, ◌≢◌, ◌⊎◌, ⊤, FitsSigned, Bool, true, List, Some, Ok, All}
 use Rattle.std.specs.Int.{w64, cast_unsigned}
+use Rattle.wild_types.specs.declared.kind.Machine.{Machine}
 use Rattle.wild_types.specs.declared.kind.Machine.TheVariants as machine
 use Rattle.wild_types.specs.declared.input.InputRelocation.{InputRelocation}
 use Rattle.wild_types.specs.declared.layout.Layout.{Layout}
 use Rattle.wild_types.specs.ResolvedFlags.{HaveTheirFlags}
-use Rattle.wild_reloc.specs.Agreement.{plain_value}
-use Rattle.wild_reloc.specs.Formula.{SymbolAddress, Formula, Reads}
+use Rattle.wild_reloc.specs.Formula.{Value, SymbolAddress, Formula, Reads, Keeps}
 use Rattle.wild_reloc.specs.Expression.{expression_of, writes}
 use Rattle.wild_reloc.specs.declared.expression.Term.{Term}
 use Rattle.wild_reloc.specs.declared.expression.Term.TheVariants as term
 use Rattle.wild_reloc.specs.declared.expression.SlotSort.{SlotSort}
 use Rattle.wild_reloc.specs.declared.expression.SlotSort.TheVariants as sorts
-use Rattle.wild_reloc.specs.declared.info.RelocationKind.{RelocationKind}
-use Rattle.wild_reloc.specs.declared.info.RelocationKind.TheVariants as kinds
+use Rattle.wild_reloc.specs.declared.expression.Class.TheVariants as class
+use Rattle.wild_reloc.specs.declared.info.RelocationKindInfo.{RelocationKindInfo}
 use Rattle.wild_reloc.specs.declared.info.RelocationSize.{RelocationSize}
 use Rattle.wild_layout.specs.declared.decision.Decision.{Decision}
 use Rattle.wild_layout.specs.declared.decision.Decision.TheVariants.{Moved, Left, Rewritten, Partner}
@@ -41,45 +42,57 @@ use Rattle.wild_records.specs.Abi.Relocation.{r_x86_64_none}
 use Rattle.wild_types.specs.Item.{Item}
 use Rattle.wild_meaning.specs.Item.{IsKept}
 use Rattle.wild_meaning.specs.Field.{formula_of, FieldReads}
-use Rattle.wild_meaning.specs.Formula.{IsSum, HasOffsetMode, Gives, IsOwnSum, GivesLinked, TakesOffset}
+use Rattle.wild_meaning.specs.Formula.{IsSum, HasOffsetMode, Gives, IsOwnSum, GivesLinked, TakesAddress, TakesOffset}
 use Rattle.wild_meaning.specs.Reference.{IsAsked, IsStubbed, IsLinkedAlone}
-use Rattle.wild_references.specs.Terms.{IsPlaced, HasTerm, IsFollowed}
+use Rattle.wild_references.specs.Terms.{IsPlaced, MovesByPages, value_by_row, HasTerm, IsFollowed}
 use Rattle.wild_meaning.specs.Linked.{processor_of}
 
--- the value that the writer computes for a kind is what the expression of that kind gives, where that is followed (x86-64 psABI,
--- "Relocation Types")
-abbrev pub KindGives : RelocationKind → Type 0
-KindGives k = (l : Layout) (w : World) (m : Memory) (s : Item) (r : InputRelocation) (x : ℕ) → HasTerm l w m s r k x → IsFollowed l r k → Gives (plain_value k) l w m s r x
+-- the value that the writer computes for a row is what the expression of that row gives, where that is followed (x86-64 psABI,
+-- "Relocation Types"; aaelf64, "Relocation operations")
+abbrev pub RowGives : RelocationKindInfo → Type 0
+RowGives info = (l : Layout) (w : World) (m : Memory) (s : Item) (r : InputRelocation) (x : ℕ) → HasTerm l w m s r info x → IsFollowed l r (value_by_row info) → Gives (value_by_row info) l w m s r x
 
--- else, at base 0, it is what the expression gives with the output's own symbol: of the kinds that take a symbol's address or its
+-- else, at base 0, it is what the expression gives with the output's own symbol: of the rows that take a symbol's address or its
 -- offset from the thread pointer
-abbrev pub KindGivesLinked : RelocationKind → Type 0
-KindGivesLinked k = (l : Layout) (w : World) (m : Memory) (s : Item) (r : InputRelocation) (x i : ℕ) → HasTerm l w m s r k x → w.base ≡ 0 → r.symbol ≡ Some i → (IsStubbed l i → ⊥) ⊎ TakesOffset (plain_value k) → GivesLinked (plain_value k) l w s r x
+abbrev pub RowGivesLinked : RelocationKindInfo → Type 0
+RowGivesLinked info = (l : Layout) (w : World) (m : Memory) (s : Item) (r : InputRelocation) (x i : ℕ) → HasTerm l w m s r info x → w.base ≡ 0 → r.symbol ≡ Some i → (IsStubbed l i → ⊥) ⊎ TakesOffset (value_by_row info) → GivesLinked (value_by_row info) l w s r x
 
--- so it is of each kind with that term whose field has all of the value
+-- so it is of each row with that term whose field has all of the value
 abbrev pub TermGives : Term → Type 0
-TermGives t = (k : RelocationKind) → (expression_of k).term ≡ t → writes (expression_of k).class ≡ true → KindGives k
+TermGives t = (info : RelocationKindInfo) → (expression_of info.kind).term ≡ t → writes (expression_of info.kind).class ≡ true → RowGives info
 
 abbrev pub TermGivesLinked : Term → Type 0
-TermGivesLinked t = (k : RelocationKind) → (expression_of k).term ≡ t → writes (expression_of k).class ≡ true → KindGivesLinked k
+TermGivesLinked t = (info : RelocationKindInfo) → (expression_of info.kind).term ≡ t → writes (expression_of info.kind).class ≡ true → RowGivesLinked info
 
 -- of slots whichever module has the symbol; of a descriptor's in code whose references are no offsets ("ELF Handling For Thread-Local
 -- Storage", "Linker Relaxations")
 abbrev pub SlotsGive : Type 0
-SlotsGive = (sort : SlotSort) (k : RelocationKind) → (expression_of k).term ≡ term.Slot sort → writes (expression_of k).class ≡ true → (l : Layout) (w : World) (m : Memory) (s : Item) (r : InputRelocation) (x : ℕ) → HasTerm l w m s r k x → (sort ≡ sorts.Descriptor → HasOffsetMode l s → ⊥) → Gives (plain_value k) l w m s r x
+SlotsGive = (sort : SlotSort) (info : RelocationKindInfo) → (expression_of info.kind).term ≡ term.Slot sort → writes (expression_of info.kind).class ≡ true → (l : Layout) (w : World) (m : Memory) (s : Item) (r : InputRelocation) (x : ℕ) → HasTerm l w m s r info x → (sort ≡ sorts.Descriptor → HasOffsetMode l s → ⊥) → Gives (value_by_row info) l w m s r x
+
+-- the expression gives a number that has the same bits below its page as x
+abbrev pub GivesPart : Value → Layout → World → Memory → Item → InputRelocation → ℕ → Type 0
+GivesPart v l w m s r x = (t : ℕ) × Gives v l w m s r t × (t % 4096 ≡ x % 4096)
+
+-- of AArch64's rows of such bits, of a symbol or of a slot (aaelf64, "Relocation operations")
+abbrev pub PartsGive : Type 0
+PartsGive = (info : RelocationKindInfo) → (expression_of info.kind).class ≡ class.Part → (l : Layout) (w : World) (m : Memory) (s : Item) (r : InputRelocation) (x : ℕ) → l.machine ≡ machine.AArch64 → HasTerm l w m s r info x → IsFollowed l r (value_by_row info) → GivesPart (value_by_row info) l w m s r x
+
+-- else, at base 0, with the output's own symbol
+abbrev pub PartsGiveLinked : Type 0
+PartsGiveLinked = (info : RelocationKindInfo) → (expression_of info.kind).class ≡ class.Part → (l : Layout) (w : World) (m : Memory) (s : Item) (r : InputRelocation) (x i : ℕ) → HasTerm l w m s r info x → w.base ≡ 0 → r.symbol ≡ Some i → (IsStubbed l i → ⊥) ⊎ TakesOffset (value_by_row info) → TakesOffset (value_by_row info) ⊎ TakesAddress (value_by_row info) → GivesLinked (value_by_row info) l w s r x
 
 -- an address that is decided to move is S + A of the world, once it is more by the base, where the symbol is followed
 abbrev pub AddressesGive : Type 0
-AddressesGive = (l : Layout) (w : World) (m : Memory) (s : Item) (r : InputRelocation) (v : ℕ) (packed : Bool) → IsPlaced l w m → NamesSymbol l r → decided l s r ≡ Ok (Moved v packed) → IsFollowed l r kinds.Absolute → IsSum SymbolAddress l w m s r (number_at InMemory w v packed)
+AddressesGive = (l : Layout) (w : World) (m : Memory) (s : Item) (r : InputRelocation) (v : ℕ) (packed : Bool) → IsPlaced l w m → NamesSymbol l r → decided l s r ≡ Ok (Moved v packed) → IsFollowed l r SymbolAddress → IsSum SymbolAddress l w m s r (number_at InMemory w v packed)
 
 -- else, at base 0, with the output's own symbol
 abbrev pub AddressesGiveLinked : Type 0
 AddressesGiveLinked = (l : Layout) (w : World) (m : Memory) (s : Item) (r : InputRelocation) (v i : ℕ) (packed : Bool) → IsPlaced l w m → NamesSymbol l r → decided l s r ≡ Ok (Moved v packed) → w.base ≡ 0 → r.symbol ≡ Some i → (IsStubbed l i → ⊥) → IsOwnSum SymbolAddress l w s r (number_at InMemory w v packed)
 
--- a field that is left to an entry has what the formula of the relocation's type gives, by what the entry stores
+-- a field that is left to an entry has what the formula of the relocation's type gives, by what the entry stores, and is whole bytes
 abbrev pub EntriesGive : Type 0
 EntriesGive = (l : Layout) (w : World) (m : Memory) (s : Item) (r : InputRelocation) (z : RelocationSize) (number symbol addend : ℕ) (bs : List ℕ) → IsPlaced l w m → NamesSymbol l r → FitsSigned w64 r.addend → decided l s r ≡ Ok (Left z number symbol addend)
-    → ReadsLeft (processor_of l.machine) InMemory w z number symbol addend bs → (f : Formula) × (formula_of l.machine r.number ≡ Some f) × (x : ℕ) × Gives f.value l w m s r x × Reads f.form bs x
+    → ReadsLeft (processor_of l.machine) InMemory w z number symbol addend bs → (f : Formula) × (formula_of l.machine r.number ≡ Some f) × (x : ℕ) × Gives f.value l w m s r x × Reads f.form bs x × ((old : List ℕ) → Keeps f.form old bs)
 
 -- in a world with the executable as its first module: the distance of its thread-local data, where a symbol of these lies, and
 -- that this is its address less the thread pointer ("ELF Handling For Thread-Local Storage", "Run-Time Handling of TLS")
@@ -123,9 +136,16 @@ pub record FieldsHold (l : Layout) (w : World) (m : Memory) (s : Item) : Type 0 
   pub references : (i : ℕ) (r : InputRelocation) → IsKeptReference l s i r → IsAsked l w s r → (IsLinkedAlone l s r → ⊥) → FieldHolds l w m s r
   pub linked : (i : ℕ) (r : InputRelocation) → IsKeptReference l s i r → IsLinkedAlone l s r → w.base ≡ 0 → FieldIsLinked l w m s r
 
--- a kept item of an x86-64 output in a legal world, and a memory that has slots and stubs, and the item as it was decided
-pub record IsLoadedItem (l : Layout) (w : World) (m : Memory) (s : Item) : Type 0 where
-  pub x86 : l.machine ≡ machine.X86_64
+-- the bytes of instructions that fields are bits of
+abbrev pub HasBytes : Machine → Item → Type 0
+HasBytes machine.X86_64 s = ⊤
+HasBytes machine.AArch64 s = All (λ (b : ℕ). b < 256) s.bytes
+
+-- a kept item of an output for machine k in a legal world, and a memory that has slots and stubs, and the item as it was decided
+pub record IsLoadedItem (k : Machine) (l : Layout) (w : World) (m : Memory) (s : Item) : Type 0 where
+  pub on : l.machine ≡ k
+  pub paged : MovesByPages k l w
+  pub bytes : HasBytes k s
   pub loadable : IsLoadable l.kind
   pub flags : HaveTheirFlags l
   pub numbers : NumbersFit l
@@ -139,4 +159,4 @@ pub record IsLoadedItem (l : Layout) (w : World) (m : Memory) (s : Item) : Type 
 
 -- its fields hold
 abbrev pub ItemFieldsHold : Type 0
-ItemFieldsHold = (l : Layout) (w : World) (m : Memory) (s : Item) → IsLoadedItem l w m s → FieldsHold l w m s
+ItemFieldsHold = (k : Machine) (l : Layout) (w : World) (m : Memory) (s : Item) → IsLoadedItem k l w m s → FieldsHold l w m s

@@ -1,9 +1,9 @@
--- What stubs do in memory, whether a reference uses them or not (x86-64 psABI, "Procedure Linkage Table").
+-- What stubs do in memory, whether a reference uses them or not (x86-64 psABI, "Procedure Linkage Table"; "ELF for the Arm 64-bit
+-- Architecture", "Program Linkage Table").
 --   GoesThrough w m r p    code at the stub p goes on to the address in the first slot of a resolution
 --   EachStubGoesOn l w m   so does each stub of the layout
 --   StubsGoOn              the law
 use Rattle.std.specs.Prelude.{◌≡◌, ℕ, ◌+◌, Some}
-use Rattle.wild_types.specs.declared.kind.Machine.TheVariants as machine
 use Rattle.wild_types.specs.declared.symbol.Resolution.{Resolution}
 use Rattle.wild_types.specs.declared.symbol.Symbol.{Symbol}
 use Rattle.wild_types.specs.declared.layout.Layout.{Layout}
@@ -16,6 +16,7 @@ use Rattle.wild_meaning.specs.Value.{IsSymbol}
 use Rattle.wild_meaning.specs.Slot.{HasWord}
 use Rattle.wild_loader.specs.Reach.{JumpsTo}
 use Rattle.wild_meaning.specs.Linked.{processor_of}
+use Rattle.wild_references.specs.Terms.{MovesByPages}
 
 -- the resolution has a slot, and the code at the loaded address of the stub p goes on, by one jump, to the address in that slot
 pub record GoesThrough (w : World) (m : Memory) (r : Resolution) (p : ℕ) : Type 0 where
@@ -31,4 +32,4 @@ EachStubGoesOn l w m = (i p : ℕ) (s : Symbol) (r : Resolution) → IsSymbol l 
 
 -- where flags and slots agree, and memory has the slots and stubs of symbols
 abbrev pub StubsGoOn : Type 0
-StubsGoOn = (l : Layout) (w : World) (m : Memory) → l.machine ≡ machine.X86_64 → m.machine ≡ processor_of l.machine → HaveTheirFlags l → EachAgrees l → HasSlots l w m → EachStubGoesOn l w m
+StubsGoOn = (l : Layout) (w : World) (m : Memory) → MovesByPages l.machine l w → m.machine ≡ processor_of l.machine → HaveTheirFlags l → EachAgrees l → HasSlots l w m → EachStubGoesOn l w m

@@ -1,21 +1,35 @@
 -- What is known where a relocation writes a value.
 --   SymbolsFit l    what is said of the symbols agrees
---   IsPlaced l w m  what a layout, a legal world and memory come to for the values of an x86-64 output
---   HasTerm ..      a relocation writes x at its place, by the writer's expression of a kind
+--   MovesByPages m l w   what else the values of an AArch64 output rest on
+--   IsPlaced l w m  what a layout, a legal world and memory come to for the values of an output
+--   is_expressed .. the machine has relocation types with such an expression
+--   value_by_row    the formula's value that a row stands for
+--   HasTerm ..      a relocation writes x at its place, by the writer's expression of a row
 --   IsFollowed ..   the value is right whichever module has the symbol
-use Rattle.std.specs.Prelude.{◌≡◌, ℕ, ◌+◌, ◌^◌, ◌<◌, ◌≤◌, ◌⊎◌, true, false, Some, Ok, All}
+use Rattle.std.specs.Prelude.{◌≡◌, ℕ, ◌+◌, ◌%◌, ◌^◌, ◌<◌, ◌≤◌, ◌⊎◌, ⊤, Bool, true, false, not, Option, Some, None, Ok, All}
+use Rattle.wild_types.specs.declared.kind.Machine.{Machine}
 use Rattle.wild_types.specs.declared.kind.Machine.TheVariants as machine
 use Rattle.wild_types.specs.declared.input.InputRelocation.{InputRelocation}
 use Rattle.wild_types.specs.declared.layout.Layout.{Layout}
+use Rattle.wild_types.specs.declared.symbol.Symbol.{Symbol}
+use Rattle.wild_types.specs.SymbolSlots.{plt_of}
+use Rattle.wild_clauses.specs.SlotPlaces.{slot_is_even}
 use Rattle.wild_slot.specs.declared.treatment.Treatment.TheVariants as treatments
 use Rattle.wild_types.specs.Kinds.{is_position_independent}
 use Rattle.wild_types.specs.Lookups.{place_of, allocated}
 use Rattle.wild_types.specs.ResolvedFlags.{HaveTheirFlags}
-use Rattle.wild_slot.specs.Treatment.{kind_treatment}
-use Rattle.wild_reloc.specs.Agreement.{plain_value}
-use Rattle.wild_reloc.specs.declared.info.RelocationKind.{RelocationKind}
+use Rattle.wild_slot.specs.Treatment.{kind_treatment, suits}
+use Rattle.wild_reloc.specs.Agreement.{value_of}
+use Rattle.wild_reloc.specs.Expression.{expression_of}
+use Rattle.wild_reloc.specs.Formula.{Value}
+use Rattle.wild_reloc.specs.declared.expression.Term.{Term}
+use Rattle.wild_reloc.specs.declared.expression.Term.TheVariants as term
+use Rattle.wild_reloc.specs.declared.expression.Taken.{Taken}
+use Rattle.wild_reloc.specs.declared.expression.Taken.TheVariants as taken
+use Rattle.wild_reloc.specs.declared.info.PageMask.{PageMask}
+use Rattle.wild_reloc.specs.declared.info.PageMask.TheVariants as masks
 use Rattle.wild_reloc.specs.declared.info.RelocationKindInfo.{RelocationKindInfo}
-use Rattle.wild_layout.specs.Values.{term_of, value_by}
+use Rattle.wild_layout.specs.Values.{term_at, value_in}
 use Rattle.wild_layout.specs.Geometry.{DefinitionNames, NamesSymbol}
 use Rattle.wild_layout.specs.SlotOrder.{EachAgrees}
 use Rattle.wild_layout.specs.ListedSymbols.{AreListed}
@@ -23,6 +37,7 @@ use Rattle.wild_layout.specs.Numbers.{SymbolNumbers}
 use Rattle.wild_geometry.specs.Slots.{HasSlots}
 use Rattle.wild_loader.specs.declared.memory.Memory.{Memory}
 use Rattle.wild_loader.specs.declared.world.World.{World}
+use Rattle.wild_meaning.specs.Thread.{rounded_up, control_block_size}
 use Rattle.wild_meaning.specs.World.{IsMovable, IsLoadable, IsLegal}
 use Rattle.wild_meaning.specs.Value.{IsAbsolute, IsReplaceable}
 use Rattle.wild_types.specs.Item.{Item}
@@ -40,10 +55,25 @@ pub record SymbolsFit (l : Layout) : Type 0 where
   pub dynsyms : AreListed l
   pub numbers : All SymbolNumbers l.symbols
 
--- an x86-64 output in a legal world: one that does not move is at base 0, an executable is the first module, its numbers fit, and
+-- an AArch64 output moves by whole pages of 4096 bytes, so that the bits of an address below its page stay (aaelf64, "Relocation
+-- operations": Page); its slots stand at multiples of 8, and no stub ends at the last address, so that each stub reads its slot; the thread
+-- control block, up to the alignment of the thread-local data, has a size of the machine; and no pair stands for these data: no type of
+-- AArch64 takes one
+pub record IsPaged (l : Layout) (w : World) : Type 0 where
+  pub pages : w.base % 4096 ≡ 0
+  pub even : All (λ (s : Symbol). slot_is_even s ≡ true) l.symbols
+  pub below : All (λ (s : Symbol). (p : ℕ) → plt_of s ≡ Some p → w.base + p + 16 < 2 ^ 64) l.symbols
+  pub block : rounded_up control_block_size l.tls.align < 2 ^ 64
+  pub single : l.tlsld ≡ None
+
+abbrev pub MovesByPages : Machine → Layout → World → Type 0
+MovesByPages machine.X86_64 l w = ⊤
+MovesByPages machine.AArch64 l w = IsPaged l w
+
+-- an output in a legal world: one that does not move is at base 0, an executable is the first module, its numbers fit, and
 -- memory has the slots and stubs of its symbols
 pub record IsPlaced (l : Layout) (w : World) (m : Memory) : Type 0 where
-  pub x86 : l.machine ≡ machine.X86_64
+  pub paged : MovesByPages l.machine l w
   pub loadable : IsLoadable l.kind
   pub still : is_position_independent l.kind ≡ false → w.base ≡ 0
   pub movable : is_position_independent l.kind ≡ true → IsMovable l.kind
@@ -55,23 +85,57 @@ pub record IsPlaced (l : Layout) (w : World) (m : Memory) : Type 0 where
   pub loaded : m.machine ≡ processor_of l.machine
   pub slots : HasSlots l w m
 
--- a relocation of an allocated section whose value x in its field is the writer's expression of a kind, at a place that does
+-- ---- expressions
+
+-- which page a term is taken by, in an expression with that term from which so much is taken: that of S + A, of G, or of the table (aaelf64,
+-- "Relocation operations": Page)
+abbrev pub page_mask : Term → Taken → Option PageMask
+page_mask term.Symbol taken.Place = Some masks.SymbolPlusAddendAndPosition
+page_mask (term.Slot sort) taken.Place = Some masks.GotEntryAndPosition
+page_mask (term.Slot sort) taken.Table = Some masks.GotBase
+page_mask t less = None
+
+abbrev pub is_mask : Option PageMask → PageMask → Bool
+is_mask (Some masks.SymbolPlusAddendAndPosition) masks.SymbolPlusAddendAndPosition = true
+is_mask (Some masks.GotEntryAndPosition) masks.GotEntryAndPosition = true
+is_mask (Some masks.GotBase) masks.GotBase = true
+is_mask o mask = false
+
+abbrev pub is_table : Taken → Bool
+is_table taken.Table = true
+is_table less = false
+
+-- a machine has relocation types with that expression: on x86-64 no term is taken as its page, on AArch64 nothing is less the table itself
+-- (x86-64 psABI, "Relocation Types"; aaelf64, "Relocation operations")
+abbrev pub is_expressed : Machine → Term → Taken → Option PageMask → Bool
+is_expressed machine.X86_64 t less None = true
+is_expressed machine.X86_64 t less (Some mask) = false
+is_expressed machine.AArch64 t less None = not (is_table less)
+is_expressed machine.AArch64 t less (Some mask) = is_mask (page_mask t less) mask
+
+-- the formula's value that a row stands for
+abbrev pub value_by_row : RelocationKindInfo → Value
+value_by_row info = value_of info.kind info.mask info.size
+
+-- a relocation of an allocated section whose value x in its field is the writer's expression of a row, at a place that does
 -- not wrap; the layout treats it as a value, and it is asked at this base
-pub record HasTerm (l : Layout) (w : World) (m : Memory) (s : Item) (r : InputRelocation) (k : RelocationKind) (x : ℕ) : Type 0 where
+pub record HasTerm (l : Layout) (w : World) (m : Memory) (s : Item) (r : InputRelocation) (info : RelocationKindInfo) (x : ℕ) : Type 0 where
   pub placed : IsPlaced l w m
   pub room : allocated s.flags ≡ true
   pub listed : NamesSymbol l r
   pub number : ℕ
   pub row : RelocationKindInfo
-  pub treated : kind_treatment l s.flags number r.symbol row k ≡ treatments.Value row
+  pub treated : kind_treatment l s.flags number r.symbol row info.kind ≡ treatments.Value row
+  pub suited : suits l.machine r info ≡ true
+  pub expressed : is_expressed l.machine (expression_of info.kind).term (expression_of info.kind).taken info.mask ≡ true
   pub term : ℕ
-  pub given : term_of l r.symbol k ≡ Ok term
-  pub value : value_by l k term r.addend (place_of s.address r) ≡ x
+  pub given : term_at l r info (place_of s.address r) ≡ Ok term
+  pub value : value_in l info term r.addend (place_of s.address r) ≡ x
   pub place : place_at w s r.offset ≡ w.base + place_of s.address r
   pub ends : w.base + place_of s.address r ≤ 2 ^ 64
-  pub asked : IsPlaceRelative (plain_value k) → IsMovable l.kind → (i : ℕ) → r.symbol ≡ Some i → IsAbsolute l i → w.base ≡ 0
+  pub asked : IsPlaceRelative (value_by_row info) → IsMovable l.kind → (i : ℕ) → r.symbol ≡ Some i → IsAbsolute l i → w.base ≡ 0
 
--- whichever module has the relocation's symbol, it is not taken by itself: it is the output's own, or the expression of the kind
+-- whichever module has the relocation's symbol, it is not taken by itself: it is the output's own, or the expression
 -- goes by a slot or a stub, or the output's address for it is its stub's
-abbrev pub IsFollowed : Layout → InputRelocation → RelocationKind → Type 0
-IsFollowed l r k = (i : ℕ) → r.symbol ≡ Some i → IsReplaceable l i false ⊎ (((TakesOffset (plain_value k) → ⊥) × (TakesAddress (plain_value k) → ⊥)) ⊎ ((TakesOffset (plain_value k) → ⊥) × IsStubbed l i))
+abbrev pub IsFollowed : Layout → InputRelocation → Value → Type 0
+IsFollowed l r v = (i : ℕ) → r.symbol ≡ Some i → IsReplaceable l i false ⊎ (((TakesOffset v → ⊥) × (TakesAddress v → ⊥)) ⊎ ((TakesOffset v → ⊥) × IsStubbed l i))

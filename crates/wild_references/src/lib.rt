@@ -2,14 +2,15 @@
 #![tactic(auto)]
 
 ghost use Rattle.wild_reloc.specs.declared.expression.Term.TheVariants as term;
-ghost use Rattle.wild_references.specs.Laws.{AddressesGive, AddressesGiveLinked, EntriesGive, ItemFieldsHold, SlotsGive, TermGives, TermGivesLinked, ThreadPlacesAreKnown};
+ghost use Rattle.wild_references.specs.Laws.{AddressesGive, AddressesGiveLinked, EntriesGive, ItemFieldsHold, PartsGive, PartsGiveLinked, SlotsGive, TermGives, TermGivesLinked, ThreadPlacesAreKnown};
 ghost use Rattle.wild_references.specs.Stubs.{StubsGoOn};
 ghost use Rattle.wild_references.specs.Filled.{FilledInstructionsDo};
 ghost use Rattle.wild_references.specs.EffectLaws.{InstructionsAreKept, ItemsHold, KeptInstructionsDo, OthersAreKept, PartnersHold, RewrittenAreFollowed, RewrittenHold, RewrittenStand, SequencesAreKept, WindowsAreAlone};
 
-use wild_loader::stubs_are_read;
+use wild_geometry::machines_have_their_facts;
+use wild_loader::{stubs_are_read, stubs_of_words_are_read};
 use wild_relax::{rewrites_keep_the_effect, rewrites_stay_in_their_patterns};
-use wild_reloc::{fields_of_x86_64, widths_of_fields};
+use wild_reloc::widths_of_fields;
 
 /// S + A, of a symbol that does not move or in an output that does not, and S + A less the place or the table.
 pub fn symbols_are_given()
@@ -17,6 +18,7 @@ pub fn symbols_are_given()
     ensures linked { TermGivesLinked term.Symbol }
 {
     stubs_are_read();
+    stubs_of_words_are_read();
 }
 
 /// L + A, less the place or the table.
@@ -24,6 +26,7 @@ pub fn stubs_are_given()
     ensures { TermGives term.Stub }
 {
     stubs_are_read();
+    stubs_of_words_are_read();
 }
 
 /// G + A, less the place or the table, of slots of each sort.
@@ -31,6 +34,7 @@ pub fn slots_are_given()
     ensures { SlotsGive }
 {
     stubs_are_read();
+    stubs_of_words_are_read();
 }
 
 /// GOT + A - P.
@@ -42,6 +46,15 @@ pub fn distances_of_the_table_are_given()
 pub fn sizes_are_given()
     ensures { TermGives term.Size }
 {}
+
+/// Of an AArch64 output the bits below its page of S + A, and of G.
+pub fn parts_are_given()
+    ensures gives { PartsGive }
+    ensures linked { PartsGiveLinked }
+{
+    stubs_are_read();
+    stubs_of_words_are_read();
+}
 
 /// An offset from the thread pointer, and A.
 pub fn offsets_from_the_thread_pointer_are_given()
@@ -61,13 +74,14 @@ pub fn addresses_are_given()
     ensures linked { AddressesGiveLinked }
 {
     stubs_are_read();
+    stubs_of_words_are_read();
 }
 
 /// S + A and Z + A in fields that are left to entries: what a loader stores there.
 pub fn entries_are_given()
     ensures { EntriesGive }
 {
-    fields_of_x86_64();
+    machines_have_their_facts();
 }
 
 /// Where a symbol lies in the thread's data, and that this is its address less the thread pointer.
@@ -80,17 +94,19 @@ pub fn stubs_go_on()
     ensures { StubsGoOn }
 {
     stubs_are_read();
+    stubs_of_words_are_read();
 }
 
 /// Where memory has a kept section as it was decided, each of its references that keeps its instruction reads as its formula.
 pub fn item_fields_hold()
     ensures { ItemFieldsHold }
 {
-    fields_of_x86_64();
+    machines_have_their_facts();
     widths_of_fields();
     symbols_are_given();
     stubs_are_given();
     slots_are_given();
+    parts_are_given();
     distances_of_the_table_are_given();
     sizes_are_given();
     offsets_from_the_thread_pointer_are_given();

@@ -1,6 +1,9 @@
 use Rattle.std.proofs.Common.{refl}
 use Rattle.wild_reloc.specs.declared.expression.SlotSort.TheVariants as sorts
+use Rattle.wild_reloc.specs.Table.{plain}
 use Rattle.wild_reloc.specs.declared.info.RelocationKind.TheVariants as kinds
+use Rattle.wild_reloc.specs.declared.info.Width.TheVariants.{Four}
+use Rattle.wild_reloc.specs.declared.range.Sign.TheVariants.{Signed}
 use Rattle.wild_references.proofs.RewrittenWhole.{rewritten_stand, rewritten_hold, partners_hold}
 use Rattle.wild_references.proofs.rewritten_instructions_hold.Goals as goal
 
@@ -11,10 +14,10 @@ returns-clause-stand c =
       keeps = c.rewrites_keep_the_effect.ensures;
       stand = c.rewrites_stay_in_their_patterns.ensures.stand;
       whole = c.rewrites_stay_in_their_patterns.ensures.whole;
-      sum = c.symbols_are_given.ensures.gives kinds.Absolute refl refl;
-      distance = c.symbols_are_given.ensures.gives kinds.Relative refl refl;
-      pointer = c.offsets_from_the_thread_pointer_are_given.ensures.gives kinds.TpOff refl refl;
-      slot = λ l w m s r x h f. c.slots_are_given.ensures sorts.Offset kinds.GotTpOff refl refl l w m s r x h (λ e. cc);
+      sum = λ sign. c.symbols_are_given.ensures.gives (plain kinds.Absolute Four sign) refl refl;
+      distance = c.symbols_are_given.ensures.gives (plain kinds.Relative Four Signed) refl refl;
+      pointer = c.offsets_from_the_thread_pointer_are_given.ensures.gives (plain kinds.TpOff Four Signed) refl refl;
+      slot = λ l w m s r x h f. c.slots_are_given.ensures sorts.Offset (plain kinds.GotTpOff Four Signed) refl refl l w m s r x h (λ e. cc);
     })
 
 pub returns-clause-rewritten : goal.returns-clause-rewritten
@@ -24,10 +27,10 @@ returns-clause-rewritten c =
       keeps = c.rewrites_keep_the_effect.ensures;
       stand = c.rewrites_stay_in_their_patterns.ensures.stand;
       whole = c.rewrites_stay_in_their_patterns.ensures.whole;
-      sum = c.symbols_are_given.ensures.gives kinds.Absolute refl refl;
-      distance = c.symbols_are_given.ensures.gives kinds.Relative refl refl;
-      pointer = c.offsets_from_the_thread_pointer_are_given.ensures.gives kinds.TpOff refl refl;
-      slot = λ l w m s r x h f. c.slots_are_given.ensures sorts.Offset kinds.GotTpOff refl refl l w m s r x h (λ e. cc);
+      sum = λ sign. c.symbols_are_given.ensures.gives (plain kinds.Absolute Four sign) refl refl;
+      distance = c.symbols_are_given.ensures.gives (plain kinds.Relative Four Signed) refl refl;
+      pointer = c.offsets_from_the_thread_pointer_are_given.ensures.gives (plain kinds.TpOff Four Signed) refl refl;
+      slot = λ l w m s r x h f. c.slots_are_given.ensures sorts.Offset (plain kinds.GotTpOff Four Signed) refl refl l w m s r x h (λ e. cc);
     })
 
 pub returns-clause-partners : goal.returns-clause-partners
@@ -37,8 +40,8 @@ returns-clause-partners c =
       keeps = c.rewrites_keep_the_effect.ensures;
       stand = c.rewrites_stay_in_their_patterns.ensures.stand;
       whole = c.rewrites_stay_in_their_patterns.ensures.whole;
-      sum = c.symbols_are_given.ensures.gives kinds.Absolute refl refl;
-      distance = c.symbols_are_given.ensures.gives kinds.Relative refl refl;
-      pointer = c.offsets_from_the_thread_pointer_are_given.ensures.gives kinds.TpOff refl refl;
-      slot = λ l w m s r x h f. c.slots_are_given.ensures sorts.Offset kinds.GotTpOff refl refl l w m s r x h (λ e. cc);
+      sum = λ sign. c.symbols_are_given.ensures.gives (plain kinds.Absolute Four sign) refl refl;
+      distance = c.symbols_are_given.ensures.gives (plain kinds.Relative Four Signed) refl refl;
+      pointer = c.offsets_from_the_thread_pointer_are_given.ensures.gives (plain kinds.TpOff Four Signed) refl refl;
+      slot = λ l w m s r x h f. c.slots_are_given.ensures sorts.Offset (plain kinds.GotTpOff Four Signed) refl refl l w m s r x h (λ e. cc);
     })
