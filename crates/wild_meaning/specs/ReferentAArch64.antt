@@ -11,7 +11,7 @@ use Rattle.wild_reloc.specs.Barred.{is_listed}
 use Rattle.wild_reloc.specs.Formula.{Value, SymbolPart, PageDistance, StubDistance}
 use Rattle.wild_types.specs.declared.input.InputRelocation.{InputRelocation}
 use Rattle.wild_types.specs.declared.layout.Layout.{Layout}
-use Rattle.wild_types.specs.Flags.{ifunc, undefined_weak, plt_stub}
+use Rattle.wild_types.specs.Flags.{ifunc, absolute, undefined_weak, plt_stub}
 use Rattle.wild_loader.specs.declared.memory.Memory.{Memory}
 use Rattle.wild_loader.specs.declared.world.World.{World}
 use Rattle.wild_meaning.specs.Value.{HasRaw, HasFlag, HasValue}
@@ -39,10 +39,11 @@ own_place w item r = (place_at w item r.offset + (if is_listed r.number branch_t
 -- ---- a symbol that is there
 
 -- the stub at p is what the output takes for symbol i's address: the symbol is one that a resolver answers for, or stands at its
--- stub (x86-64 psABI, "Function Addresses")
+-- stub, which moves with the base (x86-64 psABI, "Function Addresses")
 pub record IsStandIn (l : Layout) (i p : ℕ) : Type 0 where
   pub stub : HasStub l i p
   pub stands : HasFlag l i ifunc true ⊎ HasRaw l i p
+  pub moves : HasFlag l i absolute false
 
 -- a is the one address that stands for symbol i: such a stub's, else its value
 abbrev pub IsOneAddress : Layout → World → Memory → ℕ → ℕ → Type 0

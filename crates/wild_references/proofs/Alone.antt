@@ -28,7 +28,7 @@ use Rattle.wild_reloc.specs.declared.info.PageMask.TheVariants as masks
 use Rattle.wild_reloc.specs.declared.expression.Term.{Term}
 use Rattle.wild_reloc.specs.declared.expression.Term.TheVariants as term
 use Rattle.wild_reloc.specs.declared.expression.Taken.{Taken}
-use Rattle.wild_reloc.specs.declared.expression.Taken.TheVariants as taken
+use Rattle.wild_reloc.specs.declared.expression.Taken.TheVariants as lesser
 use Rattle.wild_layout.specs.Geometry.{NamesSymbol}
 use Rattle.wild_slot.proofs.TreatmentLemmas.{treated_says}
 use Rattle.wild_reloc.specs.Expression.{expression_of, paged, taken_of, expressed, writes}
@@ -49,7 +49,7 @@ use Rattle.wild_references.proofs.KnownRows.{IsSeen, RowFits}
 use Rattle.wild_references.proofs.LowForms.{is_low}
 use Rattle.wild_references.proofs.Referents.{sized_is}
 use Rattle.wild_references.proofs.Stubbed.{stubbed_or_not}
-use Rattle.wild_references.proofs.Symbols.{replaceable_is, replaceable_at, flag_at, definition_there}
+use Rattle.wild_references.proofs.Symbols.{replaceable_is, replaceable_at, flag_at}
 use Rattle.wild_references.proofs.Treated.{address_kept}
 use Rattle.wild_references.proofs.Written.{IsLeftField}
 
@@ -108,7 +108,7 @@ sized_back (BitMasking bits) SymbolAddress h = refl
 sized_back (BitMasking bits) other h = h
 
 -- no page is S + A
-never_place : (t : Term) → expressed t taken.PagePlace ≡ SymbolAddress → ⊥
+never_place : (t : Term) → expressed t lesser.PagePlace ≡ SymbolAddress → ⊥
 never_place term.Symbol h = cc
 never_place term.Stub h = cc
 never_place (term.Slot sort) h = cc
@@ -121,7 +121,7 @@ never_place term.Nothing h = cc
 no_page : (t : Term) (mask : PageMask) (less : Taken) → expressed t (paged (Some mask) less) ≡ SymbolAddress → ⊥
 no_page t masks.GotBase less h = by_term t h
   where
-    by_term : (t : Term) → expressed t taken.PageTable ≡ SymbolAddress → ⊥
+    by_term : (t : Term) → expressed t lesser.PageTable ≡ SymbolAddress → ⊥
     by_term term.Symbol h = cc
     by_term term.Stub h = cc
     by_term (term.Slot sort) h = cc

@@ -43,7 +43,6 @@ use Rattle.wild_loader.specs.declared.world.World.{World}
 use Rattle.wild_geometry.specs.Loaded.{IsDecided, InNoSite, InMemory, number_at, HasDecision}
 use Rattle.wild_references.specs.Laws.{KeepsInstruction, IsLoadedItem}
 use Rattle.wild_loader.specs.Instruction as code
-use Rattle.wild_loader.specs.declared.instruction.Cell.TheVariants.{Any}
 use Rattle.wild_types.specs.Item.{Item}
 use Rattle.wild_meaning.specs.Item.{place_at, IsReference}
 use Rattle.wild_meaning.specs.Field.{formula_of, form_width, InNoField, IsInputByte}

@@ -1,6 +1,6 @@
 -- An instruction whose reference keeps it does what it demands.
 use Rattle.std.proofs.Common.{◌≡◌, ℕ, ◌⊎◌, inl, inr, refl, sym, ap, ◌∙◌, subst}
-use Rattle.std.specs.Prelude.{⊤, List, [], ◌∷◌, Some, Contains}
+use Rattle.std.specs.Prelude.{⊤, List, Some, Contains}
 use Rattle.wild_types.specs.declared.kind.Machine.{Machine}
 use Rattle.wild_types.specs.declared.kind.Machine.TheVariants as machine
 use Rattle.wild_types.specs.declared.input.InputRelocation.{InputRelocation}

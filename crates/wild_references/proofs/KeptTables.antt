@@ -22,7 +22,6 @@ use Rattle.wild_relax.specs.Rows.{rows_x86_64}
 use Rattle.wild_relax.specs.Rewrite.{is_skip}
 use Rattle.wild_relax.specs.RewriteX86_64.{rewrite_of}
 use Rattle.wild_relax.specs.Linked.{pattern_of, pattern_size, keeps_bytes}
-use Rattle.wild_loader.specs.Instruction as own
 use Rattle.wild_loader.specs.declared.instruction.Cell as own-cell
 use Rattle.wild_loader.specs.declared.instruction.Cell.TheVariants.{Is, From, Slot, Digit, Any}
 use Rattle.wild_loader.specs.Instruction.{fits, stands}

@@ -1,6 +1,6 @@
 -- The rows of the kinds that the writer knows, beside the formulas that the reader knows.
-use Rattle.std.proofs.Common.{◌≡◌, ℕ, ◌^◌, ◌<◌, ◌⊎◌, inl, inr, Bool, true, false, List, length, refl, sym, ap, ◌∙◌, subst}
-use Rattle.std.specs.Prelude.{◌==◌, ◌&&◌, ◌||◌, not, nat_le, if◌then◌else◌, Option, Some, None, All}
+use Rattle.std.proofs.Common.{◌≡◌, ℕ, ◌^◌, ◌<◌, ◌⊎◌, inl, inr, Bool, true, false, List, length, refl, ap, ◌∙◌, subst}
+use Rattle.std.specs.Prelude.{◌==◌, ◌&&◌, ◌||◌, if◌then◌else◌, Option, Some, None, All}
 use Rattle.std.specs.List.{list_all}
 use Rattle.std.proofs.lemmas.Bool.{eqb-true, and_parts, or_cases}
 use Rattle.wild_records.specs.Abi.Relocation.{r_x86_64_none, r_x86_64_gotpc32_tlsdesc, r_x86_64_code_4_gotpc32_tlsdesc, r_x86_64_tlsdesc_call}
@@ -9,7 +9,7 @@ use Rattle.wild_types.specs.declared.kind.Machine.TheVariants as machine
 use Rattle.wild_reloc.specs.TableX86_64.{x86_64_rows, x86_64_row}
 use Rattle.wild_reloc.specs.TableAArch64.{static_rows, static_row, thread_rows, thread_row}
 use Rattle.wild_reloc.specs.Field.{field_width, allows, written}
-use Rattle.wild_reloc.specs.Formula.{Formula, Value, Form, Check, NoCheck, NoValue, NoField, SymbolAddress, Plain, Full, Bits, Reads, Keeps}
+use Rattle.wild_reloc.specs.Formula.{Formula, Value, Form, NoValue, NoField, SymbolAddress, Plain, Full, Bits, Reads, Keeps}
 use Rattle.wild_reloc.specs.FormulaX86_64.{x86_64_formula}
 use Rattle.wild_reloc.specs.FormulaAArch64.{aarch64_formula}
 use Rattle.wild_reloc.specs.Agreement.{Agrees}
@@ -249,7 +249,9 @@ call_known m n row is kind = by_formula (formula_of m n) (subst (λ (k : Relocat
 
     by_formula : (o : Option Formula) → call_formula kinds.TlsDescCall o ≡ true → o ≡ Some (record { value = NoValue; form = NoField })
     by_formula None h = cc
-    by_formula (Some f) h = (let e = nothing f.value f.form h in let a = e.0 in let b = e.1 in cc)
+    by_formula (Some f) h =
+        let e = nothing f.value f.form h in
+        ap (λ (v : Value). Some (record f { value = v })) e.0 ∙ ap (λ (x : Form). Some (record { value = NoValue; form = x })) e.1
 
 -- a descriptor has two types
 pub descriptor_is : (n : ℕ) (row : RelocationKindInfo) → row_of machine.X86_64 n ≡ Some row → row.kind ≡ kinds.TlsDesc → (n ≡ r_x86_64_gotpc32_tlsdesc) ⊎ (n ≡ r_x86_64_code_4_gotpc32_tlsdesc)

@@ -27,7 +27,6 @@ use Rattle.wild_layout.specs.Geometry.{NamesSymbol}
 use Rattle.wild_layout.specs.Numbers.{AddendFits}
 use Rattle.wild_layout.specs.Values.{term_of, is_symbol}
 use Rattle.wild_layout.proofs.DecideLemmas.{field_has}
-use Rattle.wild_slot.proofs.TreatmentLemmas.{has_value}
 use Rattle.wild_loader.specs.declared.world.World.{World}
 use Rattle.wild_loader.specs.declared.memory.Memory.{Memory}
 use Rattle.wild_meaning.specs.Field.{formula_of, FieldReads}

@@ -1,11 +1,10 @@
 -- What S and L are in a reference, on either machine.
-use Rattle.std.proofs.Common.{◌≡◌, ℕ, ◌+◌, ◌-◌, ◌%◌, ◌^◌, ◌<◌, ◌⊎◌, inl, inr, Bool, true, false, Option, Some, None, length, refl, sym, ap, ◌∙◌, arith, subst}
-use Rattle.std.specs.Prelude.{Result, Ok, not, ◌&&◌, if◌then◌else◌}
+use Rattle.std.proofs.Common.{◌≡◌, ℕ, ◌+◌, ◌%◌, ◌^◌, ◌⊎◌, inl, inr, Bool, true, false, Option, Some, None, refl, sym, ap, ◌∙◌, arith, subst}
+use Rattle.std.specs.Prelude.{Ok, not, ◌&&◌, if◌then◌else◌}
 use Rattle.std.proofs.lemmas.Bool.{cases_Bool, and_parts, not-true}
 use Rattle.wild_words.proofs.Basics.{slice_get_inside}
 use Rattle.wild_types.specs.declared.kind.Machine.{Machine}
 use Rattle.wild_types.specs.declared.kind.Machine.TheVariants as machine
-use Rattle.wild_types.specs.declared.fault.Fault.{Fault}
 use Rattle.wild_types.specs.declared.input.InputRelocation.{InputRelocation}
 use Rattle.wild_types.specs.declared.layout.Layout.{Layout}
 use Rattle.wild_types.specs.Flags.{has_flag, absolute, undefined_weak, plt_stub}
@@ -40,7 +39,7 @@ use Rattle.wild_geometry.proofs.JudgedLemmas.{flag_is}
 use Rattle.wild_references.specs.Terms.{IsPlaced, page_mask, is_mask, is_table, is_expressed, value_by_row, HasTerm, IsFollowed}
 use Rattle.wild_references.proofs.StubCode.{StubLaws}
 use Rattle.wild_references.proofs.Symbols.{flag_at}
-use Rattle.wild_references.proofs.Targets.{IsAddressed, IsOwnAddressed, Follows, addressed, one_addressed, linked}
+use Rattle.wild_references.proofs.Targets.{Follows, addressed, one_addressed, linked}
 
 -- ---- masks
 
@@ -104,9 +103,9 @@ pub record IsOwn (k : Machine) (l : Layout) (r : InputRelocation) (info : Reloca
 pub own_parts : (k : Machine) (l : Layout) (r : InputRelocation) (info : RelocationKindInfo) → is_own_place k l r info ≡ true → IsOwn k l r info
 own_parts machine.X86_64 l r info h = cc
 own_parts machine.AArch64 l r info h =
-    let a = and_parts (is_symbol (expression_of info.kind).term) (is_place (taken_of info.kind info.mask) && is_absent l r.symbol) h in
-    let b = and_parts (is_place (taken_of info.kind info.mask)) (is_absent l r.symbol) a.1 in
-    record { on = refl; symbol = a.0; place = b.0; absent = b.1 }
+    let a = and_parts (is_symbol (expression_of info.kind).term && is_place (taken_of info.kind info.mask)) (is_absent l r.symbol) h in
+    let b = and_parts (is_symbol (expression_of info.kind).term) (is_place (taken_of info.kind info.mask)) a.0 in
+    record { on = refl; symbol = b.0; place = b.1; absent = a.1 }
 
 -- and that it does not, where it takes a place from a symbol
 pub not_own : (k : Machine) (l : Layout) (r : InputRelocation) (info : RelocationKindInfo) → is_own_place k l r info ≡ false → k ≡ machine.AArch64 → is_symbol (expression_of info.kind).term ≡ true → is_place (taken_of info.kind info.mask) ≡ true → is_absent l r.symbol ≡ false
@@ -119,7 +118,7 @@ not_own machine.AArch64 l r info h on symbol place = by_tests (is_symbol (expres
     by_tests true false c e f h = cc
     by_tests false b c e f h = cc
 
-named_absent : (l : Layout) (o : Option ℕ) → is_absent l o ≡ true → (i : ℕ) × (o ≡ Some i) × (is_absent l (Some i) ≡ true)
+pub named_absent : (l : Layout) (o : Option ℕ) → is_absent l o ≡ true → (i : ℕ) × (o ≡ Some i) × (is_absent l (Some i) ≡ true)
 named_absent l None h = cc
 named_absent l (Some i) h = (i, refl, h)
 
@@ -136,7 +135,7 @@ pub own_referent : (v : Value) (l : Layout) (w : World) (m : Memory) (s : Item) 
 own_referent v l w m s r i on named takes =
     subst (λ (k : Machine). IsReferent k v l w m s r (own_place w s r)) (sym on) (subst (λ (o : Option ℕ). IsReferentOnAArch64 v l w m s r o (own_place w s r)) (sym named) (inl (takes, refl)))
 
-pub referent : (v : Value) (l : Layout) (w : World) (m : Memory) (s : Item) (r : InputRelocation) (a : ℕ) → IsTarget l w m r.symbol a → ((i : ℕ) → r.symbol ≡ Some i → l.machine ≡ machine.AArch64 → (TakesOwnPlace v l i → ⊥) × StandsOnAArch64 v l w m i a) → IsReferent l.machine v l w m s r a
+pub referent : (v : Value) (l : Layout) (w : World) (m : Memory) (s : Item) (r : InputRelocation) (a : ℕ) → IsTarget l w m r.symbol a → ((i : ℕ) → r.symbol ≡ Some i → l.machine ≡ machine.AArch64 → (TakesOwnPlace v l i → ⊥) × StandsOnAArch64 v l w m r i a) → IsReferent l.machine v l w m s r a
 referent v l w m s r a target stands = by_machine l.machine refl
   where
     by_symbol : (o : Option ℕ) → r.symbol ≡ o → l.machine ≡ machine.AArch64 → IsTarget l w m o a → IsReferentOnAArch64 v l w m s r o a
@@ -168,13 +167,13 @@ denoted_one : (l : Layout) (w : World) (m : Memory) (i a : ℕ) → IsOneAddress
 denoted_one l w m i a (inl h) = h.3
 denoted_one l w m i a (inr h) = inl h.1
 
-stands_as : (v : Value) (l : Layout) (w : World) (m : Memory) (i a : ℕ) → TakesAddress v → IsOneAddress l w m i a → StandsOnAArch64 v l w m i a
-stands_as SymbolAddress l w m i a takes h = denoted_one l w m i a h
-stands_as SymbolPart l w m i a takes h = h
-stands_as Distance l w m i a takes h = denoted_one l w m i a h
-stands_as PageDistance l w m i a takes h = h
-stands_as FromTable l w m i a takes h = denoted_one l w m i a h
-stands_as other l w m i a takes h = absurd takes
+stands_as : (v : Value) (l : Layout) (w : World) (m : Memory) (r : InputRelocation) (i a : ℕ) → TakesAddress v → IsOneAddress l w m i a → StandsOnAArch64 v l w m r i a
+stands_as SymbolAddress l w m r i a takes h = denoted_one l w m i a h
+stands_as SymbolPart l w m r i a takes h = h
+stands_as Distance l w m r i a takes h = denoted_one l w m i a h
+stands_as PageDistance l w m r i a takes h = h
+stands_as FromTable l w m r i a takes h = denoted_one l w m i a h
+stands_as other l w m r i a takes h = absurd takes
 
 -- what A is added to in memory, for the writer's term a: it moves with the base, or is an absolute symbol
 pub record Refers (v : Value) (l : Layout) (w : World) (m : Memory) (s : Item) (r : InputRelocation) (a : ℕ) : Type 0 where
@@ -269,7 +268,7 @@ refers law l w m s r info x h symbol takes f = by_own (is_own_place l.machine l 
         one_addressed law l w m i h.term t.still h.placed (follows l r v takes f i named) (subst (λ (o : Option ℕ). address_of l o ≡ Ok h.term) named given) (t.flag i named) (subst (λ (o : Option ℕ). IsTarget l w m o target) named t.denoted) in
         record {
           still = t.still;
-          referent = referent v l w m s r target t.denoted (λ i named on. (no_own_place l w m s r info x i h symbol named e on, stands_as v l w m i target takes (one i named)));
+          referent = referent v l w m s r target t.denoted (λ i named on. (no_own_place l w m s r info x i h symbol named e on, stands_as v l w m r i target takes (one i named)));
           flag = λ none i named. t.flag i named;
           absolute = t.absolute;
         }

@@ -3,7 +3,6 @@ use Rattle.std.proofs.Common.{◌≡◌, ℕ, ◌+◌, ◌≤◌, inl, inr, Bool
 use Rattle.std.specs.Prelude.{◌==◌, not, Some, Ok, slice_get}
 use Rattle.std.proofs.lemmas.Bool.{cases_Bool}
 use Rattle.std.proofs.lemmas.Option.{slice_get_within}
-use Rattle.wild_types.specs.declared.kind.Machine.TheVariants as machine
 use Rattle.wild_types.specs.declared.input.InputRelocation.{InputRelocation}
 use Rattle.wild_types.specs.declared.layout.Layout.{Layout}
 use Rattle.wild_relax.specs.declared.row.Row.{Row}
@@ -143,7 +142,7 @@ words_free l w m s first start o x = subst (λ (k : Machine). ReadsOwnSlots k l 
 pub rewritten_hold : LawsBelow → RewrittenHold
 rewritten_hold laws l w m s h i r row v has asked =
     let t = row_held laws l w m s i r row v h (placed_row laws l s i r row v has) in
-    record { start = t.from; instruction = t.instruction; first = r; template = t.template; does = t.does (λ sort. asked); words = words_free l w m s r t.from t.instruction h.x86 }
+    record { start = t.from; instruction = t.instruction; first = r; template = t.template; does = t.does (λ sort. asked); words = words_free l w m s r t.from t.instruction h.on }
 
 -- ---- the calls of sequences
 
@@ -180,5 +179,5 @@ partners_hold laws l w m s h i r has =
       one = (0, omega arith, refl);
       sequence = sequence_there laws l w m s b.0 t.first r t.row t.value h p t.skips t.listed;
       does = does_row laws l w m s b.0 t.first t.row t.value h p (λ sort. absurd (sequence_sort t.row p.changing t.skips sort));
-      words = words_free l w m s t.first (template_start t.row t.first) (instruction_of t.row) h.x86;
+      words = words_free l w m s t.first (template_start t.row t.first) (instruction_of t.row) h.on;
     }

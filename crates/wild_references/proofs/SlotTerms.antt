@@ -9,7 +9,7 @@ use Rattle.wild_types.specs.Flags.{has_flag, got_tls_offset, got_tls_module, got
 use Rattle.wild_types.specs.Lookups.{canonical}
 use Rattle.wild_types.specs.ResolvedFlags.{HaveTheirFlags, HasItsFlags}
 use Rattle.wild_types.specs.SymbolSlots.{has_thread_slot}
-use Rattle.wild_reloc.specs.Formula.{Slot, AddressSlot, ModulePair, OwnModulePair, ThreadOffset, Descriptor}
+use Rattle.wild_reloc.specs.Formula.{Slot, AddressSlot, ModulePair, ThreadOffset, Descriptor}
 use Rattle.wild_reloc.specs.Expression.{slot_sort}
 use Rattle.wild_reloc.specs.declared.expression.SlotSort.{SlotSort}
 use Rattle.wild_reloc.specs.declared.expression.SlotSort.TheVariants as sorts

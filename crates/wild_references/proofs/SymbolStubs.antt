@@ -110,8 +110,8 @@ goal_given law l w m symbol i term p named given =
     let goal : Denotes l w m i ((w.base + term) % 2 ^ 64) = inr (stub_is l w m i term (stub_stands law l w m i term p (given_some missing.Stub i (stub_of l i) term here))) in
     subst (λ (o : Option ℕ). IsTarget l w m o ((w.base + term) % 2 ^ 64)) (sym named) goal
 
--- and it is L to an AArch64 reader, to whom a branch comes to the symbol's value
-pub goal_stands : StubLaws → (v : Value) (l : Layout) (w : World) (m : Memory) (r : InputRelocation) (i term : ℕ) → IsPlaced l w m → v ≡ StubDistance → stub_address l (Some i) ≡ Ok term → StandsOnAArch64 v l w m i ((w.base + term) % 2 ^ 64)
+-- and it is L to an AArch64 reader: a branch with the addend is at what stands for the symbol and that
+pub goal_stands : StubLaws → (v : Value) (l : Layout) (w : World) (m : Memory) (r : InputRelocation) (i term : ℕ) → IsPlaced l w m → v ≡ StubDistance → stub_address l (Some i) ≡ Ok term → StandsOnAArch64 v l w m r i ((w.base + term) % 2 ^ 64)
 goal_stands law v l w m r i term p e given =
     let there = stub_stands law l w m i term p (given_some missing.Stub i (stub_of l i) term given) in
-    subst (λ (q : Value). StandsOnAArch64 q l w m i ((w.base + term) % 2 ^ 64)) (sym e) (there.value, there.is, stub_reaches l w m i term there)
+    subst (λ (q : Value). StandsOnAArch64 q l w m r i ((w.base + term) % 2 ^ 64)) (sym e) (record { symbol = (w.base + term) % 2 ^ 64; denoted = inr (stub_is l w m i term there); comes = inl refl })

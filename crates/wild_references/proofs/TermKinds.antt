@@ -1,7 +1,7 @@
 -- The value of each row with a term is what the row's expression gives.
 use Rattle.std.proofs.Common.{◌≡◌, ℕ, ◌+◌, ◌-◌, ◌*◌, ◌/◌, ◌%◌, ◌^◌, ◌<◌, ◌≤◌, ◌⊎◌, inl, inr, Bool, true, false, refl, sym, ap, ◌∙◌, arith, subst}
 use Rattle.std.specs.Prelude.{Option, Some, None, Ok, not, ◌&&◌, ◌||◌, ◌==◌, is_none, if◌then◌else◌}
-use Rattle.std.proofs.lemmas.Bool.{cases_Bool, and_parts, or_cases, eqb-true}
+use Rattle.std.proofs.lemmas.Bool.{and_parts, eqb-true}
 use Rattle.wild_types.specs.declared.kind.Machine.{Machine}
 use Rattle.wild_types.specs.declared.kind.Machine.TheVariants as machine
 use Rattle.wild_types.specs.declared.input.InputRelocation.{InputRelocation}
@@ -11,7 +11,7 @@ use Rattle.wild_slot.specs.declared.treatment.Treatment.TheVariants as treatment
 use Rattle.wild_slot.specs.Treatment.{named, kind_treatment, is_slot, suits}
 use Rattle.wild_reloc.specs.Agreement as shape
 use Rattle.wild_reloc.specs.Expression.{expression_of, paged, taken_of, expressed, slot_sort, writes}
-use Rattle.wild_reloc.specs.Formula.{Value, AddressSlot, Descriptor, StubDistance, StubFromTable, SlotAddress, SlotDistance, SlotPageDistance, SlotFromTable, SlotFromTablePage}
+use Rattle.wild_reloc.specs.Formula.{Value, StubDistance, StubFromTable, SlotAddress, SlotDistance, SlotPageDistance, SlotFromTable, SlotFromTablePage}
 use Rattle.wild_reloc.specs.declared.expression.Class.TheVariants as class
 use Rattle.wild_reloc.specs.declared.expression.SlotSort.{SlotSort}
 use Rattle.wild_reloc.specs.declared.expression.SlotSort.TheVariants as sorts
@@ -24,13 +24,13 @@ use Rattle.wild_reloc.specs.declared.info.PageMask.TheVariants as masks
 use Rattle.wild_reloc.specs.declared.info.RelocationKind.{RelocationKind}
 use Rattle.wild_reloc.specs.declared.info.RelocationKind.TheVariants as kinds
 use Rattle.wild_reloc.specs.declared.info.RelocationKindInfo.{RelocationKindInfo}
-use Rattle.wild_layout.specs.SlotValues.{stub_address, slot_address}
+use Rattle.wild_layout.specs.SlotValues.{stub_address}
 use Rattle.wild_layout.specs.Values.{term_value, term_of, value_less, is_absent, is_place, is_symbol, is_own_place, undefined_weak_target}
 use Rattle.wild_loader.specs.declared.memory.Memory.{Memory}
 use Rattle.wild_loader.specs.declared.world.World.{World}
 use Rattle.wild_types.specs.Item.{Item}
 use Rattle.wild_meaning.specs.Item.{place_at}
-use Rattle.wild_meaning.specs.Formula.{page_of, table_at, IsReferent, IsPlaceRelative, TakesOwnPlace, HasOffsetMode, Gives, GivesLinked, TakesAddress, TakesOffset}
+use Rattle.wild_meaning.specs.Formula.{page_of, IsReferent, IsPlaceRelative, HasOffsetMode, Gives, GivesLinked, TakesAddress, TakesOffset}
 use Rattle.wild_meaning.specs.Slot.{IsSlot}
 use Rattle.wild_meaning.specs.Reference.{IsStubbed}
 use Rattle.wild_references.specs.Terms.{IsPlaced, is_expressed, value_by_row, HasTerm, IsFollowed}
@@ -249,7 +249,7 @@ place_given law sort info e f = λ l w m s r x h none. by_mask law sort info e f
         let g = (w.base + h.term) % 2 ^ 64 in
         let pages = slot_pages w.base h.term (more r) (place_of s.address r) (paged_on l w h.placed.paged on).pages (adds_nothing l.machine r info sort on h.suited e) h.ends in
         let at = ap (λ (p : ℕ). (page_of g + (2 ^ 64 - page_of p)) % 2 ^ 64) (sym h.place) in
-        subst (λ (v : Value). Gives v l w m s r x) (sym is) (g, slot_here law sort l w m s r info x h e, sym value ∙ pages ∙ at)
+        subst (λ (v : Value). Gives v l w m s r x) (sym is) (g, (slot_here law sort l w m s r info x h e, adds_nothing l.machine r info sort on h.suited e), sym value ∙ pages ∙ at)
     by_mask law sort info e f l w m s r x h none (Some masks.SymbolPlusAddendAndPosition) mask fit = (let no = (with_mask l.machine (term.Slot sort) taken.Place masks.SymbolPlusAddendAndPosition fit).1 in cc)
     by_mask law sort info e f l w m s r x h none (Some masks.GotBase) mask fit = (let no = (with_mask l.machine (term.Slot sort) taken.Place masks.GotBase fit).1 in cc)
 
@@ -269,7 +269,7 @@ table_given law info e f = λ l w m s r x h none. by_mask law info e f l w m s r
         let is = slot_value sorts.Address info taken.Table (Some masks.GotBase) e f mask ∙ sized_is info.size SlotFromTablePage refl in
         let value = subst (λ (u : Taken). value_less l u h.term r.addend (place_of s.address r) ≡ x) (slot_less info taken.Table (Some masks.GotBase) f mask) h.value in
         let pages = table_pages w.base h.term (more r) l.got_base (paged_on l w h.placed.paged on).pages (adds_nothing l.machine r info sorts.Address on h.suited e) h.placed.got in
-        subst (λ (v : Value). Gives v l w m s r x) (sym is) ((w.base + h.term) % 2 ^ 64, slot_here law sorts.Address l w m s r info x h e, sym value ∙ pages)
+        subst (λ (v : Value). Gives v l w m s r x) (sym is) ((w.base + h.term) % 2 ^ 64, (slot_here law sorts.Address l w m s r info x h e, adds_nothing l.machine r info sorts.Address on h.suited e), sym value ∙ pages)
     by_mask law info e f l w m s r x h (Some masks.SymbolPlusAddendAndPosition) mask fit = (let no = (with_mask l.machine (term.Slot sorts.Address) taken.Table masks.SymbolPlusAddendAndPosition fit).1 in cc)
     by_mask law info e f l w m s r x h (Some masks.GotEntryAndPosition) mask fit = (let no = (with_mask l.machine (term.Slot sorts.Address) taken.Table masks.GotEntryAndPosition fit).1 in cc)
 
@@ -301,7 +301,7 @@ slot_part law sort info e f l w m s r x on h =
     let is = slot_value sort info taken.Nothing None e f mask ∙ sized_is info.size (SlotAddress (slot_sort sort)) refl in
     let value : (h.term + more r) % 2 ^ 64 ≡ x = subst (λ (u : Taken). value_less l u h.term r.addend (place_of s.address r) ≡ x) (slot_less info taken.Nothing None f mask) h.value in
     let g = (w.base + h.term) % 2 ^ 64 in
-    let gives : Gives (SlotAddress (slot_sort sort)) l w m s r (g % 2 ^ 64) = (g, slot_here law sort l w m s r info x h e, refl) in
+    let gives : Gives (SlotAddress (slot_sort sort)) l w m s r (g % 2 ^ 64) = (g, (slot_here law sort l w m s r info x h e, adds_nothing l.machine r info sort on h.suited e), refl) in
     (g % 2 ^ 64, subst (λ (v : Value). Gives v l w m s r (g % 2 ^ 64)) (sym is) gives, slot_part_same w.base h.term (more r) x (paged_on l w h.placed.paged on).pages (adds_nothing l.machine r info sort on h.suited e) value)
 
 pub parts_give : StubLaws → PartsGive

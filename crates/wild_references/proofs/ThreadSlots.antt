@@ -12,7 +12,6 @@ use Rattle.wild_types.specs.declared.symbol.ValueFlags.{ValueFlags}
 use Rattle.wild_types.specs.declared.layout.Layout.{Layout}
 use Rattle.wild_types.specs.Flags.{has_flag, interposable, dynamic, non_interposable, copy_relocation, export_dynamic, got_tls_offset, got_tls_module}
 use Rattle.wild_types.specs.Kinds.{is_executable}
-use Rattle.wild_types.specs.Lookups.{canonical}
 use Rattle.wild_slot.specs.Slots.{setting_of, number, general, named, offset_item, module_item, module_offset, module_offset_item, where_so, module_items, descriptor_items, thread_items}
 use Rattle.wild_slot.specs.Storage.{less, thread_pointer, is_outside}
 use Rattle.wild_types.specs.SymbolSlots.{has_dynamic_symbol}

@@ -4,7 +4,6 @@ use Rattle.std.specs.Prelude.{Option, Some, None, Ok, not, ◌&&◌, ◌||◌, i
 use Rattle.std.specs.Int.{w64, cast_unsigned}
 use Rattle.std.proofs.lemmas.Bool.{cases_Bool}
 use Rattle.wild_words.proofs.Basics.{slice_get_inside}
-use Rattle.wild_types.specs.declared.kind.Machine.{Machine}
 use Rattle.wild_types.specs.declared.kind.Machine.TheVariants as machine
 use Rattle.wild_types.specs.declared.input.InputRelocation.{InputRelocation}
 use Rattle.wild_types.specs.declared.layout.Layout.{Layout}
@@ -114,12 +113,12 @@ record IsAddressRow (l : Layout) (w : World) (m : Memory) (s : Item) (r : InputR
 
 address_row : (l : Layout) (w : World) (m : Memory) (s : Item) (r : InputRelocation) (info : RelocationKindInfo) (x : ℕ) → (h : HasTerm l w m s r info x) → (expression_of info.kind).term ≡ term.Symbol → (expression_of info.kind).taken ≡ taken.Nothing → IsAddressRow l w m s r info x h.term
 address_row l w m s r info x h symbol nothing =
-    let expressed = subst (λ (u : Taken). is_expressed l.machine (expression_of info.kind).term u info.mask ≡ true) nothing h.expressed in
-    let mask = no_mask l.machine term.Symbol taken.Nothing info.mask (subst (λ (t : Term). is_expressed l.machine t taken.Nothing info.mask ≡ true) symbol expressed) refl in
-    let less : taken_of info.kind info.mask ≡ taken.Nothing = ap (λ (o : Option PageMask). paged o (expression_of info.kind).taken) mask ∙ nothing in
+    let fit = subst (λ (u : Taken). is_expressed l.machine (expression_of info.kind).term u info.mask ≡ true) nothing h.expressed in
+    let mask = no_mask l.machine term.Symbol taken.Nothing info.mask (subst (λ (t : Term). is_expressed l.machine t taken.Nothing info.mask ≡ true) symbol fit) refl in
+    let less_is : taken_of info.kind info.mask ≡ taken.Nothing = ap (λ (o : Option PageMask). paged o (expression_of info.kind).taken) mask ∙ nothing in
     record {
-      value = symbol_value info symbol ∙ ap (λ (u : Taken). shape.sized info.size (expressed term.Symbol u)) less;
-      sum = subst (λ (u : Taken). value_less l u h.term r.addend (place_of s.address r) ≡ x) less h.value;
+      value = symbol_value info symbol ∙ ap (λ (u : Taken). shape.sized info.size (expressed term.Symbol u)) less_is;
+      sum = subst (λ (u : Taken). value_less l u h.term r.addend (place_of s.address r) ≡ x) less_is h.value;
     }
 
 pub gives_sum : StubLaws → (info : RelocationKindInfo) → info.kind ≡ kinds.Absolute → RowGives info

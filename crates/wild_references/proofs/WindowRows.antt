@@ -11,7 +11,7 @@ use Rattle.wild_relax.specs.declared.pattern.GeneralForm.{GeneralForm}
 use Rattle.wild_relax.specs.declared.pattern.GeneralForm.TheVariants as general
 use Rattle.wild_relax.specs.declared.row.Row.{Row}
 use Rattle.wild_relax.specs.Question.{Question, relocation_of, minus_four}
-use Rattle.wild_relax.specs.Pattern.{field_of, stands, stands_before}
+use Rattle.wild_relax.specs.Pattern.{field_of, stands_before}
 use Rattle.wild_relax.specs.RowSymbols.{takes_value, takes_symbol}
 use Rattle.wild_relax.specs.RowSequences.{partner_distance, call_form, is_call_number, has_its_sequence}
 use Rattle.wild_relax.specs.Rows.{rows_x86_64, applies, chosen_x86_64}
