@@ -45,7 +45,7 @@ plain k l w m s g f r is asked alone i d has keeps =
       value = field.value;
       gives = field.gives;
       field = field.field;
-      kept = k.kept l w m s g i r d has keeps;
+      kept = k.kept machine.X86_64 l w m s g i r d has keeps;
       does = k.does l w m s g f i r reference asked alone;
     })
 
@@ -70,7 +70,7 @@ linked_plain k l w m s g f r is alone zero i d has keeps =
       value = field.value;
       gives = field.gives;
       field = field.field;
-      kept = k.kept l w m s g i r d has keeps;
+      kept = k.kept machine.X86_64 l w m s g i r d has keeps;
     })
 
 linked_by : (k : AreKnown) (l : Layout) (w : World) (m : Memory) (s : Item) → IsLoadedItem machine.X86_64 l w m s → FieldsHold l w m s → (r : InputRelocation) → IsReference s r → IsLinkedAlone l s r → w.base ≡ 0 → (i : ℕ) (d : Decision) → HasDecision l s i r d → LinkedHolds l w m s r
@@ -87,5 +87,5 @@ items rewritten partners followed kept does others l w m s g f =
     record {
       references = λ r is asked alone. (let at = at_index l w m s r g is.listed in by_decision k l w m s g f r is asked alone at.index at.decision at.has);
       linked = λ r is alone zero. (let at = at_index l w m s r g is.listed in linked_by k l w m s g f r is alone zero at.index at.decision at.has);
-      others = others l w m s g;
+      others = others machine.X86_64 l w m s g;
     }

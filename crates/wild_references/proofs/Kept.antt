@@ -41,18 +41,22 @@ use Rattle.wild_loader.specs.Memory.{Holds}
 use Rattle.wild_loader.specs.declared.memory.Memory.{Memory}
 use Rattle.wild_loader.specs.declared.world.World.{World}
 use Rattle.wild_geometry.specs.Loaded.{IsDecided, InNoSite, InMemory, number_at, HasDecision}
+use Rattle.wild_geometry.specs.MachineFacts.{RowsAreRead}
 use Rattle.wild_references.specs.Laws.{KeepsInstruction, IsLoadedItem}
+use Rattle.wild_references.proofs.KnownRows.{row_fits}
 use Rattle.wild_loader.specs.Instruction as code
 use Rattle.wild_types.specs.Item.{Item}
 use Rattle.wild_meaning.specs.Item.{place_at, IsReference}
 use Rattle.wild_meaning.specs.Field.{formula_of, form_width, InNoField, IsInputByte}
 use Rattle.wild_meaning.specs.Sequence.{Partner as CallField, Instruction, size_of, IsOwnByte, instructions_of}
 use Rattle.wild_meaning.specs.Template.{IsInstruction, IsSingle, IsTemplate}
+use Rattle.wild_meaning.specs.Reference.{IsOther}
 use Rattle.wild_meaning.proofs.PairLemmas.{IsDouble, as_double, only_one}
 use Rattle.wild_references.specs.EffectLaws.{IsBesideField, RewrittenStand, InstructionsAreKept, SequenceIsKept, SequencesAreKept, OthersAreKept}
 use Rattle.wild_references.proofs.WindowRows.{width_by, width_of, call_width, call_width_is}
 use Rattle.wild_references.proofs.WindowSites.{site_is}
-use Rattle.wild_references.proofs.WindowFields.{partner_there, kept_width, window_is}
+use Rattle.wild_references.proofs.WindowFields.{partner_there, kept_field, kept_width, window_is}
+use Rattle.wild_layout.proofs.DecideLemmas.{HasField}
 use Rattle.wild_references.proofs.Windows.{formula_width, order, windows_are_alone}
 use Rattle.wild_references.proofs.Clash.{is_free, are_calls, pair_ok, row_ok, each_row_ok, IsUncovered, apart_templates}
 use Rattle.wild_references.proofs.KeptTables.{IsFilled, is_filled, own_is_fixed, any_in_field, number_width, partner_width, call_number, row_fixed, each_row_fixed, IsFixed, is_fixed, free_in_field}
@@ -99,15 +103,16 @@ decision_outside l s x j q (Rewritten row v) x86 out windows h =
 no_relocation : InputRelocation
 no_relocation = record { offset = 0; number = 0; symbol = None; addend = pos 0; malformed = false }
 
-in_no_site : (l : Layout) (s : Item) (x : ℕ) → l.machine ≡ machine.X86_64 → IsDecided l s → InNoField l s x → OutOfWindows l s x → InNoSite l s x
-in_no_site l s x x86 whole out windows = All-flat_map (Outside x) (site l s) (range_with_len 0 (length s.relocations)) (λ n d lt. site_outside n d lt)
+-- where what each relocation writes leaves the byte out, no site has it
+pub in_none : (l : Layout) (s : Item) (x : ℕ) → IsDecided l s → ((j : ℕ) (q : InputRelocation) (d : Decision) → HasDecision l s j q d → All (Outside x) (site_for s q d)) → InNoSite l s x
+in_none l s x whole each = All-flat_map (Outside x) (site l s) (range_with_len 0 (length s.relocations)) (λ n d lt. site_outside n d lt)
   where
     at : (j : ℕ) → j < length s.relocations → All (Outside x) (site l s j)
     at j lt =
         let q : InputRelocation = get_or s.relocations j no_relocation in
         let e = whole.each j lt in
         let h : HasDecision l s j q e.0 = record { listed = slice_get-get_or s.relocations j no_relocation lt; decided = e.1 } in
-        All-same (Outside x) (site l s j) (site_for s q e.0) (site_is l s j q e.0 h) (decision_outside l s x j q e.0 x86 out windows h)
+        All-same (Outside x) (site l s j) (site_for s q e.0) (site_is l s j q e.0 h) (each j q e.0 h)
 
     site_outside : (n d : ℕ) → n < length (range_with_len 0 (length s.relocations)) → All (Outside x) (site l s (get_or (range_with_len 0 (length s.relocations)) n d))
     site_outside n d lt =
@@ -115,9 +120,53 @@ in_no_site l s x x86 whole out windows = All-flat_map (Outside x) (site l s) (ra
         let is : get_or (range_with_len 0 (length s.relocations)) n d ≡ n = get_or-range_with_len 0 (length s.relocations) n d (omega (arith, lt, long)) ∙ omega arith in
         subst (λ (j : ℕ). All (Outside x) (site l s j)) (sym is) (at n (omega (arith, lt, long)))
 
+in_no_site : (l : Layout) (s : Item) (x : ℕ) → l.machine ≡ machine.X86_64 → IsDecided l s → InNoField l s x → OutOfWindows l s x → InNoSite l s x
+in_no_site l s x x86 whole out windows = in_none l s x whole (λ j q d h. decision_outside l s x j q d x86 out windows h)
+
 -- such a byte is the input's
 pub input_byte : (l : Layout) (w : World) (m : Memory) (s : Item) (x : ℕ) → IsLoadedItem machine.X86_64 l w m s → x < length s.bytes → InNoField l s x → OutOfWindows l s x → IsInputByte w m s x
 input_byte l w m s x h lt out windows = h.item.others x lt (in_no_site l s x h.on h.decided out windows)
+
+-- ---- AArch64, where no row stands
+
+-- a field leaves out what the reader's formula does
+formula_outside : RowsAreRead → (l : Layout) (s : Item) (x j : ℕ) (q : InputRelocation) (z : RelocationSize) (v : ℕ) → InNoField l s x → slice_get s.relocations j ≡ Some q → HasField l q z → All (Outside x) (field_site s q.offset z v ∷ [])
+formula_outside agree l s x j q z v out listed h =
+    let f = row_fits agree l.machine q.number h.row h.known h.kind in
+    let width : form_width f.formula.form ≡ size_width z = sym f.width ∙ ap size_width h.size in
+    let long = length-size_written z v (slice_range s.bytes q.offset (q.offset + size_width z)) in
+    let there = holds_at (λ (r : InputRelocation). (f : Formula) → formula_of l.machine r.number ≡ Some f → (x < r.offset) ⊎ (r.offset + form_width f.form ≤ x)) s.relocations j q listed out f.formula f.known in
+    All-one (Outside x) (field_site s q.offset z v) (elim there [ inl low ↦ inl low | inr high ↦ inr (omega (arith, high, width, long)) ])
+
+word_outside : RowsAreRead → (l : Layout) (s : Item) (x j : ℕ) (q : InputRelocation) (d : Decision) → l.machine ≡ machine.AArch64 → InNoField l s x → HasDecision l s j q d → All (Outside x) (site_for s q d)
+word_outside agree l s x j q Nothing on out h = All-nil (Outside x)
+word_outside agree l s x j q Partner on out h = All-nil (Outside x)
+word_outside agree l s x j q (Field z v) on out h = formula_outside agree l s x j q z v out h.listed (kept_field l s j q (Field z v) h tt)
+word_outside agree l s x j q (Moved v packed) on out h = formula_outside agree l s x j q (ByteSize Eight) (if packed then v else 0) out h.listed (kept_field l s j q (Moved v packed) h tt)
+word_outside agree l s x j q (Left z n symbol addend) on out h = formula_outside agree l s x j q z 0 out h.listed (kept_field l s j q (Left z n symbol addend) h tt)
+word_outside agree l s x j q (Rewritten row v) on out h =
+    let made = decide_rewritten l s j q row v h.listed h.decided in
+    let x86 = made.chosen.machine in
+    let both : machine.AArch64 ≡ machine.X86_64 = sym on ∙ x86 in
+    cc
+
+-- a byte in no field is the input's
+word_byte : RowsAreRead → (l : Layout) (w : World) (m : Memory) (s : Item) → IsLoadedItem machine.AArch64 l w m s → (x : ℕ) → x < length s.bytes → InNoField l s x → IsInputByte w m s x
+word_byte agree l w m s h x lt out = h.item.others x lt (in_none l s x h.decided (λ j q d has. word_outside agree l s x j q d h.on out has))
+
+-- so are an instruction's own
+words_kept : RowsAreRead → (l : Layout) (w : World) (m : Memory) (s : Item) → IsLoadedItem machine.AArch64 l w m s → (r : InputRelocation) (start : ℕ) (o : Instruction) (first : InputRelocation) → IsTemplate l s r start o first → (k : ℕ) → IsOwnByte o k → IsInputByte w m s (start + k)
+words_kept agree l w m s h r start o first template k own = by_template template
+  where
+    stands : (q : InputRelocation) → IsInstruction l s q start o → IsInputByte w m s (start + k)
+    stands q t =
+        let inside = t.inside in
+        let lt = own.inside in
+        word_byte agree l w m s h (start + k) (omega (arith, inside, lt)) (t.alone k own)
+
+    by_template : IsTemplate l s r start o first → IsInputByte w m s (start + k)
+    by_template (inl t) = stands r t.0.stands
+    by_template (inr t) = stands first t.sequence.stands
 
 -- ---- the bytes of a row's pattern that it leaves free are in fields
 
@@ -311,12 +360,17 @@ known_here : (l : Layout) (s : Item) (r first : InputRelocation) (start : ℕ) (
 known_here l s r first start o x86 (inl t) = subst (λ (m : Machine). Contains (instructions_of m) o) x86 t.0.stands.known
 known_here l s r first start o x86 (inr t) = subst (λ (m : Machine). Contains (instructions_of m) o) x86 t.sequence.stands.known
 
-pub instructions_are_kept : ChosenAreWhole → InstructionsAreKept
-instructions_are_kept stand l w m s h i r d has keeps start o first template k own =
+instructions_kept : ChosenAreWhole → (l : Layout) (w : World) (m : Memory) (s : Item) → IsLoadedItem machine.X86_64 l w m s → (i : ℕ) (r : InputRelocation) (d : Decision) → HasDecision l s i r d → KeepsInstruction d
+    → (start : ℕ) (o : Instruction) (first : InputRelocation) → IsTemplate l s r start o first → (k : ℕ) → IsOwnByte o k → IsInputByte w m s (start + k)
+instructions_kept stand l w m s h i r d has keeps start o first template k own =
     let t = kept_here l s i r d start o first h.on h.decided has keeps template in
     let inside = t.inside in
     let lt = own.inside in
     input_byte l w m s (start + k) h (omega (arith, inside, lt)) (t.alone k own) (own_outside l s start o k h.on h.decided stand t (known_here l s r first start o h.on template) own)
+
+pub instructions_are_kept : RowsAreRead → ChosenAreWhole → InstructionsAreKept
+instructions_are_kept agree stand machine.X86_64 l w m s h i r d has keeps start o first template k own = instructions_kept stand l w m s h i r d has keeps start o first template k own
+instructions_are_kept agree stand machine.AArch64 l w m s h i r d has keeps start o first template k own = words_kept agree l w m s h r start o first template k own
 
 -- ---- sequences
 
@@ -375,8 +429,8 @@ each_has_type = refl
 not_none : (row : Row) → has_type row ≡ true → row.number ≡ r_x86_64_none → ⊥
 not_none row h e = let f : not (0 == 0) ≡ true = rw e at h in cc
 
-pub others_are_kept : RewrittenStand → OthersAreKept
-others_are_kept stand l w m s h k lt other = input_byte l w m s k h lt other.fields windows
+others_kept : RewrittenStand → (l : Layout) (w : World) (m : Memory) (s : Item) → IsLoadedItem machine.X86_64 l w m s → (k : ℕ) → k < length s.bytes → IsOther l s k → IsInputByte w m s k
+others_kept stand l w m s h k lt other = input_byte l w m s k h lt other.fields windows
   where
     refers : (j : ℕ) (q : InputRelocation) (row : Row) (v : ℕ) → HasDecision l s j q (Rewritten row v) → IsReference s q
     refers j q row v has =
@@ -392,3 +446,7 @@ others_are_kept stand l w m s h k lt other = input_byte l w m s k h lt other.fie
           | inl low ↦ inl (omega (arith, before, low))
           | inr high ↦ inr (omega (arith, behind, high))
         ]
+
+pub others_are_kept : RowsAreRead → RewrittenStand → OthersAreKept
+others_are_kept agree stand machine.X86_64 l w m s h k lt other = others_kept stand l w m s h k lt other
+others_are_kept agree stand machine.AArch64 l w m s h k lt other = word_byte agree l w m s h k lt other.fields

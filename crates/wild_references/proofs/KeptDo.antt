@@ -115,7 +115,7 @@ single_does kept l w m s g f i r k asked alone start o t =
       x86 = g.on;
       stands = t.stands;
       field = as_field l w m s r (f.references i r k asked alone);
-      own = kept l w m s g i r k.decision k.has k.keeps start o r (inl (t, refl));
+      own = kept machine.X86_64 l w m s g i r k.decision k.has k.keeps start o r (inl (t, refl));
       partners = subst (λ (ps : List Partner). PartnersThere w m s start ps) (sym t.single) tt;
     })
 
@@ -133,7 +133,7 @@ double_does sequences kept l w m s g f i r k start o first part =
       x86 = g.on;
       stands = t.sequence.stands;
       field = as_field l w m s first field;
-      own = kept l w m s g i r k.decision k.has k.keeps start o first (inr part);
+      own = kept machine.X86_64 l w m s g i r k.decision k.has k.keeps start o first (inr part);
       partners = subst (λ (ps : List Partner). PartnersThere w m s start ps) (sym t.sequence.calls) ((q.bytes, q.wide, q.held), tt);
     })
 

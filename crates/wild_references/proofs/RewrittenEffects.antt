@@ -1,6 +1,6 @@
 -- The code that is written in place of an instruction does what that demands, where the value in its field lands.
 use Rattle.std.proofs.Common.{◌≡◌, ℕ, zero, suc, ◌+◌, ◌^◌, ◌<◌, Bool, true, false, List, [], ◌∷◌, length, get_or, drop, refl, sym, ap, ◌∙◌, arith, subst}
-use Rattle.std.specs.Prelude.{nat_le, if◌then◌else◌, Option, Some, slice_range}
+use Rattle.std.specs.Prelude.{nat_le, if◌then◌else◌, Some, slice_range}
 use Rattle.std.proofs.lemmas.Bool.{le-leb}
 use Rattle.wild_types.specs.declared.kind.Machine.{Machine}
 use Rattle.wild_types.specs.declared.kind.Machine.TheVariants as machine

@@ -1,6 +1,6 @@
 -- The field of a relocation lies in what that writes, or in the sequence that takes it along.
 use Rattle.std.proofs.Common.{◌≡◌, ℕ, ◌+◌, ◌≤◌, ◌⊎◌, inl, inr, Bool, true, false, [], ◌∷◌, length, slice_range, refl, sym, ap, ◌∙◌, arith, subst}
-use Rattle.std.specs.Prelude.{option_map, Option, Some, Ok, ◌==◌, if◌then◌else◌, slice_get, None}
+use Rattle.std.specs.Prelude.{option_map, Option, Some, Ok, ◌==◌, if◌then◌else◌, slice_get, None, ⊤}
 use Rattle.std.specs.List.{list_all}
 use Rattle.std.proofs.lemmas.Bool.{and_parts, eqb-true}
 use Rattle.std.proofs.lemmas.Option.{slice_get_within}
@@ -146,16 +146,32 @@ none_width l r x86 f =
     by k w (inl e) t = eqb-true w 0 (rw e at t)
     by k w (inr e) t = eqb-true w 0 (rw e at t)
 
--- the field that a relocation writes, or leaves, is as wide as its formula says
+-- the size of the field that a decision writes, or leaves
+abbrev pub IsFieldOf : Layout → InputRelocation → Decision → Type 0
+IsFieldOf l r (Field z v) = HasField l r z
+IsFieldOf l r (Moved v packed) = HasField l r (ByteSize Eight)
+IsFieldOf l r (Left z n symbol addend) = HasField l r z
+IsFieldOf l r other = ⊤
+
+-- is that of the relocation's row
+pub kept_field : (l : Layout) (s : Item) (i : ℕ) (r : InputRelocation) (d : Decision) → HasDecision l s i r d → KeepsInstruction d → IsFieldOf l r d
+kept_field l s i r Nothing h k = tt
+kept_field l s i r (Field z v) h k =
+    elim (decide_field l s i r z v h.listed h.decided) [
+      | inl own ↦ field_has l s r z v (decided_field l s r z v own.made)
+      | inr kept ↦ kept.field
+    ]
+kept_field l s i r (Moved v packed) h k = moved_has l s r v packed (decided_moved l s r v packed (decide_moved l s i r v packed h.listed h.decided).made)
+kept_field l s i r (Left z n symbol addend) h k = left_has l s r z n symbol addend (decided_left l s r z n symbol addend (decide_left l s i r z n symbol addend h.listed h.decided).made)
+kept_field l s i r (Rewritten row v) h k = absurd k
+kept_field l s i r Partner h k = absurd k
+
+-- which is as wide as its formula says
 pub kept_width : (l : Layout) (s : Item) (i : ℕ) (r : InputRelocation) (d : Decision) → l.machine ≡ machine.X86_64 → HasDecision l s i r d → KeepsInstruction d → width_of r.number ≡ written_width d
 kept_width l s i r Nothing x86 h k = none_width l r x86 (decided_nothing l s r (decide_nothing l s i r h.listed h.decided).made)
-kept_width l s i r (Field z v) x86 h k =
-    elim (decide_field l s i r z v h.listed h.decided) [
-      | inl own ↦ has_width l r z x86 (field_has l s r z v (decided_field l s r z v own.made))
-      | inr kept ↦ has_width l r z x86 kept.field
-    ]
-kept_width l s i r (Moved v packed) x86 h k = has_width l r (ByteSize Eight) x86 (moved_has l s r v packed (decided_moved l s r v packed (decide_moved l s i r v packed h.listed h.decided).made))
-kept_width l s i r (Left z n symbol addend) x86 h k = has_width l r z x86 (left_has l s r z n symbol addend (decided_left l s r z n symbol addend (decide_left l s i r z n symbol addend h.listed h.decided).made))
+kept_width l s i r (Field z v) x86 h k = has_width l r z x86 (kept_field l s i r (Field z v) h k)
+kept_width l s i r (Moved v packed) x86 h k = has_width l r (ByteSize Eight) x86 (kept_field l s i r (Moved v packed) h k)
+kept_width l s i r (Left z n symbol addend) x86 h k = has_width l r z x86 (kept_field l s i r (Left z n symbol addend) h k)
 kept_width l s i r (Rewritten row v) x86 h k = absurd k
 kept_width l s i r Partner x86 h k = absurd k
 

@@ -1,4 +1,5 @@
--- Instructions in memory of x86-64 outputs, kept or rewritten: what makes each reference of a section hold, beyond its fields.
+-- Instructions in memory, kept or rewritten, those of x86-64 outputs where no machine is named: what makes each reference of a section hold,
+-- beyond its fields.
 --   WindowsAreAlone      no other relocation has a field among the bytes of an instruction that is rewritten
 --   RewrittenStand       an instruction that is rewritten is one that the reader knows, all of it
 --   RewrittenHold        the code that is written in place of an instruction does what that demands
@@ -10,6 +11,7 @@
 --   OthersAreKept        every byte in no field and no instruction is the input's
 --   ItemsHold            all of this together
 use Rattle.std.specs.Prelude.{◌≡◌, ℕ, ◌+◌, ◌<◌, ◌≤◌, ◌⊎◌, List, length, Some, Contains}
+use Rattle.wild_types.specs.declared.kind.Machine.{Machine}
 use Rattle.wild_types.specs.declared.kind.Machine.TheVariants as machine
 use Rattle.wild_types.specs.declared.input.InputRelocation.{InputRelocation}
 use Rattle.wild_types.specs.declared.layout.Layout.{Layout}
@@ -68,7 +70,7 @@ RewrittenAreFollowed = (l : Layout) (s : Item) (i : ℕ) (r : InputRelocation) (
 
 -- an instruction whose reference keeps it has the input's bytes around its fields, whatever is rewritten beside it
 abbrev pub InstructionsAreKept : Type 0
-InstructionsAreKept = (l : Layout) (w : World) (m : Memory) (s : Item) → IsLoadedItem machine.X86_64 l w m s → (i : ℕ) (r : InputRelocation) (d : Decision) → HasDecision l s i r d → KeepsInstruction d
+InstructionsAreKept = (machine : Machine) (l : Layout) (w : World) (m : Memory) (s : Item) → IsLoadedItem machine l w m s → (i : ℕ) (r : InputRelocation) (d : Decision) → HasDecision l s i r d → KeepsInstruction d
     → (start : ℕ) (o : Instruction) (first : InputRelocation) → IsTemplate l s r start o first → (k : ℕ) → IsOwnByte o k → IsInputByte w m s (start + k)
 
 -- the first relocation of a sequence keeps its instruction too, and memory has bytes at a further field
@@ -88,7 +90,7 @@ SequencesAreKept = (l : Layout) (w : World) (m : Memory) (s : Item) → IsLoaded
 
 -- every byte that is in no field and in no instruction of a reference is the input's
 abbrev pub OthersAreKept : Type 0
-OthersAreKept = (l : Layout) (w : World) (m : Memory) (s : Item) → IsLoadedItem machine.X86_64 l w m s → (k : ℕ) → k < length s.bytes → IsOther l s k → IsInputByte w m s k
+OthersAreKept = (machine : Machine) (l : Layout) (w : World) (m : Memory) (s : Item) → IsLoadedItem machine l w m s → (k : ℕ) → k < length s.bytes → IsOther l s k → IsInputByte w m s k
 
 -- an instruction that is kept, with its fields as their formulas have them, does what is demanded
 abbrev pub KeptInstructionsDo : Type 0

@@ -152,6 +152,7 @@ pub fn other_bytes_are_kept()
     ensures instructions { InstructionsAreKept }
     ensures others { OthersAreKept }
 {
+    machines_have_their_facts();
     rewritten_instructions_hold();
     rewrites_stay_in_their_patterns();
 }
