@@ -14,14 +14,13 @@ use Rattle.wild_aarch64.specs.Immediate.{insert_bits}
 use Rattle.wild_aarch64.specs.Code.{read, read_address, read_access, read_vector_access, read_literal, read_transfer, read_condition}
 use Rattle.wild_loader.specs.declared.memory.Machine.TheVariants as processors
 use Rattle.wild_loader.specs.declared.memory.Memory.{Memory}
-use Rattle.wild_loader.specs.declared.effect.Effect as running
 use Rattle.wild_loader.specs.Memory.{Holds}
 use Rattle.wild_loader.specs.declared.instruction.Operand.TheVariants.{Number, Word}
 use Rattle.wild_loader.specs.declared.instruction.Deed.TheVariants.{Call, Set, Load}
 use Rattle.wild_loader.specs.Instruction.{Reader, with_value}
 use Rattle.wild_loader.specs.InstructionAArch64.{meaning_aarch64, effect_aarch64, demand_aarch64}
 use Rattle.wild_loader.specs.Effect.{step}
-use Rattle.wild_loader.specs.Reach.{jumped, JumpsTo, ReachesWithin}
+use Rattle.wild_loader.specs.Reach.{ReachesWithin}
 use Rattle.wild_loader.specs.StepLawsAArch64.{jumps}
 use Rattle.wild_loader.proofs.Held.{held-rest}
 use Rattle.wild_loader.proofs.StepLemmasAArch64.{thunks-read}
@@ -41,7 +40,8 @@ use Rattle.wild_meaning.proofs.Told.{denoted, told_is, own_offset, somewhere, Is
 use Rattle.wild_meaning.proofs.Meant.{meant}
 use Rattle.wild_meaning.proofs.OneReference.{effect_with, value_in, ReadsNumbers, same_bytes}
 use Rattle.wild_meaning.proofs.InstructionsAArch64.{alone_only}
-use Rattle.wild_meaning.proofs.WordsLinked.{own_alone}
+use Rattle.wild_meaning.proofs.WordsLinked.{own_alone, slot_low_asked, call_demanded, past_demanded}
+use Rattle.wild_meaning.proofs.WordsRefused.{goes_there}
 use Rattle.wild_meaning.proofs.WordsTemplates.{function_is, data_is, not_absent, slot_low_formula, slot_low_word, call_word, slot_low_alone, call_alone, slot_low_template, call_template, past_template, descriptor_load_formula, descriptor_template, load_only}
 
 -- a reference of an own symbol, which is asked at its one base
@@ -78,10 +78,6 @@ slot_is m g h =
     let symbol = told_is words_static 0 h.given.definition h.given.symbol near_function refl h.given.defined h.given.listed in
     let place : h.slot ≡ 0x11080 = slot_place h.given.symbol h.given.resolution h.slot h.given.first symbol h.given.decided h.given.given h.given.place in
     h.moves ∙ ap (λ (n : ℕ). (0 + n) % 2 ^ 64) place
-
-slot_low_asked : asked_of 0x10 0x11014 (old_bytes slot_item 4 slot_low_word) ≡ Some (effect_with (Load 0 0) 64 0x80)
-unfolding word number read read_address read_access read_vector_access read_literal read_transfer read_condition insert_bits
-slot_low_asked = refl
 
 abbrev low_behind : List ℕ
 low_behind = 0 ∷ 0x44 ∷ 0x40 ∷ 0xf9 ∷ []
@@ -134,26 +130,10 @@ goes_by m item r goal named h = by (subst (λ (o : Option ℕ). IsReferentOnAArc
     by (inl a) = absurd (not_absent a.0.1)
     by (inr b) = subst (λ (s : ℕ). ReachesWithin 1 m ((goal + cast_unsigned w64 r.addend) % 2 ^ 64) ((s + cast_unsigned w64 r.addend) % 2 ^ 64)) (denoted words_static words_world m 0 0x11200 b.1.symbol function_is b.1.denoted) b.1.comes
 
--- code that is a jump goes nowhere else
-goes_there : (m : Memory) (a t b : ℕ) → step m a ≡ Some (jumps 12 t) → JumpsTo m a b → b ≡ t
-goes_there m a t b known j =
-    let one : Some (jumps 12 t) ≡ Some j.effect = sym known ∙ j.known in
-    let same : jumps 12 t ≡ j.effect = cc in
-    let target : Some t ≡ Some b = subst (λ (e : running.Effect). jumped e ≡ Some b) (sym same) j.jump in
-    cc
-
--- so it does not come to another address
+-- code that is a jump does not come to another address
 no_way : (m : Memory) (a t v : ℕ) → step m a ≡ Some (jumps 12 t) → (a ≡ v → ⊥) → (t ≡ v → ⊥) → ReachesWithin 1 m a v → ⊥
 no_way m a t v known here there (inl e) = here e
 no_way m a t v known here there (inr h) = there (sym (goes_there m a t h.0 known h.1) ∙ h.2)
-
-call_asked : (v : ℕ) → demand_aarch64 v 0x11020 (old_bytes call_item 0 call_word) ≡ Some (effect_with Call 64 (v % 2 ^ 64))
-unfolding word number read read_address read_access read_vector_access read_literal read_transfer read_condition
-call_asked v = refl
-
-past_asked : (v : ℕ) → demand_aarch64 v 0x11024 (old_bytes past_item 0 call_word) ≡ Some (effect_with Call 64 (v % 2 ^ 64))
-unfolding word number read read_address read_access read_vector_access read_literal read_transfer read_condition
-past_asked v = refl
 
 call_done : (read : Reader) → ReadsNumbers read → effect_aarch64 read 0x11020 call_of_thunk ≡ Some (effect_with Call 64 0x11060)
 unfolding word number read read_address read_access read_vector_access read_literal read_transfer read_condition
@@ -196,14 +176,14 @@ wrong_thunk : Refuses words_static words_world (HasBoth 0x11020 call_of_thunk 0x
 wrong_thunk image h x =
     refused h.memory call_item call_reference 0 call_word call_reference call_template
     (λ read numbers. alone_only (λ start o first. DoesDemanded read words_static words_world h.memory call_item first start o → ⊥) words_static call_item call_reference call_word refl call_alone
-    (thunk_refused h.memory read call_item call_reference 0x11020 0x12200 call_of_thunk refl refl refl x.one (far_goes h.memory h.machine x.other) call_asked (call_done read numbers) (λ e. omega (arith, e)) (λ e. omega (arith, e))))
+    (thunk_refused h.memory read call_item call_reference 0x11020 0x12200 call_of_thunk refl refl refl x.one (far_goes h.memory h.machine x.other) call_demanded (call_done read numbers) (λ e. omega (arith, e)) (λ e. omega (arith, e))))
     (holds_there h.memory call_item call_reference 0 0x11200 (h.kept call_item call_kept) (record { listed = (0, omega arith, refl); refers = λ e. omega arith }) refl function_is)
 
 wrong_addend : Refuses words_static words_world (HasBoth 0x11024 next_call_of_thunk 0x11060 right_thunk)
 wrong_addend image h x =
     refused h.memory past_item past_reference 0 call_word past_reference past_template
     (λ read numbers. alone_only (λ start o first. DoesDemanded read words_static words_world h.memory past_item first start o → ⊥) words_static past_item past_reference call_word refl call_alone
-    (thunk_refused h.memory read past_item past_reference 0x11024 0x11200 next_call_of_thunk refl refl refl x.one (right_goes h.memory h.machine x.other) past_asked (past_done read numbers) (λ e. omega (arith, e)) (λ e. omega (arith, e))))
+    (thunk_refused h.memory read past_item past_reference 0x11024 0x11200 next_call_of_thunk refl refl refl x.one (right_goes h.memory h.machine x.other) past_demanded (past_done read numbers) (λ e. omega (arith, e)) (λ e. omega (arith, e))))
     (holds_there h.memory past_item past_reference 0 0x11200 (h.kept past_item past_kept) (record { listed = (0, omega arith, refl); refers = λ e. omega arith }) refl function_is)
 
 -- ---- a descriptor's call

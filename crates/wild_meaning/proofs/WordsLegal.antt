@@ -11,7 +11,7 @@ use Rattle.wild_loader.specs.declared.world.Answer.{Answer}
 use Rattle.wild_meaning.specs.Value.{HasAnswer}
 use Rattle.wild_meaning.specs.World.{HasResolver, IsAnswer, IsAnswered, IsKnownModule, IsCopied}
 use Rattle.wild_meaning.specs.Worked.{file_of, group_of}
-use Rattle.wild_meaning.specs.WorkedAArch64.{words_static, words_world, address_code, slot_code, call_code, past_code, descriptor_code, near_function, local_data}
+use Rattle.wild_meaning.specs.WorkedAArch64.{words_static, words_world, address_code, slot_code, call_code, past_code, descriptor_code, kept_code, near_function, local_data}
 use Rattle.wild_meaning.specs.ImageRefusalsAArch64.{WordsWorldIsLegal}
 use Rattle.wild_meaning.proofs.Told.{only}
 use Rattle.wild_meaning.proofs.Legal.{not_indirect, no_index}
@@ -29,8 +29,8 @@ plain_data = refl
 
 pub no_library : (i : ℕ) → IsCopied words_static i → ⊥
 no_library i h =
-    let group = only (group_of (file_of file_role.Object (address_code ∷ slot_code ∷ call_code ∷ past_code ∷ descriptor_code ∷ []) [] ∷ [])) h.group h.grouped in
-    let file = only (file_of file_role.Object (address_code ∷ slot_code ∷ call_code ∷ past_code ∷ descriptor_code ∷ []) []) h.file (rw (← group) at h.filed) in
+    let group = only (group_of (file_of file_role.Object (address_code ∷ slot_code ∷ call_code ∷ past_code ∷ descriptor_code ∷ kept_code ∷ []) [] ∷ [])) h.group h.grouped in
+    let file = only (file_of file_role.Object (address_code ∷ slot_code ∷ call_code ∷ past_code ∷ descriptor_code ∷ kept_code ∷ []) []) h.file (rw (← group) at h.filed) in
     let role : file_role.Object ≡ file_role.Dynamic = ap (λ (f : File). f.role) file ∙ h.library in
     cc
 

@@ -9,7 +9,7 @@ use Rattle.wild_words.proofs.RecordLemmas.{Stands-left}
 use Rattle.wild_records.specs.Abi.Segment.{pt_gnu_stack}
 use Rattle.wild_records.specs.FileHeader.{file_header_fields}
 use Rattle.wild_records.specs.declared.program_header.ProgramHeader.{ProgramHeader}
-use Rattle.wild_reloc.specs.Formula.{formula, PageDistance, StubDistance, SlotAddress, SlotPageDistance, AddressSlot, AdrField, Imm12Field, Imm26Field, NoCheck, WithinPower, Bits}
+use Rattle.wild_reloc.specs.Formula.{SymbolPart, formula, PageDistance, StubDistance, SlotAddress, SlotPageDistance, AddressSlot, AdrField, Imm12Field, Imm26Field, NoCheck, WithinPower, Bits}
 use Rattle.wild_types.specs.declared.file.FileRole.TheVariants as file_role
 use Rattle.wild_types.specs.declared.file.File.{File}
 use Rattle.wild_types.specs.declared.file.Group.{Group}
@@ -43,7 +43,7 @@ use Rattle.wild_meaning.specs.Reference.{ReadsOwnSlots, IsLinkedAlone, IsOther, 
 use Rattle.wild_meaning.specs.Segments.{headers_in, AreTold}
 use Rattle.wild_meaning.specs.Linked.{IsBlank}
 use Rattle.wild_meaning.specs.Worked.{file_of, group_of}
-use Rattle.wild_meaning.specs.WorkedAArch64.{words_static, words_world, near_function, local_data, address_code, address_item, page_reference, low_reference, slot_code, slot_item, slot_page_reference, slot_low_reference, call_code, call_item, call_reference, past_code, past_item, past_reference, descriptor_code, descriptor_item, descriptor_page, descriptor_load, descriptor_low, descriptor_call}
+use Rattle.wild_meaning.specs.WorkedAArch64.{words_static, words_world, near_function, local_data, address_code, address_item, page_reference, low_reference, slot_code, slot_item, slot_page_reference, slot_low_reference, call_code, call_item, call_reference, past_code, past_item, past_reference, kept_code, kept_item, descriptor_code, descriptor_item, descriptor_page, descriptor_load, descriptor_low, descriptor_call}
 use Rattle.wild_meaning.specs.WorkedImageAArch64.{words_image, words_rest, words_memory, words_header}
 use Rattle.wild_meaning.specs.ImageRefusalsAArch64.{WordsImageIsLinked}
 use Rattle.wild_meaning.proofs.Told.{only, owner_of, stub_of, IsPlainOwn}
@@ -53,7 +53,7 @@ use Rattle.wild_meaning.proofs.OneReference.{effect_with, same_bytes}
 use Rattle.wild_meaning.proofs.InstructionsAArch64.{alone_only}
 use Rattle.wild_meaning.proofs.WordsLegal.{no_library}
 use Rattle.wild_meaning.proofs.WordsLoaded.{words_loaded, words_programs}
-use Rattle.wild_meaning.proofs.WordsTemplates.{function_is, data_is, not_absent, slot_page_formula, slot_low_formula, call_formula, slot_page_word, slot_low_word, call_word, slot_page_alone, slot_low_alone, call_alone, no_byte, slot_page_template, slot_low_template, call_template, past_template, page_template, low_template, descriptor_template}
+use Rattle.wild_meaning.proofs.WordsTemplates.{function_is, data_is, not_absent, slot_page_formula, slot_low_formula, call_formula, slot_page_word, slot_low_word, call_word, slot_page_alone, slot_low_alone, call_alone, no_byte, slot_page_template, slot_low_template, call_template, past_template, page_template, low_template, descriptor_template, page_formula, low_formula, page_word, no_byte_of_two, kept_template, kept_page_only, kept_low_only}
 
 -- ---- symbols
 
@@ -202,7 +202,7 @@ slot_page_does = done (reads words_world words_memory) words_static words_world 
   does = slot_page_done;
 })
 
-slot_low_asked : asked_of 0x10 0x11014 (old_bytes slot_item 4 slot_low_word) ≡ Some (effect_with (Load 0 0) 64 0x80)
+pub slot_low_asked : asked_of 0x10 0x11014 (old_bytes slot_item 4 slot_low_word) ≡ Some (effect_with (Load 0 0) 64 0x80)
 unfolding word number read read_address read_access read_vector_access read_literal read_transfer read_condition insert_bits
 slot_low_asked = refl
 
@@ -286,11 +286,11 @@ by_thunk = inr ((λ h. not_absent h.1), record { symbol = 0x11200; denoted = inl
 past_it : IsReferent words_static.machine StubDistance words_static words_world words_memory past_item past_reference 0x11200
 past_it = inr ((λ h. not_absent h.1), record { symbol = 0x11200; denoted = inl function_value; comes = inl refl })
 
-call_demanded : (v : ℕ) → demand_of words_static.machine v 0x11020 (old_bytes call_item 0 call_word) ≡ Some (effect_with Call 64 (v % 2 ^ 64))
+pub call_demanded : (v : ℕ) → demand_of words_static.machine v 0x11020 (old_bytes call_item 0 call_word) ≡ Some (effect_with Call 64 (v % 2 ^ 64))
 unfolding word number read read_address read_access read_vector_access read_literal read_transfer read_condition
 call_demanded v = refl
 
-past_demanded : (v : ℕ) → demand_of words_static.machine v 0x11024 (old_bytes past_item 0 call_word) ≡ Some (effect_with Call 64 (v % 2 ^ 64))
+pub past_demanded : (v : ℕ) → demand_of words_static.machine v 0x11024 (old_bytes past_item 0 call_word) ≡ Some (effect_with Call 64 (v % 2 ^ 64))
 unfolding word number read read_address read_access read_vector_access read_literal read_transfer read_condition
 past_demanded v = refl
 
@@ -426,10 +426,94 @@ descriptor_item_holds = all_hold descriptor_item
     ))
     (λ k lt other. absurd (within 16 k lt (other.templates descriptor_page 0 descriptor_call_words descriptor_page (record { listed = (0, omega arith, refl); refers = λ e. omega arith }) (descriptor_template descriptor_page (0, omega arith, refl)))))
 
+-- ---- an address that stays in two instructions
+
+kept_sum : IsSum PageDistance words_static words_world words_memory kept_item page_reference 0x11200
+kept_sum = record { symbol = 0x11200; denoted = inr ((λ h. not_absent h.1), inr (no_stand_in, function_value)); sum = refl }
+
+kept_low_sum : IsSum SymbolPart words_static words_world words_memory kept_item low_reference 0x11200
+kept_low_sum = record { symbol = 0x11200; denoted = inr ((λ h. not_absent h.1), inr (no_stand_in, function_value)); sum = refl }
+
+kept_word_asked : asked_of 0 0x11040 (old_bytes kept_item 0 page_word) ≡ Some (effect_with (Set 0) 64 0x11000)
+unfolding word number read read_address read_access read_vector_access read_literal read_transfer read_condition insert_bits
+kept_word_asked = refl
+
+kept_word_done : effect_of words_static.machine (reads words_world words_memory) 0x11040 (0 ∷ 0 ∷ 0 ∷ 0x90 ∷ []) ≡ Some (effect_with (Set 0) 64 0x11000)
+unfolding word number read read_address read_access read_vector_access read_literal read_transfer read_condition
+kept_word_done = refl
+
+kept_word_does : DoesDemanded (reads words_world words_memory) words_static words_world words_memory kept_item page_reference 0 page_word
+kept_word_does = done (reads words_world words_memory) words_static words_world words_memory kept_item page_reference 0 page_word (record {
+  value = 0;
+  demands = record { formula = formula PageDistance (Bits AdrField 32 12 (WithinPower 33) 4096); known = page_formula; value = 0; gives = (0x11200, kept_sum, refl); fits = (inl (omega arith), refl); bits = refl };
+  effect = effect_with (Set 0) 64 0x11000;
+  demanded = kept_word_asked;
+  bytes = 0 ∷ 0 ∷ 0 ∷ 0x90 ∷ [];
+  whole = refl;
+  held = held_from words_memory 0x11040 (0 ∷ 0 ∷ 0 ∷ 0x90 ∷ []) refl;
+  does = kept_word_done;
+})
+
+kept_demanded : demand_of words_static.machine 0x11200 0x11040 (old_bytes kept_item 0 address_pair_words) ≡ Some (effect_with (Set 0) 64 0x11200)
+unfolding word number read read_address read_access read_vector_access read_literal read_transfer read_condition
+kept_demanded = refl
+
+kept_done : effect_of words_static.machine (reads words_world words_memory) 0x11040 (0 ∷ 0 ∷ 0 ∷ 0x90 ∷ 0 ∷ 0 ∷ 0x08 ∷ 0x91 ∷ []) ≡ Some (effect_with (Set 0) 64 0x11200)
+unfolding word number read read_address read_access read_vector_access read_literal read_transfer read_condition
+kept_done = refl
+
+kept_does : DoesDemanded (reads words_world words_memory) words_static words_world words_memory kept_item page_reference 0 address_pair_words
+kept_does = done (reads words_world words_memory) words_static words_world words_memory kept_item page_reference 0 address_pair_words (record {
+  value = 0x11200;
+  demands = kept_sum;
+  effect = effect_with (Set 0) 64 0x11200;
+  demanded = kept_demanded;
+  bytes = 0 ∷ 0 ∷ 0 ∷ 0x90 ∷ 0 ∷ 0 ∷ 0x08 ∷ 0x91 ∷ [];
+  whole = refl;
+  held = held_from words_memory 0x11040 (0 ∷ 0 ∷ 0 ∷ 0x90 ∷ 0 ∷ 0 ∷ 0x08 ∷ 0x91 ∷ []) refl;
+  does = kept_done;
+})
+
+no_byte_there : (k : ℕ) → IsOwnByte address_pair_words k → ⊥
+no_byte_there k h = no_byte_of_two k h.inside h.beside h.apart.0
+
+kept_page_holds : ReferenceHolds words_static words_world words_memory kept_item page_reference
+unfolding number
+kept_page_holds =
+    let each = kept_page_only (IsDone kept_item) ((λ k h. no_byte k h.inside h.beside), kept_word_does) (no_byte_there, kept_does) in
+    inl (record {
+      formula = formula PageDistance (Bits AdrField 32 12 (WithinPower 33) 4096);
+      known = page_formula;
+      value = 0;
+      gives = (0x11200, kept_sum, refl);
+      field = record { bytes = 0 ∷ 0 ∷ 0 ∷ 0x90 ∷ []; wide = refl; held = held_from words_memory 0x11040 (0 ∷ 0 ∷ 0 ∷ 0x90 ∷ []) refl; reads = record { bits = refl; passes = inl (omega arith); decodes = refl; whole = refl }; keeps = refl };
+      kept = λ start o first t k own. absurd ((each start o first t).0 k own);
+      does = λ start o first t. (each start o first t).1;
+    })
+
+kept_low_holds : ReferenceHolds words_static words_world words_memory kept_item low_reference
+unfolding number
+kept_low_holds =
+    let each = kept_low_only (IsDone kept_item) (no_byte_there, kept_does) in
+    inl (record {
+      formula = formula SymbolPart (Bits Imm12Field 11 0 NoCheck 1);
+      known = low_formula;
+      value = 0x11200;
+      gives = kept_low_sum;
+      field = record { bytes = 0 ∷ 0 ∷ 0x08 ∷ 0x91 ∷ []; wide = refl; held = held_from words_memory 0x11044 (0 ∷ 0 ∷ 0x08 ∷ 0x91 ∷ []) refl; reads = record { bits = refl; passes = tt; decodes = tt; whole = refl }; keeps = refl };
+      kept = λ start o first t k own. absurd ((each start o first t).0 k own);
+      does = λ start o first t. (each start o first t).1;
+    })
+
+kept_item_holds : ItemHolds words_static words_world words_memory kept_item
+kept_item_holds = all_hold kept_item
+    (All-from_recursion (Both kept_item) kept_item.relocations ((kept_page_holds, own_alone kept_item page_reference 0 0x11200 refl function_is), ((kept_low_holds, own_alone kept_item low_reference 0 0x11200 refl function_is), tt)))
+    (λ k lt other. absurd (within 8 k lt (other.templates page_reference 0 address_pair_words page_reference (record { listed = (0, omega arith, refl); refers = λ e. omega arith }) kept_template)))
+
 -- ---- the whole
 
 abbrev sections : List InputSection
-sections = address_code ∷ slot_code ∷ call_code ∷ past_code ∷ descriptor_code ∷ []
+sections = address_code ∷ slot_code ∷ call_code ∷ past_code ∷ descriptor_code ∷ kept_code ∷ []
 
 -- its sections are these
 listed_in : (s : InputSection) → IsInput words_static s → Contains sections s
@@ -444,7 +528,7 @@ SectionHolds s = ItemHolds words_static words_world words_memory (item_of s)
 
 items_hold : (item : Item) → IsKept words_static item → ItemHolds words_static words_world words_memory item
 items_hold item (OfSection s kept is) =
-    let there : SectionHolds s = All-contains SectionHolds sections s (All-from_recursion SectionHolds sections (address_item_holds, (slot_item_holds, (call_item_holds, (past_item_holds, (descriptor_item_holds, tt)))))) (listed_in s kept.input) in
+    let there : SectionHolds s = All-contains SectionHolds sections s (All-from_recursion SectionHolds sections (address_item_holds, (slot_item_holds, (call_item_holds, (past_item_holds, (descriptor_item_holds, (kept_item_holds, tt))))))) (listed_in s kept.input) in
     subst (λ (i : Item). ItemHolds words_static words_world words_memory i) (sym is) there
 
 abbrev HasData : InputSection → Type 0
@@ -452,7 +536,7 @@ HasData s = s.nobits ≡ false
 
 no_blank : (s : InputSection) → IsBlank words_static s → ⊥
 no_blank s h =
-    let has : HasData s = All-contains HasData sections s (All-from_recursion HasData sections (refl, (refl, (refl, (refl, (refl, tt)))))) (listed_in s h.input) in
+    let has : HasData s = All-contains HasData sections s (All-from_recursion HasData sections (refl, (refl, (refl, (refl, (refl, (refl, tt))))))) (listed_in s h.input) in
     let both : true ≡ false = sym h.blank ∙ has in
     cc
 

@@ -36,6 +36,7 @@ use Rattle.wild_meaning.specs.Template.{reads, reads_alone, effect_of, demand_of
 use Rattle.wild_meaning.specs.Reference.{ReferenceHolds}
 use Rattle.wild_meaning.specs.RefusalsAArch64.{Does, DoesNot, call_item, slot_item, pair_item, move_item, move_word, RightWordsDo, WrongWordsAreRefused, CutBitsAreRefused, SlotAddendsAreRefused, PairsAreExcepted, ThunksAreJudged}
 use Rattle.wild_meaning.proofs.InstructionsAArch64.{IsAlone, alone_only}
+use Rattle.wild_meaning.proofs.WordsTemplates.{slot_page_formula, slot_low_formula, slot_page_alone, slot_low_alone}
 use Rattle.wild_meaning.proofs.OneReference.{same_bytes, effect_with, value_in}
 
 -- what the loaded bytes do is what is demanded
@@ -183,14 +184,6 @@ move_formula : aarch64_formula r_aarch64_movw_uabs_g0 ≡ Some (formula SymbolPa
 unfolding aarch64_formula
 move_formula = refl
 
-page_formula : aarch64_formula r_aarch64_adr_got_page ≡ Some (formula (SlotPageDistance AddressSlot) (Bits AdrField 32 12 (WithinPower 33) 4096))
-unfolding aarch64_formula
-page_formula = refl
-
-low_formula : aarch64_formula r_aarch64_ld64_got_lo12_nc ≡ Some (formula (SlotAddress AddressSlot) (Bits Imm12Field 11 3 NoCheck 8))
-unfolding aarch64_formula
-low_formula = refl
-
 -- where no value of the formula is in the field's range, no reference of that type holds
 no_value : (l : Layout) (w : World) (m : Memory) (item : Item) (r : InputRelocation) (v : Value) (f : Field) (high low : ℕ) (check : Check) (unit : ℕ) → l.machine ≡ machine.AArch64 → IsAlone r.number (of_word FieldBits r.number)
     → aarch64_formula r.number ≡ Some (formula v (Bits f high low check unit)) → ((x : ℕ) → Gives v l w m item r x → Passes check x → ⊥) → ReferenceHolds l w m item r → ⊥
@@ -220,12 +213,6 @@ adr_alone = record { single = refl; at = refl; one = (refl, tt); none = tt }
 
 move_alone : IsAlone r_aarch64_movw_uabs_g0 (of_word FieldBits r_aarch64_movw_uabs_g0)
 move_alone = record { single = refl; at = refl; one = (refl, tt); none = tt }
-
-pub page_alone : IsAlone r_aarch64_adr_got_page (of_word FieldBits r_aarch64_adr_got_page)
-page_alone = record { single = refl; at = refl; one = (refl, tt); none = tt }
-
-pub low_alone : IsAlone r_aarch64_ld64_got_lo12_nc (of_word FieldBits r_aarch64_ld64_got_lo12_nc)
-low_alone = record { single = refl; at = refl; one = (refl, tt); none = tt }
 
 -- a type's facts, of a reference that has it
 of_type : (P : ℕ → Type 0) (n k : ℕ) → n ≡ k → P k → P n
@@ -259,11 +246,11 @@ cut_bits = record {
 pub slot_addends : SlotAddendsAreRefused
 slot_addends = record {
   page = λ l w m item r x n other.
-      no_value l w m item r (SlotPageDistance AddressSlot) AdrField 32 12 (WithinPower 33) 4096 x (of_type (λ k. IsAlone k (of_word FieldBits k)) r.number r_aarch64_adr_got_page n page_alone)
-      (of_type (λ k. aarch64_formula k ≡ Some (formula (SlotPageDistance AddressSlot) (Bits AdrField 32 12 (WithinPower 33) 4096))) r.number r_aarch64_adr_got_page n page_formula) (λ v given passes. other given.1.1);
+      no_value l w m item r (SlotPageDistance AddressSlot) AdrField 32 12 (WithinPower 33) 4096 x (of_type (λ k. IsAlone k (of_word FieldBits k)) r.number r_aarch64_adr_got_page n slot_page_alone)
+      (of_type (λ k. aarch64_formula k ≡ Some (formula (SlotPageDistance AddressSlot) (Bits AdrField 32 12 (WithinPower 33) 4096))) r.number r_aarch64_adr_got_page n slot_page_formula) (λ v given passes. other given.1.1);
   low = λ l w m item r x n other.
-      no_value l w m item r (SlotAddress AddressSlot) Imm12Field 11 3 NoCheck 8 x (of_type (λ k. IsAlone k (of_word FieldBits k)) r.number r_aarch64_ld64_got_lo12_nc n low_alone)
-      (of_type (λ k. aarch64_formula k ≡ Some (formula (SlotAddress AddressSlot) (Bits Imm12Field 11 3 NoCheck 8))) r.number r_aarch64_ld64_got_lo12_nc n low_formula) (λ v given passes. other given.1.1);
+      no_value l w m item r (SlotAddress AddressSlot) Imm12Field 11 3 NoCheck 8 x (of_type (λ k. IsAlone k (of_word FieldBits k)) r.number r_aarch64_ld64_got_lo12_nc n slot_low_alone)
+      (of_type (λ k. aarch64_formula k ≡ Some (formula (SlotAddress AddressSlot) (Bits Imm12Field 11 3 NoCheck 8))) r.number r_aarch64_ld64_got_lo12_nc n slot_low_formula) (λ v given passes. other given.1.1);
 }
 
 pub pairs_excepted : PairsAreExcepted
@@ -284,7 +271,7 @@ no_code : (m : Memory) (a : ℕ) → m.machine ≡ processors.AArch64 → number
 unfolding step_aarch64 words_at
 no_code m a x none = ap (λ (k : processor.Machine). step_of k m a) x ∙ rw none refl
 
-goes_there : (m : Memory) (a v b : ℕ) → step m a ≡ Some (jumps 12 v) → JumpsTo m a b → b ≡ v
+pub goes_there : (m : Memory) (a v b : ℕ) → step m a ≡ Some (jumps 12 v) → JumpsTo m a b → b ≡ v
 goes_there m a v b known j =
     let one : Some (jumps 12 v) ≡ Some j.effect = sym known ∙ j.known in
     let same : jumps 12 v ≡ j.effect = cc in

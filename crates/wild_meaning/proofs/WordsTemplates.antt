@@ -3,8 +3,8 @@ use Rattle.std.proofs.Common.{◌≡◌, ℕ, zero, suc, ◌+◌, ◌<◌, ◌�
 use Rattle.std.specs.Prelude.{Some, None, Contains, slice_get}
 use Rattle.std.proofs.lemmas.List.Elements.{All-from_recursion}
 use Rattle.wild_words.specs.Words.{number}
-use Rattle.wild_records.specs.Abi.Relocation.{r_aarch64_adr_got_page, r_aarch64_ld64_got_lo12_nc, r_aarch64_call26, r_aarch64_tlsdesc_adr_page21, r_aarch64_tlsdesc_ld64_lo12, r_aarch64_tlsdesc_add_lo12, r_aarch64_tlsdesc_call}
-use Rattle.wild_reloc.specs.Formula.{Formula, formula, StubDistance, SlotAddress, SlotPageDistance, AddressSlot, Descriptor, NoValue, AdrField, Imm12Field, Imm26Field, NoCheck, WithinPower, NoField, Bits}
+use Rattle.wild_records.specs.Abi.Relocation.{r_aarch64_adr_prel_pg_hi21, r_aarch64_add_abs_lo12_nc, r_aarch64_adr_got_page, r_aarch64_ld64_got_lo12_nc, r_aarch64_call26, r_aarch64_tlsdesc_adr_page21, r_aarch64_tlsdesc_ld64_lo12, r_aarch64_tlsdesc_add_lo12, r_aarch64_tlsdesc_call}
+use Rattle.wild_reloc.specs.Formula.{Formula, formula, SymbolPart, PageDistance, StubDistance, SlotAddress, SlotPageDistance, AddressSlot, Descriptor, NoValue, AdrField, Imm12Field, Imm26Field, NoCheck, WithinPower, NoField, Bits}
 use Rattle.wild_reloc.specs.FormulaAArch64.{aarch64_formula}
 use Rattle.wild_types.specs.declared.input.InputRelocation.{InputRelocation}
 use Rattle.wild_types.specs.Flags.{has_flag, undefined_weak}
@@ -12,11 +12,11 @@ use Rattle.wild_aarch64.specs.Code.{read, read_address, read_access, read_vector
 use Rattle.wild_meaning.specs.ReferentAArch64.{IsAbsent}
 use Rattle.wild_meaning.specs.Field.{form_width, InNoField}
 use Rattle.wild_meaning.specs.Sequence.{Target, FieldBits, Instruction, of_word, descriptor_call_words, address_pair_words}
-use Rattle.wild_meaning.specs.Template.{IsInstruction, IsSequence, IsTemplate}
-use Rattle.wild_meaning.specs.WorkedAArch64.{words_static, near_function, local_data, address_item, page_reference, low_reference, slot_item, slot_page_reference, slot_low_reference, call_item, call_reference, past_item, past_reference, descriptor_item, descriptor_page, descriptor_load, descriptor_low, descriptor_call}
+use Rattle.wild_meaning.specs.Template.{IsInstruction, IsSequence, IsOfSequence, IsTemplate}
+use Rattle.wild_meaning.specs.WorkedAArch64.{words_static, near_function, local_data, address_item, page_reference, low_reference, slot_item, slot_page_reference, slot_low_reference, call_item, call_reference, past_item, past_reference, kept_item, descriptor_item, descriptor_page, descriptor_load, descriptor_low, descriptor_call}
 use Rattle.wild_meaning.proofs.Told.{flag_of, IsPlainOwn}
 use Rattle.wild_meaning.proofs.PairLemmas.{only_one}
-use Rattle.wild_meaning.proofs.InstructionsAArch64.{IsAlone, alone_template, sequence_is}
+use Rattle.wild_meaning.proofs.InstructionsAArch64.{IsAlone, single_is, alone_template, sequence_is}
 
 -- ---- symbols
 
@@ -49,6 +49,14 @@ slot_low_formula = refl
 pub call_formula : aarch64_formula r_aarch64_call26 ≡ Some (formula StubDistance (Bits Imm26Field 27 2 (WithinPower 28) 4))
 unfolding aarch64_formula
 call_formula = refl
+
+pub page_formula : aarch64_formula r_aarch64_adr_prel_pg_hi21 ≡ Some (formula PageDistance (Bits AdrField 32 12 (WithinPower 33) 4096))
+unfolding aarch64_formula
+page_formula = refl
+
+pub low_formula : aarch64_formula r_aarch64_add_abs_lo12_nc ≡ Some (formula SymbolPart (Bits Imm12Field 11 0 NoCheck 1))
+unfolding aarch64_formula
+low_formula = refl
 
 descriptor_page_formula : aarch64_formula r_aarch64_tlsdesc_adr_page21 ≡ Some (formula (SlotPageDistance Descriptor) (Bits AdrField 32 12 (WithinPower 33) 4096))
 unfolding aarch64_formula
@@ -121,7 +129,7 @@ past_template = alone_template words_static past_item past_reference call_word r
 
 -- ---- the address
 
-no_byte_of_two : (k : ℕ) → k < 8 → (k < 0) ⊎ (4 ≤ k) → (k < 4) ⊎ (8 ≤ k) → ⊥
+pub no_byte_of_two : (k : ℕ) → k < 8 → (k < 0) ⊎ (4 ≤ k) → (k < 4) ⊎ (8 ≤ k) → ⊥
 no_byte_of_two k lt (inl a) b = omega (arith, a)
 no_byte_of_two k lt (inr a) (inl b) = omega (arith, a, b)
 no_byte_of_two k lt (inr a) (inr b) = omega (arith, lt, b)
@@ -147,6 +155,58 @@ page_template = inr (record { rest = low_reference ∷ []; sequence = address_se
 
 pub low_template : IsTemplate words_static address_item low_reference 0 address_pair_words page_reference
 low_template = inr (record { rest = low_reference ∷ []; sequence = address_sequence; one = (1, omega arith, refl) })
+
+-- ---- the address that stays
+
+abbrev pub page_word : Instruction
+page_word = of_word FieldBits r_aarch64_adr_prel_pg_hi21
+
+kept_stands : IsInstruction words_static kept_item page_reference 0 address_pair_words
+unfolding number read read_address read_access read_vector_access read_literal read_transfer read_condition
+kept_stands = record { code = refl; known = (48, omega arith, refl); number = (0, omega arith, refl); field = refl; inside = omega arith; stands = refl; words = refl; counts = tt; alone = λ k h. absurd (no_byte_of_two k h.inside h.beside h.apart.0) }
+
+kept_sequence : IsSequence words_static kept_item page_reference (low_reference ∷ []) 0 address_pair_words
+kept_sequence = record {
+  stands = kept_stands;
+  several = omega arith;
+  index = 0;
+  listed = refl;
+  has = (record { listed = refl; field = refl; number = (0, omega arith, refl); names = (refl, refl) }, tt);
+  symbol = 0;
+  named = refl;
+  met = ((λ h. not_absent h), tt);
+}
+
+pub kept_template : IsTemplate words_static kept_item page_reference 0 address_pair_words page_reference
+kept_template = inr (record { rest = low_reference ∷ []; sequence = kept_sequence; one = (0, omega arith, refl) })
+
+kept_first : (first : InputRelocation) (i : ℕ) → slice_get kept_item.relocations i ≡ Some first → first.number ≡ r_aarch64_adr_prel_pg_hi21 → first ≡ page_reference
+kept_first first zero a n = let one : Some page_reference ≡ Some first = a in cc
+kept_first first (suc zero) a n = absurd (let one : Some low_reference ≡ Some first = a in let same : low_reference ≡ first = cc in let other : r_aarch64_add_abs_lo12_nc ≡ r_aarch64_adr_prel_pg_hi21 = ap (λ (q : InputRelocation). q.number) same ∙ n in omega (arith, other))
+kept_first first (suc (suc i)) a n = absurd (let none : None ≡ Some first = a in cc)
+
+-- what holds of the pair holds of each sequence there
+in_pair : (P : ℕ → Instruction → InputRelocation → Type 0) (r : InputRelocation) → P 0 address_pair_words page_reference → (start : ℕ) (o : Instruction) (first : InputRelocation) → o ≡ address_pair_words → IsOfSequence words_static kept_item r start o first → P start o first
+in_pair P r h start o first same q =
+    let stands : IsInstruction words_static kept_item first start address_pair_words = subst (λ (p : Instruction). IsInstruction words_static kept_item first start p) same q.sequence.stands in
+    let number : first.number ≡ r_aarch64_adr_prel_pg_hi21 = only_one r_aarch64_adr_prel_pg_hi21 first.number stands.number in
+    let one = kept_first first q.sequence.index q.sequence.listed number in
+    let offset : first.offset ≡ 0 = ap (λ (r : InputRelocation). r.offset) one in
+    let at : 0 ≡ start = omega (arith, offset, stands.field) in
+    subst (λ (f : InputRelocation). P start o f) (sym one) (subst (λ (p : Instruction). P start p page_reference) (sym same) (subst (λ (k : ℕ). P k address_pair_words page_reference) at h))
+
+-- the relocation of the page belongs to the pair, and to its word alone; that of the low bits to the pair
+pub kept_page_only : (P : ℕ → Instruction → InputRelocation → Type 0) → P 0 page_word page_reference → P 0 address_pair_words page_reference → (start : ℕ) (o : Instruction) (first : InputRelocation) → IsTemplate words_static kept_item page_reference start o first → P start o first
+kept_page_only P h k start o first (inl t) =
+    let same : o ≡ page_word = single_is (λ (p : Instruction). p ≡ page_word) words_static kept_item page_reference start o refl (refl, tt) t.0.single t.0.stands in
+    let field : o.field ≡ 0 = ap (λ (p : Instruction). p.field) same in
+    let at : 0 ≡ start = omega (arith, t.0.stands.field, field) in
+    subst (λ (f : InputRelocation). P start o f) (sym t.1) (subst (λ (p : Instruction). P start p page_reference) (sym same) (subst (λ (n : ℕ). P n page_word page_reference) at h))
+kept_page_only P h k start o first (inr q) = in_pair P page_reference k start o first (sequence_is (λ (p : Instruction). p ≡ address_pair_words) words_static kept_item page_reference start o first refl (refl, tt) q) q
+
+pub kept_low_only : (P : ℕ → Instruction → InputRelocation → Type 0) → P 0 address_pair_words page_reference → (start : ℕ) (o : Instruction) (first : InputRelocation) → IsTemplate words_static kept_item low_reference start o first → P start o first
+kept_low_only P k start o first (inl t) = absurd (t.0.free page_reference (low_reference ∷ []) 0 address_pair_words kept_sequence (0, omega arith, refl))
+kept_low_only P k start o first (inr q) = in_pair P low_reference k start o first (sequence_is (λ (p : Instruction). p ≡ address_pair_words) words_static kept_item low_reference start o first refl (refl, tt) q) q
 
 -- ---- the descriptor's call
 

@@ -1,5 +1,5 @@
--- A worked program of AArch64 that is loaded at its own addresses: code with an address in two instructions, a load from a slot, branches,
--- one of them by a thunk, and a descriptor's call.
+-- A worked program of AArch64 that is loaded at its own addresses: code with addresses in two instructions, of which one stays, a load from a
+-- slot, branches, one of them by a thunk, and a descriptor's call.
 --   address_item ..   what is asked of its input sections
 --   words_static      the layout
 --   words_world       its world
@@ -77,6 +77,10 @@ abbrev pub descriptor_code : InputSection
 descriptor_code =
     input 0x11030 6 (0 ∷ 0 ∷ 0 ∷ 0x90 ∷ 0x01 ∷ 0 ∷ 0x40 ∷ 0xf9 ∷ 0 ∷ 0 ∷ 0 ∷ 0x91 ∷ 0x20 ∷ 0 ∷ 0x3f ∷ 0xd6 ∷ []) (descriptor_page ∷ descriptor_load ∷ descriptor_low ∷ descriptor_call ∷ [])
 
+-- `adrp x0; add x0, x0`, which stays
+abbrev pub kept_code : InputSection
+kept_code = input 0x11040 6 (0 ∷ 0 ∷ 0 ∷ 0x90 ∷ 0 ∷ 0 ∷ 0 ∷ 0x91 ∷ []) (page_reference ∷ low_reference ∷ [])
+
 abbrev pub address_item : Item
 address_item = item_of address_code
 
@@ -92,6 +96,9 @@ past_item = item_of past_code
 abbrev pub descriptor_item : Item
 descriptor_item = item_of descriptor_code
 
+abbrev pub kept_item : Item
+kept_item = item_of kept_code
+
 -- the layout: code from 0x11000 on, a thunk at 0x11060, slots at 0x11080, thread-local data from 0x30000 to 0x30010
 abbrev pub words_static : Layout
 words_static = record empty_layout {
@@ -103,7 +110,7 @@ words_static = record empty_layout {
   tls = record { start = 0x30000; end = 0x30010; align = 16 };
   got_base = 0x11080;
   symbols = near_function ∷ local_data ∷ [];
-  groups = one_file (address_code ∷ slot_code ∷ call_code ∷ past_code ∷ descriptor_code ∷ []);
+  groups = one_file (address_code ∷ slot_code ∷ call_code ∷ past_code ∷ descriptor_code ∷ kept_code ∷ []);
   entry = Some (entry.Address 0x11000);
 }
 

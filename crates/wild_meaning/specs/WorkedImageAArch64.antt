@@ -22,14 +22,14 @@ abbrev pub words_segment : ProgramHeader
 words_segment = record { kind = pt_load; flags = 7; offset = 0x1000; address = 0x11000; physical = 0x11000; file_size = 0x88; mem_size = 0x88; align = 0x1000 }
 
 -- `nop; adr x0` of the function; `adrp x0; ldr x0, [x0]` of its slot; `bl` to the thunk, `bl` to the function's second instruction, `ret`;
--- `nop; nop; movz x0, lsl 16; movk x0, #0x18`; the thunk, `adrp x16; add x16, x16; br x16`; and the slot
+-- `nop; nop; movz x0, lsl 16; movk x0, #0x18`; `adrp x0; add x0, x0` of the function; the thunk, `adrp x16; add x16, x16; br x16`; and the slot
 abbrev pub words_content : List ℕ
 words_content =
     0x1f ∷ 0x20 ∷ 0x03 ∷ 0xd5 ∷ 0xe0 ∷ 0x0f ∷ 0 ∷ 0x10 ∷ 0 ∷ 0 ∷ 0 ∷ 0 ∷ 0 ∷ 0 ∷ 0 ∷ 0
     ∷ 0 ∷ 0 ∷ 0 ∷ 0x90 ∷ 0 ∷ 0x40 ∷ 0x40 ∷ 0xf9 ∷ 0 ∷ 0 ∷ 0 ∷ 0 ∷ 0 ∷ 0 ∷ 0 ∷ 0
     ∷ 0x10 ∷ 0 ∷ 0 ∷ 0x94 ∷ 0x78 ∷ 0 ∷ 0 ∷ 0x94 ∷ 0xc0 ∷ 0x03 ∷ 0x5f ∷ 0xd6 ∷ 0 ∷ 0 ∷ 0 ∷ 0
     ∷ 0x1f ∷ 0x20 ∷ 0x03 ∷ 0xd5 ∷ 0x1f ∷ 0x20 ∷ 0x03 ∷ 0xd5 ∷ 0 ∷ 0 ∷ 0xa0 ∷ 0xd2 ∷ 0 ∷ 0x03 ∷ 0x80 ∷ 0xf2
-    ∷ 0 ∷ 0 ∷ 0 ∷ 0 ∷ 0 ∷ 0 ∷ 0 ∷ 0 ∷ 0 ∷ 0 ∷ 0 ∷ 0 ∷ 0 ∷ 0 ∷ 0 ∷ 0
+    ∷ 0 ∷ 0 ∷ 0 ∷ 0x90 ∷ 0 ∷ 0 ∷ 0x08 ∷ 0x91 ∷ 0 ∷ 0 ∷ 0 ∷ 0 ∷ 0 ∷ 0 ∷ 0 ∷ 0
     ∷ 0 ∷ 0 ∷ 0 ∷ 0 ∷ 0 ∷ 0 ∷ 0 ∷ 0 ∷ 0 ∷ 0 ∷ 0 ∷ 0 ∷ 0 ∷ 0 ∷ 0 ∷ 0
     ∷ 0x10 ∷ 0 ∷ 0 ∷ 0x90 ∷ 0x10 ∷ 0x02 ∷ 0x08 ∷ 0x91 ∷ 0 ∷ 0x02 ∷ 0x1f ∷ 0xd6 ∷ 0 ∷ 0 ∷ 0 ∷ 0
     ∷ 0 ∷ 0 ∷ 0 ∷ 0 ∷ 0 ∷ 0 ∷ 0 ∷ 0 ∷ 0 ∷ 0 ∷ 0 ∷ 0 ∷ 0 ∷ 0 ∷ 0 ∷ 0
