@@ -51,8 +51,8 @@ use Rattle.wild_relax.specs.Rows.{rows_x86_64}
 use Rattle.wild_relax.specs.RowSequences.{call_form, is_call_number}
 use Rattle.wild_relax.specs.declared.row.Written.{Written}
 use Rattle.wild_relax.specs.declared.row.Written.TheVariants as written
-use Rattle.wild_relax.specs.RewriteX86_64.{info_by, info_written, rewrite_of}
-use Rattle.wild_relax.proofs.RewriteLemmas.{written_row}
+use Rattle.wild_relax.specs.RewriteX86_64.{is_aarch64, info_by, info_written, rewrite_of}
+use Rattle.wild_relax.proofs.RewriteLemmas.{written_row, listed_type}
 use Rattle.wild_relax.specs.Linked.{keeps_bytes}
 use Rattle.wild_layout.specs.declared.decision.Decision.{Decision}
 use Rattle.wild_layout.specs.declared.decision.Decision.TheVariants.{Nothing, Field, Moved, Left, Rewritten, Partner}
@@ -170,51 +170,52 @@ not_placed : (l : Layout) (r : InputRelocation) (info : RelocationKindInfo) (p :
 not_placed l r info p is = rw is refl
 
 -- and what is written counts no pages
-unmasked : (w : Written) → (info_by w).mask ≡ None
+unmasked : (w : Written) → is_aarch64 w ≡ false → (info_by w).mask ≡ None
 unfolding x86_64_row
-unmasked written.Nothing = refl
-unmasked written.Pc32 = refl
-unmasked written.Plt32 = refl
-unmasked written.Unsigned32 = refl
-unmasked written.Signed32 = refl
-unmasked written.GotTpOff = refl
-unmasked written.TpOff32 = refl
-unmasked written.GotOff64 = refl
+unmasked written.Nothing h = refl
+unmasked written.Pc32 h = refl
+unmasked written.Plt32 h = refl
+unmasked written.Unsigned32 h = refl
+unmasked written.Signed32 h = refl
+unmasked written.GotTpOff h = refl
+unmasked written.TpOff32 h = refl
+unmasked written.GotOff64 h = refl
+unmasked other h = cc
 
 whole_value : (l : Layout) (info : RelocationKindInfo) (a : ℕ) (addend : ℤ) (p : ℕ) → info.mask ≡ None → value_in l info a addend p ≡ value_by l info.kind a addend p
 whole_value l info a addend p none = ap (λ (m : Option PageMask). value_less l (taken_of info.kind m) a addend p) none
 
-known_on : (m : Machine) (row : Row) → m ≡ machine.X86_64 → row_of m (rewrite_of row).number ≡ Some (info_written row)
+known_on : (m : Machine) (row : Row) → m ≡ machine.X86_64 → is_aarch64 row.written ≡ false → row_of m (rewrite_of row).number ≡ Some (info_written row)
 unfolding row_of
-known_on machine.AArch64 row is = cc
-known_on machine.X86_64 row is = written_row row.written
+known_on machine.AArch64 row is type = cc
+known_on machine.X86_64 row is type = written_row row.written type
 
-row_makes : (l : Layout) (s : Item) (r : InputRelocation) (row : Row) (d : Decision) → l.machine ≡ machine.X86_64 → rewritten_to l s r row ≡ Ok d → IsMade l s r row d
-row_makes l s r row d x86 h = by_term l s r row d x86 (term_to l r (info_written row) (place_to s r row)) refl h
+row_makes : (l : Layout) (s : Item) (r : InputRelocation) (row : Row) (d : Decision) → l.machine ≡ machine.X86_64 → is_aarch64 row.written ≡ false → rewritten_to l s r row ≡ Ok d → IsMade l s r row d
+row_makes l s r row d x86 type h = by_term l s r row d x86 type (term_to l r (info_written row) (place_to s r row)) refl h
   where
-    by_test : (l : Layout) (s : Item) (r : InputRelocation) (row : Row) (d : Decision) (a v : ℕ) (b : Bool) → l.machine ≡ machine.X86_64 → term_to l r (info_written row) (place_to s r row) ≡ Ok a → value_in l (info_written row) a ((rewrite_of row).addend r.addend) (place_to s r row) ≡ v → allows (info_written row) v ≡ b
+    by_test : (l : Layout) (s : Item) (r : InputRelocation) (row : Row) (d : Decision) (a v : ℕ) (b : Bool) → l.machine ≡ machine.X86_64 → is_aarch64 row.written ≡ false → term_to l r (info_written row) (place_to s r row) ≡ Ok a → value_in l (info_written row) a ((rewrite_of row).addend r.addend) (place_to s r row) ≡ v → allows (info_written row) v ≡ b
         → (if b then Ok (if keeps_bytes row then Field (info_written row).size v else Rewritten row v) else Err (faults.OutOfRange v)) ≡ Ok d → IsMade l s r row d
-    by_test l s r row d a v false x86 given value allowed h = cc
-    by_test l s r row d a v true x86 given value allowed h =
+    by_test l s r row d a v false x86 type given value allowed h = cc
+    by_test l s r row d a v true x86 type given value allowed h =
         let same : (if keeps_bytes row then Field (info_written row).size v else Rewritten row v) ≡ d = cc in
         record {
           value = v;
           by = record {
             info = info_written row;
-            known = known_on l.machine row x86;
+            known = known_on l.machine row x86 type;
             term = a;
             given = sym (not_placed l r (info_written row) (place_to s r row) x86) ∙ given;
-            value = sym (whole_value l (info_written row) a ((rewrite_of row).addend r.addend) (place_to s r row) (unmasked row.written)) ∙ value;
+            value = sym (whole_value l (info_written row) a ((rewrite_of row).addend r.addend) (place_to s r row) (unmasked row.written type)) ∙ value;
             allowed = allowed;
           };
           is = same;
         }
 
-    by_term : (l : Layout) (s : Item) (r : InputRelocation) (row : Row) (d : Decision) → l.machine ≡ machine.X86_64 → (t : Result ℕ Fault) → term_to l r (info_written row) (place_to s r row) ≡ t → value_to l s r row t ≡ Ok d → IsMade l s r row d
-    by_term l s r row d x86 (Err f) given h = cc
-    by_term l s r row d x86 (Ok a) given h =
+    by_term : (l : Layout) (s : Item) (r : InputRelocation) (row : Row) (d : Decision) → l.machine ≡ machine.X86_64 → is_aarch64 row.written ≡ false → (t : Result ℕ Fault) → term_to l r (info_written row) (place_to s r row) ≡ t → value_to l s r row t ≡ Ok d → IsMade l s r row d
+    by_term l s r row d x86 type (Err f) given h = cc
+    by_term l s r row d x86 type (Ok a) given h =
         let v = value_in l (info_written row) a ((rewrite_of row).addend r.addend) (place_to s r row) in
-        by_test l s r row d a v (allows (info_written row) v) x86 given refl refl h
+        by_test l s r row d a v (allows (info_written row) v) x86 type given refl refl h
 
 -- ---- the three ways
 
@@ -238,7 +239,7 @@ decide_cases {P} l s i r d listed h own made taken = by_partner l s i r d (is_pa
   where
     by_choice : {P : Type 0} (l : Layout) (s : Item) (i : ℕ) (r : InputRelocation) (d : Decision) (c : Result (Option Row) UnknownSequence) → is_partner l s i ≡ false → choice_of l s r (slice_get s.relocations (i + 1)) ≡ c → decide_with l s r c ≡ Ok d → (IsOwn l s i r d → P) → ((row : Row) → IsChosen l s r (slice_get s.relocations (i + 1)) row → IsMade l s r row d → P) → P
     by_choice l s i r d (Ok None) alone is h own made = own (record { made = h; choice = is; alone = alone })
-    by_choice l s i r d (Ok (Some row)) alone is h own made = (let c = choice_row l s r (slice_get s.relocations (i + 1)) row is in made row c (row_makes l s r row d c.machine h))
+    by_choice l s i r d (Ok (Some row)) alone is h own made = (let c = choice_row l s r (slice_get s.relocations (i + 1)) row is in made row c (row_makes l s r row d c.machine (listed_type row (is_listed l s r (slice_get s.relocations (i + 1)) row c)) h))
     by_choice l s i r d (Err e) alone is h own made = absurd (refused l s r e d h)
 
     by_partner : {P : Type 0} (l : Layout) (s : Item) (i : ℕ) (r : InputRelocation) (d : Decision) (b : Bool) → is_partner l s i ≡ b → slice_get s.relocations i ≡ Some r → (if b then Ok Partner else decide_at l s (slice_get s.relocations i) (slice_get s.relocations (i + 1))) ≡ Ok d → (IsOwn l s i r d → P) → ((row : Row) → IsChosen l s r (slice_get s.relocations (i + 1)) row → IsMade l s r row d → P) → (is_partner l s i ≡ true → Partner ≡ d → P) → P

@@ -25,6 +25,7 @@ use Rattle.wild_relax.specs.Rows.{rows_x86_64}
 use Rattle.wild_relax.specs.RowSymbols.{is_in_32, takes_value, is_mandatory}
 use Rattle.wild_relax.specs.Rewrite.{is_skip}
 use Rattle.wild_relax.specs.RewriteX86_64.{change_of, addend_by, number_written, rewrite_of}
+use Rattle.wild_relax.proofs.RewriteLemmas.{code_high}
 use Rattle.wild_relax.specs.Linked.{keeps_bytes, field_in, template_of}
 use Rattle.wild_relax.specs.Keep.{distance, Lands, demanded}
 use Rattle.wild_layout.specs.Sites.{template_start}
@@ -109,6 +110,7 @@ GoesWithBase l w row k = (instruction_of row).sort ≡ TargetInSlot → IsMovabl
 
 lands_far_as : (w : Written) (read : Reader) (place n v : ℕ) → number_written w ≡ r_x86_64_pc32 → v ≡ distance n place → Lands w read place n v
 lands_far_as written.Pc32 read place n v e h = h
+lands_far_as (written.Code d goal) read place n v e h = absurd (let high = code_high d in omega (arith, high, e))
 lands_far_as other read place n v e h = cc
 
 abbrev is_itself : Written → Bool
@@ -125,10 +127,12 @@ lands_as other read place n v e h = cc
 
 lands_slot_as : (w : Written) (read : Reader) (place n v : ℕ) → number_written w ≡ r_x86_64_gottpoff → read (Word (sum_64 (place + 4) v)) ≡ Some n → Lands w read place n v
 lands_slot_as written.GotTpOff read place n v e h = h
+lands_slot_as (written.Code d goal) read place n v e h = absurd (let high = code_high d in omega (arith, high, e))
 lands_slot_as other read place n v e h = cc
 
 lands_start : (w : Written) (read : Reader) (place v : ℕ) → number_written w ≡ r_x86_64_none → Lands w read place 0 v
 lands_start written.Nothing read place v e = refl
+lands_start (written.Code d goal) read place v e = absurd (let high = code_high d in omega (arith, high, e))
 lands_start other read place v e = cc
 
 -- ---- what is demanded

@@ -88,6 +88,7 @@ each_takes_well = refl
 pub plain_taken : (t : SymbolTest) (q : Question) → is_plain t ≡ true → takes_symbol t q ≡ true → has_flag q.flags ifunc ≡ false
 plain_taken symbol.Plain q h t = not-true _ t
 plain_taken symbol.Ifunc q h t = cc
+plain_taken symbol.UndefinedWeak q h t = cc
 plain_taken symbol.Any q h t = cc
 
 own_not : (b on : Bool) → not (not b) ≡ true → b ≡ false → on ≡ true
@@ -109,6 +110,7 @@ on_by value.OwnSigned d n q h taken on e k = cc
 on_by value.OwnUnsigned d n q h taken on e k = cc
 on_by value.OwnMoving d n q h taken on e k = cc
 on_by value.OwnFixed d n q h taken on e k = cc
+on_by (value.OwnNear behind) d n q h taken on e k = cc
 
 takes_sequence : (l : Layout) (w : World) (m : Memory) (s : Item) (i : ℕ) (r : InputRelocation) (row : Row) (v : ℕ) → IsLoadedItem machine.X86_64 l w m s → (p : IsPlacedRow l s i r row v) → is_skip (rewrite_of row).next ≡ true → TakesSequence l row p.chosen.symbol
 takes_sequence l w m s i r row v h p skips =

@@ -22,7 +22,7 @@ abbrev AreSmall : List ℕ → Type 0
 AreSmall [] = Unit {0}
 AreSmall (w ∷ ws) = (w < 2 ^ 32) × AreSmall ws
 
-words_of-more : (w : ℕ) (bytes : List ℕ) → w < 2 ^ 32 → words_of (word 4 w ++ bytes) ≡ w ∷ words_of bytes
+pub words_of-more : (w : ℕ) (bytes : List ℕ) → w < 2 ^ 32 → words_of (word 4 w ++ bytes) ≡ w ∷ words_of bytes
 unfolding word number
 words_of-more w bytes h =
     let e : w % 256 + 256 * (w / 256 % 256 + 256 * (w / 256 / 256 % 256 + 256 * (w / 256 / 256 / 256 % 256 + 256 * 0))) ≡ w = omega arith in

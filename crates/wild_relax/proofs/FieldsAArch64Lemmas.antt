@@ -22,7 +22,7 @@ fields_agree Imm26 bits w = refl
 pub types_have_forms : TypesHaveForms
 types_have_forms = refl
 
-read_back : (w : ℕ) → w < 2 ^ 32 → number (word 4 w) ≡ w
+pub read_back : (w : ℕ) → w < 2 ^ 32 → number (word 4 w) ≡ w
 unfolding word number
 read_back w h = omega arith
 

@@ -8,6 +8,8 @@ pub mod SequenceLemmas
 pub mod RowLemmas
 pub mod SectionLemmas
 pub mod NumberLemmas
+pub mod RowsAArch64Lemmas
 pub mod TemplateLemmas
 pub mod AArch64Lemmas
 pub mod FieldsAArch64Lemmas
+pub mod KeepAArch64Lemmas

@@ -22,7 +22,7 @@ first_of_kept stands p [] passes = refl
 first_of_kept stands p (r ∷ rs) passes = kept_or_not stands p r rs (stands r) (p r) refl refl (passes r) (first_of_kept stands p rs passes)
 
 -- a row of another type does not stand
-of_its_number : (q : Question) (row : Row) → applies q row ≡ true → ((relocation_of q).number == row.number) ≡ true
+pub of_its_number : (q : Question) (row : Row) → applies q row ≡ true → ((relocation_of q).number == row.number) ≡ true
 unfolding applies
 of_its_number q row h =
     let addend = and_parts _ _ (and_parts _ _ h).0 in

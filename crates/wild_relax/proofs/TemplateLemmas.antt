@@ -16,7 +16,7 @@ use Rattle.wild_relax.specs.Pattern.{field_of}
 use Rattle.wild_relax.specs.Rewrite.{rewritten, replaced}
 use Rattle.wild_relax.specs.RewriteX86_64.{info_written, rewrite_of}
 use Rattle.wild_relax.specs.Linked.{pattern_of, pattern_size, fits_in, field_in, linked, with_field, template_of}
-use Rattle.wild_relax.proofs.RewriteLemmas.{is_bytes, in_bytes, info_is, length-made_bytes, lies_in}
+use Rattle.wild_relax.proofs.RewriteLemmas.{is_bytes, in_bytes, of_x86_64, info_is, length-made_bytes, lies_in}
 
 -- it lies in the pattern
 pub field_fits : (row : Row) → fits_in row ≡ true → field_in row + field_width (info_written row) ≤ pattern_size row
@@ -32,7 +32,7 @@ unfolding template_of
 template_linked row info value old e =
     let made = rewritten (rewrite_of row) (field_of (pattern_of row)) old in
     let same = info_is row info e in
-    ap (λ (bs : List ℕ). place (field_in row) bs made) (over_any (info_written row).size value (slice_range made (field_in row) (field_in row + field_width (info_written row))) (in_bytes row.written))
+    ap (λ (bs : List ℕ). place (field_in row) bs made) (over_any (info_written row).size value (slice_range made (field_in row) (field_in row + field_width (info_written row))) (in_bytes row.written (of_x86_64 row.written info e)))
     ∙ ap (λ (i : RelocationKindInfo). linked row i value old) (sym same)
 
 -- ---- the bytes around it

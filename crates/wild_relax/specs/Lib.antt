@@ -6,6 +6,8 @@ pub mod RewriteX86_64
 pub mod RowSymbols
 pub mod RowSequences
 pub mod Rows
+pub mod SequenceAArch64
+pub mod RowsAArch64
 pub mod ByNumber
 pub mod Linked
 pub mod Relaxation
@@ -15,3 +17,4 @@ pub mod Laws
 pub mod ThunkAArch64
 pub mod LawsAArch64
 pub mod FieldsAArch64
+pub mod KeepAArch64

@@ -1,5 +1,5 @@
--- The bytes that the rows of x86-64 look for in the input (Intel SDM; x86-64 psABI, "Linker Optimization"; "ELF Handling For
--- Thread-Local Storage", "Linker Relaxations").
+-- The bytes that rows look for in the input: those of x86-64 (Intel SDM; x86-64 psABI, "Linker Optimization"; "ELF Handling For
+-- Thread-Local Storage", "Linker Relaxations"), and the place of AArch64's words.
 --   cells_of p               what each byte of a pattern may be
 --   field_of p               how far behind the pattern's start the relocation's field begins
 --   stands_before bs o p     the pattern stands in the bytes, whole, with its field at o
@@ -12,7 +12,7 @@ use Rattle.wild_relax.specs.declared.pattern.Operation.TheVariants as operation
 use Rattle.wild_relax.specs.declared.pattern.GeneralForm.TheVariants as general
 use Rattle.wild_relax.specs.declared.pattern.LocalForm.TheVariants as local
 use Rattle.wild_relax.specs.declared.pattern.Pattern.{Pattern}
-use Rattle.wild_relax.specs.declared.pattern.Pattern.TheVariants.{Nothing, Wide, Mov, Call, Jump, General, LocalStart, Local, Lea, DescriptorCall}
+use Rattle.wild_relax.specs.declared.pattern.Pattern.TheVariants.{Nothing, Wide, Mov, Call, Jump, General, LocalStart, Local, Lea, DescriptorCall, Among}
 use Rattle.wild_relax.specs.declared.pattern.Cell.{Cell}
 use Rattle.wild_relax.specs.declared.pattern.Cell.TheVariants.{Is, RexWide, Rex2Wide, Slot, Any}
 
@@ -78,6 +78,7 @@ cells_of (Local local.Large) = lea_rdi ++ large_call
 cells_of (Local local.NoPlt) = lea_rdi ++ (exact (0xff ∷ 0x15 ∷ []) ++ field)
 cells_of (Lea p) = lea_prefix_cells p ++ (Is 0x8d ∷ Slot ∷ field)
 cells_of DescriptorCall = exact (0xff ∷ 0x10 ∷ [])
+cells_of (Among s k) = field
 
 abbrev pub field_of : Pattern → ℕ
 field_of Nothing = 0
@@ -94,6 +95,7 @@ field_of (Local f) = 3
 field_of (Lea Rex) = 3
 field_of (Lea Rex2) = 4
 field_of DescriptorCall = 0
+field_of (Among s k) = 0
 
 -- the cells stand in the bytes, from start on
 unfoldable pub stands_at : List ℕ → ℕ → List Cell → Bool

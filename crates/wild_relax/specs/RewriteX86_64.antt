@@ -1,13 +1,16 @@
--- What the rows of x86-64 write (Intel SDM; x86-64 psABI, "Linker Optimization"; "ELF Handling For Thread-Local Storage", "Linker
--- Relaxations").
+-- What rows write: those of x86-64 (Intel SDM; x86-64 psABI, "Linker Optimization"; "ELF Handling For Thread-Local Storage", "Linker
+-- Relaxations"), and AArch64's words.
 --   rewrite_of row     the bytes, the place of the field, its relocation type and its addend
 --   info_written row   how the field is written
-use Rattle.std.specs.Prelude.{ℕ, ℤ, pos, ◌+◌, ◌*◌, ◌/◌, ◌%◌, ◌==◌, Bool, ◌||◌, if◌then◌else◌, List, [], ◌∷◌, ◌++◌, slice_index, Option, Some, None, replicate, true, false}
+use Rattle.std.specs.Prelude.{ℕ, ℤ, pos, ◌+◌, ◌*◌, ◌/◌, ◌%◌, ◌^◌, ◌==◌, Bool, ◌||◌, if◌then◌else◌, List, [], ◌∷◌, ◌++◌, slice_index, Option, Some, None, replicate, true, false}
+use Rattle.wild_words.specs.Words.{word, number}
 use Rattle.wild_records.specs.Abi.Relocation as abi
 use Rattle.wild_reloc.specs.Table.{plain}
 use Rattle.wild_reloc.specs.TableX86_64.{x86_64_row}
+use Rattle.wild_reloc.specs.TableAArch64.{aarch64_row}
 use Rattle.wild_reloc.specs.declared.range.Sign.TheVariants.{Signed}
 use Rattle.wild_reloc.specs.declared.info.Width.TheVariants.{Zero}
+use Rattle.wild_reloc.specs.declared.info.RelocationKind.{RelocationKind}
 use Rattle.wild_reloc.specs.declared.info.RelocationKind.TheVariants as kinds
 use Rattle.wild_reloc.specs.declared.info.RelocationKindInfo.{RelocationKindInfo}
 use Rattle.wild_relax.specs.declared.pattern.Prefix.{Prefix}
@@ -17,7 +20,13 @@ use Rattle.wild_relax.specs.declared.pattern.Operation.TheVariants as operation
 use Rattle.wild_relax.specs.declared.pattern.LocalForm.TheVariants as local
 use Rattle.wild_relax.specs.declared.row.Row.{Row}
 use Rattle.wild_relax.specs.declared.row.Made.{Made}
-use Rattle.wild_relax.specs.declared.row.Made.TheVariants.{Kept, Lea, Load, Immediate, MovImmediate, DirectCall, DirectJump, Nop, LocalExec, LocalExecLarge, InitialExec, ThreadPointer}
+use Rattle.wild_relax.specs.declared.row.Made.TheVariants.{Kept, Lea, Load, Immediate, MovImmediate, DirectCall, DirectJump, Nop, LocalExec, LocalExecLarge, InitialExec, ThreadPointer, Code}
+use Rattle.wild_relax.specs.declared.row.Word.{Word}
+use Rattle.wild_relax.specs.declared.row.Word.TheVariants as words
+use Rattle.wild_relax.specs.declared.row.Distance.{Distance}
+use Rattle.wild_relax.specs.declared.row.Distance.TheVariants as distances
+use Rattle.wild_relax.specs.declared.row.Goal.{Goal}
+use Rattle.wild_relax.specs.declared.row.Goal.TheVariants as goals
 use Rattle.wild_relax.specs.declared.row.Partner.{Partner}
 use Rattle.wild_relax.specs.declared.row.Written.{Written}
 use Rattle.wild_relax.specs.declared.row.Written.TheVariants as written
@@ -69,6 +78,21 @@ local_exec_bytes = thread_pointer_bytes ++ (0x48 ∷ 0x8d ∷ 0x80 ∷ 0 ∷ 0 �
 abbrev pub initial_exec_bytes : List ℕ
 initial_exec_bytes = thread_pointer_bytes ++ (0x48 ∷ 0x03 ∷ 0x05 ∷ 0 ∷ 0 ∷ 0 ∷ 0 ∷ [])
 
+-- the register that a word of AArch64 sets (Arm Architecture Reference Manual, C4.1: Rd, Rt)
+abbrev pub register_set : ℕ → ℕ
+register_set w = w % 2 ^ 5
+
+-- `nop`; `movz` of a number that is shifted by 16, `movk`, `adrp`, `ldr` of 64 bits, `adr` (C6.2)
+abbrev pub word_made : Word → ℕ → ℕ
+word_made words.Nop w = 0xd503201f
+word_made words.MovzX0 w = 0xd2a00000
+word_made words.MovkX0 w = 0xf2800000
+word_made words.AdrpX0 w = 0x90000000
+word_made words.LdrX0 w = 0xf9400000
+word_made words.Movz w = 0xd2a00000 + register_set w
+word_made words.Movk w = 0xf2800000 + register_set w
+word_made words.Adr w = 0x10000000 + register_set w
+
 abbrev pub made_bytes : Made → List ℕ → List ℕ
 made_bytes Kept old = []
 made_bytes Lea old = 0x8d ∷ []
@@ -84,6 +108,7 @@ made_bytes InitialExec old = initial_exec_bytes
 made_bytes (ThreadPointer local.Regular) old = 0x66 ∷ 0x66 ∷ 0x66 ∷ thread_pointer_bytes
 made_bytes (ThreadPointer local.Large) old = thread_pointer_bytes ++ replicate 13 0x90
 made_bytes (ThreadPointer local.NoPlt) old = thread_pointer_bytes ++ replicate 4 0x90
+made_bytes (Code w) old = word 4 (word_made w (number old))
 
 -- ---- their place
 
@@ -106,6 +131,7 @@ change_of InitialExec = change 4 16 12 true
 change_of (ThreadPointer local.Regular) = change 3 12 3 true
 change_of (ThreadPointer local.Large) = change 3 22 3 true
 change_of (ThreadPointer local.NoPlt) = change 3 13 3 true
+change_of (Code w) = change 0 4 0 true
 
 -- an immediate counts from nothing, a distance from the end of its field
 abbrev pub addend_by : Bool → ℤ → ℤ
@@ -113,6 +139,14 @@ addend_by true a = a
 addend_by false a = pos 0
 
 -- ---- rewrites
+
+-- the relocation types of distances of code (aaelf64, "Relocation types")
+abbrev pub distance_type : Distance → ℕ
+distance_type distances.Jump26 = abi.r_aarch64_jump26
+distance_type distances.Call26 = abi.r_aarch64_call26
+distance_type distances.CondBr19 = abi.r_aarch64_condbr19
+distance_type distances.TstBr14 = abi.r_aarch64_tstbr14
+distance_type distances.Plt32 = abi.r_aarch64_plt32
 
 abbrev pub number_written : Written → ℕ
 number_written written.Nothing = abi.r_x86_64_none
@@ -123,15 +157,48 @@ number_written written.Signed32 = abi.r_x86_64_32s
 number_written written.GotTpOff = abi.r_x86_64_gottpoff
 number_written written.TpOff32 = abi.r_x86_64_tpoff32
 number_written written.GotOff64 = abi.r_x86_64_gotoff64
+number_written (written.Code d goal) = distance_type d
+number_written written.TlsLeMovwTprelG1 = abi.r_aarch64_tlsle_movw_tprel_g1
+number_written written.TlsLeMovwTprelG0Nc = abi.r_aarch64_tlsle_movw_tprel_g0_nc
+number_written written.TlsIeAdrGotTprelPage21 = abi.r_aarch64_tlsie_adr_gottprel_page21
+number_written written.TlsIeLd64GotTprelLo12Nc = abi.r_aarch64_tlsie_ld64_gottprel_lo12_nc
+number_written written.AdrPrelLo21 = abi.r_aarch64_adr_prel_lo21
 
 -- a row of a relocation table; without one nothing is written
 abbrev pub or_nothing : Option RelocationKindInfo → RelocationKindInfo
 or_nothing None = plain kinds.None Zero Signed
 or_nothing (Some info) = info
 
--- the row of that relocation type
+-- S + A - P, or L + A - P
+abbrev pub kind_to : Goal → RelocationKind
+kind_to goals.Symbol = kinds.Relative
+kind_to goals.Stub = kinds.PltRelative
+
+-- the same field, of that value
+abbrev pub of_kind : RelocationKind → RelocationKindInfo → RelocationKindInfo
+of_kind kind i = record { kind = kind; size = i.size; mask = i.mask; range = i.range; alignment = i.alignment; bias = i.bias; thunkable = i.thunkable }
+
+-- the relocation type is AArch64's
+abbrev pub is_aarch64 : Written → Bool
+is_aarch64 (written.Code d goal) = true
+is_aarch64 written.TlsLeMovwTprelG1 = true
+is_aarch64 written.TlsLeMovwTprelG0Nc = true
+is_aarch64 written.TlsIeAdrGotTprelPage21 = true
+is_aarch64 written.TlsIeLd64GotTprelLo12Nc = true
+is_aarch64 written.AdrPrelLo21 = true
+is_aarch64 other = false
+
+-- the row of the relocation type, by the machine's table
+abbrev pub type_row : Written → Option RelocationKindInfo
+type_row w = if is_aarch64 w then aarch64_row (number_written w) else x86_64_row (number_written w)
+
+-- a distance of code is that of what it goes to
+abbrev pub going : Written → RelocationKindInfo → RelocationKindInfo
+going (written.Code d goal) i = of_kind (kind_to goal) i
+going w i = i
+
 abbrev pub info_by : Written → RelocationKindInfo
-info_by w = or_nothing (x86_64_row (number_written w))
+info_by w = going w (or_nothing (type_row w))
 
 -- how the field is written: its value, its size and its range
 abbrev pub info_written : Row → RelocationKindInfo

@@ -2,9 +2,9 @@
 --   takes_value test q     the value passes
 --   takes_symbol test q    the symbol does
 --   is_mandatory duty q    the row is taken also where rewriting is off
-use Rattle.std.specs.Prelude.{ℕ, Bool, true, false, not, ◌&&◌, ◌||◌, Option, Some, None}
+use Rattle.std.specs.Prelude.{ℕ, ◌+◌, ◌-◌, ◌%◌, ◌^◌, ◌==◌, Bool, true, false, not, ◌&&◌, ◌||◌, Option, Some, None}
 use Rattle.wild_types.specs.Kinds.{has_fixed_load_address, is_static_executable, is_position_independent}
-use Rattle.wild_types.specs.Flags.{has_flag, has_link_time_address, absolute, ifunc}
+use Rattle.wild_types.specs.Flags.{has_flag, has_link_time_address, absolute, ifunc, undefined_weak}
 use Rattle.wild_reloc.specs.Range.{of_bits, contains}
 use Rattle.wild_reloc.specs.declared.range.Sign.{Sign}
 use Rattle.wild_reloc.specs.declared.range.Sign.TheVariants.{Unsigned, Signed}
@@ -14,7 +14,7 @@ use Rattle.wild_relax.specs.declared.row.ValueTest.{ValueTest}
 use Rattle.wild_relax.specs.declared.row.ValueTest.TheVariants as value
 use Rattle.wild_relax.specs.declared.row.Duty.{Duty}
 use Rattle.wild_relax.specs.declared.row.Duty.TheVariants as duty
-use Rattle.wild_relax.specs.Question.{Question, is_known, is_own}
+use Rattle.wild_relax.specs.Question.{Question, relocation_of, is_known, is_own}
 
 -- a field of 32 bits holds the value
 abbrev pub is_in_32 : Sign → Option ℕ → Bool
@@ -25,6 +25,15 @@ is_in_32 sign (Some v) = contains (of_bits 32 sign) v
 abbrev pub is_held : Sign → Question → Bool
 is_held sign q = is_known q && is_in_32 sign q.value
 
+-- from a place to the value it is less than 2^20, or 2^20 backwards (Arm Architecture Reference Manual, C6.2, "ADR"); 0 is no address
+abbrev pub is_in_reach : ℕ → Option ℕ → Bool
+is_in_reach place None = false
+is_in_reach place (Some v) = not (v == 0) && contains (of_bits 21 Signed) ((v + (2 ^ 64 - place)) % 2 ^ 64)
+
+-- from so far behind the relocation
+abbrev pub is_near : ℕ → Question → Bool
+is_near behind q = is_in_reach ((q.address + (relocation_of q).offset + behind) % 2 ^ 64) q.value
+
 -- the row takes the symbol's value in that output
 abbrev pub takes_value : ValueTest → Question → Bool
 takes_value value.Any q = true
@@ -33,12 +42,14 @@ takes_value value.OwnSigned q = is_own q && is_held Signed q
 takes_value value.OwnUnsigned q = is_own q && is_held Unsigned q
 takes_value value.OwnMoving q = is_own q && not (is_known q)
 takes_value value.OwnFixed q = is_own q && (has_link_time_address q.flags || has_fixed_load_address q.kind)
+takes_value (value.OwnNear behind) q = is_own q && has_link_time_address q.flags && not (has_flag q.flags undefined_weak) && is_near behind q
 takes_value value.Interposable q = not (is_own q)
 
 -- an IFUNC has its value from a call, so rows of other symbols do not write it
 abbrev pub takes_symbol : SymbolTest → Question → Bool
 takes_symbol symbol.Ifunc q = has_flag q.flags ifunc
 takes_symbol symbol.Plain q = not (has_flag q.flags ifunc)
+takes_symbol symbol.UndefinedWeak q = not (has_flag q.flags ifunc) && has_flag q.flags undefined_weak
 takes_symbol symbol.Any q = true
 
 -- taken also where rewriting is off: no loader fills the slot, or there is no slot

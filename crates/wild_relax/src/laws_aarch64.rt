@@ -1,5 +1,6 @@
 //! Laws of what is written for AArch64.
 ghost use Rattle.wild_relax.specs.FieldsAArch64.{FieldsAgree, PartsAreFields, TypesHaveForms};
+ghost use Rattle.wild_relax.specs.KeepAArch64.{RowsOfAArch64Keep};
 ghost use Rattle.wild_relax.specs.LawsAArch64.{StubsOfAArch64Jump, ThunksReach};
 
 /// A stub jumps to the address in its slot, with a landing pad in front too; a thunk jumps to its target: at every base that is a
@@ -15,4 +16,9 @@ pub fn aarch64_fields_agree()
     ensures fields { FieldsAgree }
     ensures types { TypesHaveForms }
     ensures parts { PartsAreFields }
+{}
+
+/// What the rows write in place of a sequence's words does what these demand, for every register that stands and at every base.
+pub fn aarch64_rewrites_keep_the_effect()
+    ensures { RowsOfAArch64Keep }
 {}

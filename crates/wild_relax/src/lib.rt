@@ -10,7 +10,10 @@ mod reference;
 mod relaxation;
 mod rewrite;
 mod row;
+mod rows_aarch64;
+mod sequence;
 pub mod table;
+pub mod table_aarch64;
 mod template;
 mod x86_64;
 
@@ -19,10 +22,13 @@ pub use laws::{
     rewrites_keep_the_effect, rewrites_stay_in_their_patterns, rewrites_write_relocation_types,
     stubs_jump_to_their_slots,
 };
-pub use laws_aarch64::{aarch64_code_reaches, aarch64_fields_agree};
-pub use pattern::{Cell, GeneralForm, LocalForm, Operation, Pattern, Prefix};
+pub use laws_aarch64::{
+    aarch64_code_reaches, aarch64_fields_agree, aarch64_rewrites_keep_the_effect,
+};
+pub use pattern::{Cell, GeneralForm, LocalForm, Operation, Pattern, Prefix, Sequence};
 pub use reference::{Reference, RelocationInfo, UnknownSequence};
 pub use relaxation::{Relaxation, RelaxationKind, RelocationModifier};
 pub use rewrite::Change;
-pub use row::{Duty, Made, Partner, Row, SymbolTest, ValueTest, Written};
+pub use row::{Distance, Duty, Goal, Made, Partner, Row, SymbolTest, ValueTest, Word, Written};
+pub use rows_aarch64::choose_aarch64;
 pub use x86_64::{ElfX86_64, ElfX86_64Relaxation};

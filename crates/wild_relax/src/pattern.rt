@@ -1,5 +1,5 @@
-//! The bytes that the rows of x86-64 look for in the input (Intel SDM; x86-64 psABI, "Linker Optimization"; "ELF Handling For
-//! Thread-Local Storage", "Linker Relaxations").
+//! The bytes that rows look for in the input: those of x86-64 (Intel SDM; x86-64 psABI, "Linker Optimization"; "ELF Handling For
+//! Thread-Local Storage", "Linker Relaxations"), and the place of AArch64's words.
 ghost use Rattle.std.specs.Prelude.{◌≡◌, ◌≤◌, length};
 ghost use Rattle.wild_relax.specs.Pattern.{fits, stands, cells_of, field_of, stands_before};
 
@@ -43,6 +43,17 @@ pub enum LocalForm {
     NoPlt,
 }
 
+/// Words of AArch64 that stand in a row, each with a relocation.
+#[derive(Clone, Copy)]
+pub enum Sequence {
+    /// The call of a descriptor's function: `adrp x0`, `ldr xN, [x0]`, `add x0, x0`, `blr xN`.
+    DescriptorCall,
+    /// The offset in a slot: `adrp xN`, `ldr xN, [xN]`.
+    OffsetSlot,
+    /// An address: `adrp xN`, `add xN, xN`.
+    Address,
+}
+
 /// Bytes of the input, with a relocation's field among them.
 #[derive(Clone, Copy)]
 pub enum Pattern {
@@ -66,6 +77,8 @@ pub enum Pattern {
     Lea(Prefix),
     /// `call` through a descriptor.
     DescriptorCall,
+    /// The word of a sequence that has so many before it.
+    Among(Sequence, u64),
 }
 
 /// What one byte may be: a fixed one; a REX prefix, or the payload of a REX2 prefix, for 64 bits without an index or a base; a
@@ -82,6 +95,8 @@ pub enum Cell {
 use Cell::{Any, Is, Rex2Wide, RexWide, Slot};
 
 const NO_CELLS: [Cell; 0] = [];
+
+const WORD: [Cell; 4] = [Any, Any, Any, Any];
 
 const REX_MOV: [Cell; 7] = [RexWide, Is(0x8b), Slot, Any, Any, Any, Any];
 
@@ -275,6 +290,7 @@ pub(crate) fn cells(pattern: Pattern) -> &'static [Cell]
         Pattern::Lea(Prefix::Rex) => &REX_LEA,
         Pattern::Lea(Prefix::Rex2) => &REX2_LEA,
         Pattern::DescriptorCall => &DESCRIPTOR_CALL,
+        Pattern::Among(_, _) => &WORD,
     }
 }
 
@@ -284,7 +300,7 @@ pub(crate) fn field(pattern: Pattern) -> u64
     ensures low { result ≤ 4 }
 {
     match pattern {
-        Pattern::Nothing | Pattern::DescriptorCall => 0,
+        Pattern::Nothing | Pattern::DescriptorCall | Pattern::Among(_, _) => 0,
         Pattern::Mov | Pattern::Call | Pattern::Jump => 2,
         Pattern::General(GeneralForm::Large)
         | Pattern::LocalStart(_)

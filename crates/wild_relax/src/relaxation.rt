@@ -43,6 +43,22 @@ pub enum RelaxationKind {
     TlsDescToInitialExec,
     /// The call through a descriptor to nothing.
     SkipTlsDescCall,
+    /// A word to `nop`.
+    ReplaceWithNop,
+    /// The third word of a descriptor's call to `movz` of an offset's upper half.
+    MovzX0Lsl16,
+    /// The fourth to `movk` of its lower half.
+    MovkX0,
+    /// The third to `adrp` of the slot of the offset.
+    AdrpX0,
+    /// The fourth to `ldr` of it.
+    LdrX0,
+    /// `adrp` of the slot of an offset to `movz` of its upper half.
+    MovzXnLsl16,
+    /// `ldr` of it to `movk` of its lower half.
+    MovkXn,
+    /// `adrp` and `add` of an address to `nop` and `adr`.
+    AdrpAddToNopAdr,
 }
 
 /// What is done with the relocation behind a rewritten one.

@@ -1,17 +1,20 @@
-//! What the rows of x86-64 write.
+//! What rows write.
 ghost use Rattle.std.specs.Prelude.{◌≡◌, ◌+◌, ◌≤◌, length, slice_range};
 ghost use Rattle.wild_words.specs.Words.{place};
-ghost use Rattle.wild_relax.specs.RewriteX86_64.{immediate_prefix, immediate_opcode, immediate_digit, immediate_modrm, immediate_bytes, mov_immediate_bytes, change_of, made_bytes, number_written, rewrite_of, info_written, is_number};
+ghost use Rattle.wild_relax.specs.RewriteX86_64.{immediate_prefix, immediate_opcode, immediate_digit, immediate_modrm, immediate_bytes, mov_immediate_bytes, word_made, change_of, made_bytes, distance_type, number_written, kind_to, is_aarch64, type_row, going, rewrite_of, info_written, is_number};
 
 use crate::pattern::{LocalForm, Operation, Prefix};
 use crate::relaxation::RelocationModifier;
-use crate::row::{Made, Row, Written};
+use crate::row::{Distance, Goal, Made, Row, Word, Written};
 use wild_records::abi::relocation::{
+    R_AARCH64_ADR_PREL_LO21, R_AARCH64_CALL26, R_AARCH64_CONDBR19, R_AARCH64_JUMP26,
+    R_AARCH64_PLT32, R_AARCH64_TLSIE_ADR_GOTTPREL_PAGE21, R_AARCH64_TLSIE_LD64_GOTTPREL_LO12_NC,
+    R_AARCH64_TLSLE_MOVW_TPREL_G0_NC, R_AARCH64_TLSLE_MOVW_TPREL_G1, R_AARCH64_TSTBR14,
     R_X86_64_32, R_X86_64_32S, R_X86_64_GOTOFF64, R_X86_64_GOTTPOFF, R_X86_64_NONE, R_X86_64_PC32,
     R_X86_64_PLT32, R_X86_64_TPOFF32,
 };
-use wild_reloc::{RelocationKindInfo, x86_64};
-use wild_words::put;
+use wild_reloc::{RelocationKind, RelocationKindInfo, aarch64, x86_64};
+use wild_words::{put, put_u32, read_u32};
 
 const DIRECT_CALL: [u8; 2] = [0x67, 0xe8];
 
@@ -149,6 +152,14 @@ const AT_OWN_PAIR_BY_SLOT: Change = Change {
     ..AT_OWN_PAIR
 };
 
+// The field is in the word.
+const WHOLE_WORD: Change = Change {
+    back: 0,
+    size: 4,
+    field: 0,
+    keeps_addend: true,
+};
+
 /// Which bytes it replaces.
 pub(crate) fn change_of(made: Made) -> Change
     ensures change { result ≡ change_of made }
@@ -168,6 +179,88 @@ pub(crate) fn change_of(made: Made) -> Change
         Made::ThreadPointer(LocalForm::Regular) => AT_OWN_PAIR,
         Made::ThreadPointer(LocalForm::Large) => AT_LONG_OWN_PAIR,
         Made::ThreadPointer(LocalForm::NoPlt) => AT_OWN_PAIR_BY_SLOT,
+        Made::Code(_) => WHOLE_WORD,
+    }
+}
+
+// A distance of code.
+fn distance_type(distance: Distance) -> u32
+    ensures { result ≡ distance_type distance }
+{
+    match distance {
+        Distance::Jump26 => R_AARCH64_JUMP26,
+        Distance::Call26 => R_AARCH64_CALL26,
+        Distance::CondBr19 => R_AARCH64_CONDBR19,
+        Distance::TstBr14 => R_AARCH64_TSTBR14,
+        Distance::Plt32 => R_AARCH64_PLT32,
+    }
+}
+
+fn number_written(written: Written) -> u32
+    ensures { result ≡ number_written written }
+{
+    match written {
+        Written::Nothing => R_X86_64_NONE,
+        Written::Pc32 => R_X86_64_PC32,
+        Written::Plt32 => R_X86_64_PLT32,
+        Written::Unsigned32 => R_X86_64_32,
+        Written::Signed32 => R_X86_64_32S,
+        Written::GotTpOff => R_X86_64_GOTTPOFF,
+        Written::TpOff32 => R_X86_64_TPOFF32,
+        Written::GotOff64 => R_X86_64_GOTOFF64,
+        Written::Code(distance, _) => distance_type(distance),
+        Written::TlsLeMovwTprelG1 => R_AARCH64_TLSLE_MOVW_TPREL_G1,
+        Written::TlsLeMovwTprelG0Nc => R_AARCH64_TLSLE_MOVW_TPREL_G0_NC,
+        Written::TlsIeAdrGotTprelPage21 => R_AARCH64_TLSIE_ADR_GOTTPREL_PAGE21,
+        Written::TlsIeLd64GotTprelLo12Nc => R_AARCH64_TLSIE_LD64_GOTTPREL_LO12_NC,
+        Written::AdrPrelLo21 => R_AARCH64_ADR_PREL_LO21,
+    }
+}
+
+fn kind_to(goal: Goal) -> RelocationKind
+    ensures { result ≡ kind_to goal }
+{
+    match goal {
+        Goal::Symbol => RelocationKind::Relative,
+        Goal::Stub => RelocationKind::PltRelative,
+    }
+}
+
+// Whether the relocation type is AArch64's.
+fn is_aarch64(written: Written) -> bool
+    ensures { result ≡ is_aarch64 written }
+{
+    matches!(
+        written,
+        Written::Code(_, _)
+            | Written::TlsLeMovwTprelG1
+            | Written::TlsLeMovwTprelG0Nc
+            | Written::TlsIeAdrGotTprelPage21
+            | Written::TlsIeLd64GotTprelLo12Nc
+            | Written::AdrPrelLo21
+    )
+}
+
+// The row of the relocation type, by the machine's table.
+fn type_row(written: Written) -> Option<RelocationKindInfo>
+    ensures { result ≡ type_row written }
+{
+    if is_aarch64(written) {
+        aarch64::relocation_type_from_raw(number_written(written))
+    } else {
+        x86_64::relocation_from_raw(number_written(written))
+    }
+}
+
+fn going(written: Written, info: RelocationKindInfo) -> RelocationKindInfo
+    ensures { result ≡ going written info }
+{
+    match written {
+        Written::Code(_, goal) => RelocationKindInfo {
+            kind: kind_to(goal),
+            ..info
+        },
+        _ => info,
     }
 }
 
@@ -190,23 +283,14 @@ impl Row {
     pub fn number_written(self) -> u32
         ensures { result ≡ (rewrite_of self).number }
     {
-        match self.written {
-            Written::Nothing => R_X86_64_NONE,
-            Written::Pc32 => R_X86_64_PC32,
-            Written::Plt32 => R_X86_64_PLT32,
-            Written::Unsigned32 => R_X86_64_32,
-            Written::Signed32 => R_X86_64_32S,
-            Written::GotTpOff => R_X86_64_GOTTPOFF,
-            Written::TpOff32 => R_X86_64_TPOFF32,
-            Written::GotOff64 => R_X86_64_GOTOFF64,
-        }
+        number_written(self.written)
     }
 
     /// How the field is written: its value, its size and its range.
     pub fn row_written(self) -> RelocationKindInfo
         ensures { result ≡ info_written self }
     {
-        x86_64::relocation_from_raw(self.number_written()).unwrap()
+        going(self.written, type_row(self.written).unwrap())
     }
 
     /// The addend with which the field is written.
@@ -305,6 +389,23 @@ fn write_mov_immediate(bytes: &mut [u8], start: usize)
     put(bytes, start, &part);
 }
 
+// The word, all but its field.
+fn word_made(made: Word, old: u32) -> u32
+    ensures { result ≡ word_made made old }
+{
+    let register = old % 0x20;
+    match made {
+        Word::Nop => 0xd503_201f,
+        Word::MovzX0 => 0xd2a0_0000,
+        Word::MovkX0 => 0xf280_0000,
+        Word::AdrpX0 => 0x9000_0000,
+        Word::LdrX0 => 0xf940_0000,
+        Word::Movz => 0xd2a0_0000 + register,
+        Word::Movk => 0xf280_0000 + register,
+        Word::Adr => 0x1000_0000 + register,
+    }
+}
+
 /// Writes what is made, which begins at `start`.
 pub(crate) fn write(made: Made, bytes: &mut [u8], start: usize)
     requires { start + (change_of made).size ≤ length bytes.old }
@@ -325,5 +426,6 @@ pub(crate) fn write(made: Made, bytes: &mut [u8], start: usize)
         Made::ThreadPointer(LocalForm::Regular) => put(bytes, start, &THREAD_POINTER),
         Made::ThreadPointer(LocalForm::Large) => put(bytes, start, &THREAD_POINTER_LARGE),
         Made::ThreadPointer(LocalForm::NoPlt) => put(bytes, start, &THREAD_POINTER_NO_PLT),
+        Made::Code(word) => put_u32(bytes, start, word_made(word, read_u32(bytes, start))),
     }
 }

@@ -3,7 +3,7 @@
 ghost use Rattle.std.specs.Prelude.{◌≡◌, ◌+◌};
 ghost use Rattle.wild_relax.specs.Question.{question, relocation_of};
 ghost use Rattle.wild_relax.specs.First.{first_standing};
-ghost use Rattle.wild_relax.specs.RowSymbols.{is_held, takes_value, takes_symbol, is_mandatory};
+ghost use Rattle.wild_relax.specs.RowSymbols.{is_held, is_near, takes_value, takes_symbol, is_mandatory};
 ghost use Rattle.wild_relax.specs.RowSequences.{is_call_number, is_call_addend, is_partner, has_partner, has_its_sequence};
 ghost use Rattle.wild_relax.specs.Rows.{applies, standing_x86_64, chosen_x86_64};
 
@@ -25,6 +25,8 @@ pub enum SymbolTest {
     Ifunc,
     /// Any other.
     Plain,
+    /// Of those one that is weak, and that nothing defines.
+    UndefinedWeak,
     /// All.
     Any,
 }
@@ -44,6 +46,8 @@ pub enum ValueTest {
     OwnMoving,
     /// An own one of an output at its own addresses, or an address of the output.
     OwnFixed,
+    /// An own address of the output, which `adr` so far behind the relocation reaches (C6.2: 21 bits, signed).
+    OwnNear(u64),
     /// One that another module may define.
     Interposable,
 }
@@ -68,6 +72,27 @@ pub struct Partner {
     pub distance: u64,
     /// How it calls.
     pub form: GeneralForm,
+}
+
+/// What a word of AArch64 becomes, all but its field.
+#[derive(Clone, Copy)]
+pub enum Word {
+    /// `nop`.
+    Nop,
+    /// `movz x0, #0, lsl #16`.
+    MovzX0,
+    /// `movk x0, #0`.
+    MovkX0,
+    /// `adrp x0`.
+    AdrpX0,
+    /// `ldr x0, [x0]`.
+    LdrX0,
+    /// `movz`, shifted by 16, of the register that the word sets.
+    Movz,
+    /// `movk` of it.
+    Movk,
+    /// `adr` of it.
+    Adr,
 }
 
 /// What is written in place of the input's bytes.
@@ -97,6 +122,27 @@ pub enum Made {
     InitialExec,
     /// The thread pointer in place of that sequence.
     ThreadPointer(LocalForm),
+    /// A word of AArch64.
+    Code(Word),
+}
+
+/// A relocation type of AArch64 that is a distance of code.
+#[derive(Clone, Copy)]
+pub enum Distance {
+    Jump26,
+    Call26,
+    CondBr19,
+    TstBr14,
+    Plt32,
+}
+
+/// What the distance of code goes to.
+#[derive(Clone, Copy)]
+pub enum Goal {
+    /// The symbol itself.
+    Symbol,
+    /// Its stub.
+    Stub,
 }
 
 /// The relocation type by which the field is written.
@@ -110,6 +156,13 @@ pub enum Written {
     GotTpOff,
     TpOff32,
     GotOff64,
+    /// That of the input, but for where it goes.
+    Code(Distance, Goal),
+    TlsLeMovwTprelG1,
+    TlsLeMovwTprelG0Nc,
+    TlsIeAdrGotTprelPage21,
+    TlsIeLd64GotTprelLo12Nc,
+    AdrPrelLo21,
 }
 
 /// A row, with one alternative of its bytes.
@@ -154,6 +207,18 @@ fn is_held(sign: Sign, reference: &Reference) -> bool
     }
 }
 
+// Whether the value is not 0, and `adr` so far behind the relocation reaches it.
+fn is_near(behind: u64, reference: &Reference) -> bool
+    ensures { result ≡ is_near behind (question reference.now) }
+{
+    let Some(value) = reference.value else {
+        return false;
+    };
+    let offset = reference.relocation().offset;
+    let place = reference.address.wrapping_add(offset).wrapping_add(behind);
+    value != 0 && AllowedRange::from_bit_size(21, Sign::Signed).contains(value.wrapping_sub(place))
+}
+
 // Whether the symbol's value passes in that output.
 fn takes_value(test: ValueTest, reference: &Reference) -> bool
     ensures { result ≡ takes_value test (question reference.now) }
@@ -169,6 +234,12 @@ fn takes_value(test: ValueTest, reference: &Reference) -> bool
                 && (reference.flags.has_link_time_address()
                     || reference.kind.has_fixed_load_address())
         }
+        ValueTest::OwnNear(behind) => {
+            reference.is_own()
+                && reference.flags.has_link_time_address()
+                && !reference.flags.is_undefined_weak()
+                && is_near(behind, reference)
+        }
         ValueTest::Interposable => !reference.is_own(),
     }
 }
@@ -180,6 +251,9 @@ fn takes_symbol(test: SymbolTest, reference: &Reference) -> bool
     match test {
         SymbolTest::Ifunc => reference.flags.is_ifunc(),
         SymbolTest::Plain => !reference.flags.is_ifunc(),
+        SymbolTest::UndefinedWeak => {
+            !reference.flags.is_ifunc() && reference.flags.is_undefined_weak()
+        }
         SymbolTest::Any => true,
     }
 }
@@ -198,9 +272,9 @@ pub(crate) fn is_mandatory(duty: Duty, reference: &Reference) -> bool
     }
 }
 
-// Whether the row stands at the relocation.
+/// Whether the row stands at the relocation.
 #[tactic(auto, unfolding(crate::specs::Rows::applies))]
-fn is_applied(row: &Row, reference: &Reference) -> bool
+pub(crate) fn is_applied(row: &Row, reference: &Reference) -> bool
     ensures { result ≡ applies (question reference.now) row.now }
 {
     let relocation = reference.relocation();
@@ -265,9 +339,9 @@ fn has_partner(row: &Row, reference: &Reference) -> bool
     }
 }
 
-// Whether the row, where it stands, has all that it needs.
+/// Whether the row, where it stands, has all that it needs.
 #[tactic(auto, unfolding(crate::specs::RowSequences::has_its_sequence))]
-fn has_its_sequence(row: &Row, reference: &Reference) -> bool
+pub(crate) fn has_its_sequence(row: &Row, reference: &Reference) -> bool
     ensures { result ≡ has_its_sequence (question reference.now) row.now }
 {
     let relocation = reference.relocation();

@@ -1,0 +1,45 @@
+-- The rows of rewrites of AArch64, and which stands at a relocation.
+--   rows_aarch64              the rows in order, as the table has them
+--   rows_with_aarch64 n       those of one relocation type
+--   applies_aarch64 q row     the row stands
+--   standing_aarch64 q        the first row that stands
+--   chosen_aarch64 q          that row, or why it is refused
+use Rattle.std.specs.Prelude.{ℕ, ◌==◌, Bool, ◌&&◌, List, ◌++◌, Option, Result}
+use Rattle.std.specs.List.{filter}
+use Rattle.wild_relax.specs.declared.reference.UnknownSequence.{UnknownSequence}
+use Rattle.wild_relax.specs.declared.row.Row.{Row}
+use Rattle.wild_relax.specs.declared.table_aarch64.TheConstants.{WITH_PLT32, WITH_TSTBR14, WITH_CONDBR19, WITH_JUMP26, WITH_CALL26, WITH_TLSDESC_ADR_PAGE21, WITH_TLSDESC_LD64_LO12, WITH_TLSDESC_ADD_LO12, WITH_TLSDESC_CALL, WITH_TLSIE_ADR_GOTTPREL_PAGE21, WITH_TLSIE_LD64_GOTTPREL_LO12_NC, WITH_ADR_PREL_PG_HI21, WITH_ADD_ABS_LO12_NC}
+use Rattle.wild_relax.specs.Question.{Question}
+use Rattle.wild_relax.specs.First.{first_standing, checked}
+use Rattle.wild_relax.specs.RowSequences.{has_its_sequence}
+use Rattle.wild_relax.specs.Rows.{applies, unknown_sequence}
+use Rattle.wild_relax.specs.SequenceAArch64.{has_around}
+
+-- the rows in order, those of one relocation type side by side (aaelf64, "Relocation types", "Thread Local Storage", "Call and Jump
+-- relocations")
+unfoldable pub rows_aarch64 : List Row
+rows_aarch64 =
+    WITH_PLT32 ++ (WITH_TSTBR14 ++ (WITH_CONDBR19 ++ (WITH_JUMP26 ++ (WITH_CALL26 ++ (WITH_TLSDESC_ADR_PAGE21 ++ (WITH_TLSDESC_LD64_LO12 ++ (WITH_TLSDESC_ADD_LO12
+    ++ (WITH_TLSDESC_CALL ++ (WITH_TLSIE_ADR_GOTTPREL_PAGE21 ++ (WITH_TLSIE_LD64_GOTTPREL_LO12_NC ++ (WITH_ADR_PREL_PG_HI21 ++ WITH_ADD_ABS_LO12_NC)))))))))))
+
+-- those that stand at a relocation type, in order
+unfoldable pub rows_with_aarch64 : ℕ → List Row
+rows_with_aarch64 number = filter (λ (row : Row). number == row.number) rows_aarch64
+
+-- what every row asks, and the words and relocations around it
+abbrev pub applies_aarch64 : Question → Row → Bool
+applies_aarch64 q row = applies q row && has_around q row.always
+
+-- the same of what it needs where it stands
+abbrev pub has_its_words : Question → Row → Bool
+has_its_words q row = has_its_sequence q row && has_around q row.needed
+
+-- ---- the choice
+
+-- the first row that stands
+unfoldable pub standing_aarch64 : Question → Option Row
+standing_aarch64 q = first_standing (applies_aarch64 q) rows_aarch64
+
+-- the first row that stands; refused without its sequence
+unfoldable pub chosen_aarch64 : Question → Result (Option Row) UnknownSequence
+chosen_aarch64 q = checked (has_its_words q) (unknown_sequence q) (standing_aarch64 q)
