@@ -31,6 +31,7 @@ impl Arch for ElfX86_64 {
 
     ghost same_rows = { λ q. rows_with_duty q (chosen_x86_64 q) };
 
+    #[inline]
     fn arch_identifier() -> Machine {
         Machine::X86_64
     }
