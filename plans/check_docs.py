@@ -36,7 +36,7 @@ STANDS = {
     "Input section": f"{FILE}/sections/0", "Relocation": f"{FILE}/sections/0/relocations/0", "Member of `tls`": "/tls",
     "Member of a dynamic symbol": "/dynsyms/0", "Member of `sysv_hash`": "/sysv_hash", "Member of `gnu_hash`": "/gnu_hash",
     "Member of a version definition": "/verdefs/0", "Member of a `resolution`": "/symbols/0/resolution", "Member of a group": "/groups/0",
-    "Member of a file": FILE, "Member of `verneed`": f"{FILE}/verneed",
+    "Member of a file": FILE, "Member of `verneed`": f"{FILE}/verneed", "Member of a thunk": "/thunk_blocks/0/0",
 }
 CHANGE = re.compile(r"((?:`[/A-Z][^`]*`(?: and )?)+) to (?:`([^`]*)`|(null|-?\d+))(, added)?")
 differences = 0
@@ -319,7 +319,7 @@ def fill(value, key, table):
 def not_known():
     """What docs/PLAN.md calls not known yet is refused at its path."""
     text = read("docs/PLAN.md").partition("## Not known yet")[2]
-    for name, path in {"plan": "", "options": "/options", "section": "/sections/0", "group": "/groups/0", "file": FILE, "input section": f"{FILE}/sections/0", "relocation": f"{FILE}/sections/0/relocations/0"}.items():
+    for name, path in {"plan": "", "options": "/options", "section": "/sections/0", "group": "/groups/0", "input section": f"{FILE}/sections/0", "relocation": f"{FILE}/sections/0/relocations/0"}.items():
         line = re.search(rf"^- {name}: ([^;\n]*)", text, re.M)[1]
         for member in re.findall(r"`(\w+)`", line):
             same(f"docs/PLAN.md: {member}", (3, f"not a plan: {path}/{member}\n"), answer(wrapped(path, {member: 0})))

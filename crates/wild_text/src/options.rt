@@ -18,6 +18,7 @@ fn output_options(alloc: Global, json: &Value) -> std::result::Result<Options, P
     let relax = member(alloc, json, "relax", false)?;
     let relr = member(alloc, json, "relr", false)?;
     let strip_all = member(alloc, json, "strip_all", false)?;
+    let bti = member(alloc, json, "bti", false)?;
     let versions = member(alloc, json, "versions", false)?;
     let got_plt_syms = member(alloc, json, "got_plt_syms", false)?;
     let execstack = member(alloc, json, "execstack", false)?;
@@ -25,6 +26,7 @@ fn output_options(alloc: Global, json: &Value) -> std::result::Result<Options, P
         relax,
         relr,
         strip_all,
+        bti,
         versions,
         got_plt_syms,
         execstack,
@@ -81,6 +83,7 @@ impl Planned for Options {
                 "relax",
                 "relr",
                 "strip_all",
+                "bti",
                 "versions",
                 "got_plt_syms",
                 "execstack",

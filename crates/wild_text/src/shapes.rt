@@ -1,11 +1,11 @@
-//! The shapes of the hash tables.
-ghost use Rattle.wild_text.specs.Shapes.{sysv_hash_in, gnu_hash_in};
+//! The shapes of the hash tables, and thunks.
+ghost use Rattle.wild_text.specs.Shapes.{sysv_hash_in, gnu_hash_in, thunk_in};
 
 use crate::fault::PlanFault;
 use crate::members::{Planned, closed, member, members, object};
 use serde_json::Value;
 use std::alloc::Global;
-use wild_plan::{GnuHash, SysvHash};
+use wild_plan::{GnuHash, SymbolIndex, SysvHash, Thunk};
 
 impl Planned for SysvHash {
     ghost reads = { sysv_hash_in };
@@ -28,6 +28,18 @@ impl Planned for GnuHash {
             bloom_count: 0,
             bloom_shift: 0,
             base: 0,
+        } rest {})
+    }
+}
+
+impl Planned for Thunk {
+    ghost reads = { thunk_in };
+
+    #[tactic(auto, unfolding(crate::specs::Shapes::thunk_in))]
+    fn read(alloc: Global, json: &Value) -> std::result::Result<Thunk, PlanFault> {
+        members!(alloc, json; Thunk {
+            symbol: SymbolIndex(0),
+            address: 0,
         } rest {})
     }
 }
