@@ -11,13 +11,14 @@ use crate::plan::{push_plan, test_plan};
 use crate::symbols::{position_of, test_symbol};
 use crate::table_rows::TABLE_ROWS;
 use crate::tests::{FileTest, InputTest, SectionTest, Test};
+use crate::thunks::find_thunk;
 use crate::verdict::{Finding, Verdict, plain};
 use std::alloc::AllocError;
 use std::fmt::Write;
 use wild_types::Layout;
 
 /// Of each clause its number, its name, and what is likely wrong in a plan that fails it.
-const CLAUSES: [(u32, &str, &str); 18] = [
+const CLAUSES: [(u32, &str, &str); 19] = [
     (
         1,
         "sizes and alignments",
@@ -72,6 +73,11 @@ const CLAUSES: [(u32, &str, &str); 18] = [
         11,
         "where slots and stubs stand",
         "`got` behind a symbol whose flag was added or taken away; `got` counted in `got` where the slot stands in `got_relr`, or the other way round; `got` without the 16 bytes of `tlsld`; a symbol with a slot in no file's range",
+    ),
+    (
+        12,
+        "where thunks stand",
+        "`owns_thunk_block` left out of the file behind which a block stands, or given to two files; `address` of the thunks behind an input section that has grown; thunks in a plan for x86-64",
     ),
     (
         13,
@@ -221,6 +227,7 @@ fn find(layout: &Layout, index: usize, test: Test) -> Option<Finding> {
             let fails = test_version(layout, index, version, test);
             finding(Item::Version(index), plain(fails))
         }
+        Test::Thunk(test) => find_thunk(layout, index, test),
         Test::Auxiliary => {
             let name = layout.options.auxiliary.as_slice().get(index)?;
             finding(Item::Auxiliary(index), plain(name.as_slice().contains(&0)))

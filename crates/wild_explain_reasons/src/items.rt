@@ -25,6 +25,8 @@ pub enum Item {
     Listed(usize),
     Version(usize),
     Auxiliary(usize),
+    /// The place of its block, and its own in that.
+    Thunk(usize, usize),
     Group(usize),
     File(usize, usize),
     Input(SectionPlace),
@@ -41,6 +43,7 @@ pub fn push_item(out: &mut String, item: Item) -> Result<(), AllocError> {
         Item::Listed(i) => write!(out, "/dynsyms/{i}")?,
         Item::Version(i) => write!(out, "/verdefs/{i}")?,
         Item::Auxiliary(i) => write!(out, "/options/auxiliary/{i}")?,
+        Item::Thunk(i, j) => write!(out, "/thunk_blocks/{i}/{j}")?,
         Item::Group(i) => write!(out, "/groups/{i}")?,
         Item::File(i, j) => write!(out, "/groups/{i}/files/{j}")?,
         Item::Input(at) => {
@@ -161,6 +164,10 @@ fn push_file(
             out,
             "file {file} of {files} in group {group} of {groups}, symbols from {first} on, {count} of {symbols}, {copies} copies"
         )?;
+        if held.thunk_block != 0 {
+            let (block, blocks) = (held.thunk_block, layout.thunk_blocks.len());
+            write!(out, ", thunk_block {block} of {blocks}")?;
+        }
     }
     Ok(())
 }
@@ -205,6 +212,18 @@ fn push_entry(out: &mut String, layout: &Layout, item: Item) -> Result<(), Alloc
                 }
             }
         }
+        Item::Thunk(i, j) => {
+            if let Some(block) = layout.thunk_blocks.as_slice().get(i)
+                && let Some(found) = block.as_slice().get(j)
+            {
+                let (symbol, symbols) = (found.symbol.0, layout.symbols.len());
+                let (address, count) = (found.address, block.len());
+                write!(
+                    out,
+                    "thunk {j} of {count}, symbol {symbol} of {symbols} symbols, address {address}"
+                )?;
+            }
+        }
         Item::Auxiliary(i) => {
             if let Some(name) = layout.options.auxiliary.as_slice().get(i) {
                 push_name(out, name.as_slice())?;
@@ -223,7 +242,9 @@ pub(crate) fn push_found(out: &mut String, layout: &Layout, item: Item) -> Resul
         Item::Group(i) => push_group(out, layout, i),
         Item::File(i, j) => push_file(out, layout, i, j),
         Item::Input(at) => push_input(out, layout, at),
-        Item::Listed(_) | Item::Version(_) | Item::Auxiliary(_) => push_entry(out, layout, item),
+        Item::Listed(_) | Item::Version(_) | Item::Auxiliary(_) | Item::Thunk(_, _) => {
+            push_entry(out, layout, item)
+        }
         _ => push_header(out, layout, item),
     }
 }

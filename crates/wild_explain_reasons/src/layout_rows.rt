@@ -19,7 +19,7 @@ const MISSING: &str = "no part has a role that each output has";
 const HEADERS: &str = "the part does not stand where headers stand";
 
 /// The tests of clauses 1 to 8 and 10.
-pub(crate) const LAYOUT_ROWS: [Row; 50] = [
+pub(crate) const LAYOUT_ROWS: [Row; 51] = [
     (
         1,
         Test::Plan(PlanTest::PageSize),
@@ -271,6 +271,12 @@ pub(crate) const LAYOUT_ROWS: [Row; 50] = [
         Test::Input(InputTest::RawPart),
         "an input section's part is not a raw one",
         "/part",
+    ),
+    (
+        8,
+        Test::Plan(PlanTest::PrimaryRaw),
+        "the part of thunks is not a raw one",
+        "/primary_part",
     ),
     (
         8,

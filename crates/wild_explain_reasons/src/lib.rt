@@ -17,6 +17,7 @@ mod reason;
 mod symbols;
 mod table_rows;
 mod tests;
+mod thunks;
 mod verdict;
 
 pub use advice::push_advice;

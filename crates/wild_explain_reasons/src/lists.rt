@@ -116,6 +116,10 @@ pub(crate) fn test_file(
             plain(file.symbol_count != 0 && end > layout.symbols.len())
         }
         FileTest::Copies => plain(has_no_copy(layout, file)),
+        FileTest::Block => {
+            let blocks = layout.thunk_blocks.len();
+            plain(file.thunk_block != 0 && file.thunk_block >= blocks)
+        }
         FileTest::Twice => plain(is_copied_twice(layout, file)),
         FileTest::Order => {
             let (end, _) = around(layout, group, index);

@@ -4,11 +4,12 @@ use crate::headers::dynamic_before;
 use crate::names::{role_at, role_word};
 use crate::symbols::{behind_reserved, undefined_entries};
 use crate::tests::PlanTest;
+use crate::thunks::has_thunks;
 use crate::verdict::{Verdict, due, plain};
 use std::alloc::AllocError;
 use std::fmt::Write;
 use wild_needs::total_share;
-use wild_types::{Entry, GnuHash, Layout, Role, is_there};
+use wild_types::{Entry, GnuHash, Layout, Role, has_role, is_there};
 use wild_words::Bytes;
 
 /// Whether the role with a number has a part.
@@ -23,6 +24,14 @@ fn is_role_there(layout: &Layout, index: usize) -> bool {
 fn has_zero(name: &Option<Bytes>) -> bool {
     match name {
         Some(name) => name.as_slice().contains(&0),
+        None => false,
+    }
+}
+
+/// Whether the part of thunks is a raw one.
+fn is_primary_raw(layout: &Layout) -> bool {
+    match layout.parts.as_slice().get(layout.primary_part) {
+        Some(part) => has_role(Role::Raw, part),
         None => false,
     }
 }
@@ -66,6 +75,8 @@ pub(crate) fn test_plan(layout: &Layout, index: usize, test: PlanTest) -> Verdic
             Some(Entry::Symbol(symbol)) => symbol.0 >= layout.symbols.len(),
             _ => false,
         }),
+        PlanTest::PrimaryPart => plain(layout.primary_part >= parts.len()),
+        PlanTest::PrimaryRaw => plain(has_thunks(layout) && !is_primary_raw(layout)),
         PlanTest::Pair => {
             let behind = behind_reserved(layout);
             due(layout.tlsld.unwrap_or(behind) != behind, behind)
@@ -117,6 +128,10 @@ pub(crate) fn push_plan(
         PlanTest::Missing(role) => {
             let word = role_word(role);
             write!(out, "no part of role {word}")?;
+        }
+        PlanTest::PrimaryPart | PlanTest::PrimaryRaw => {
+            let (part, parts) = (layout.primary_part, layout.parts.len());
+            write!(out, "part {part} of {parts} parts")?;
         }
         PlanTest::StaticDynamic | PlanTest::NoTable => push_table(out, layout, index)?,
         PlanTest::Pair => {

@@ -4,6 +4,7 @@
 use crate::layout_rows::Row;
 use crate::tests::{
     EntryTest, FileTest, GroupTest, InputTest, PartTest, PlanTest, SectionTest, SymbolTest, Test,
+    ThunkTest,
 };
 use wild_types::Role;
 
@@ -16,12 +17,18 @@ const SHAPE: &str = "the shape of the GNU hash table";
 const ZERO: &str = "a name has a zero byte; the one that ends a string is added when it is written";
 
 /// Those of the clauses on indexes, slots, tables and names.
-pub(crate) const TABLE_ROWS: [Row; 61] = [
+pub(crate) const TABLE_ROWS: [Row; 68] = [
     (
         9,
         Test::Part(PartTest::Section),
         "a part's section is not there",
         "/section",
+    ),
+    (
+        9,
+        Test::Plan(PlanTest::PrimaryPart),
+        "the part of thunks is not there",
+        "/primary_part",
     ),
     (
         9,
@@ -45,6 +52,12 @@ pub(crate) const TABLE_ROWS: [Row; 61] = [
     (9, Test::File(FileTest::Copies), SYMBOLS, "/copies"),
     (
         9,
+        Test::File(FileTest::Block),
+        "a file's block of thunks is not there",
+        "/thunk_block",
+    ),
+    (
+        9,
         Test::Input(InputTest::PartIndex),
         "an input section's part is not there",
         "/part",
@@ -66,6 +79,12 @@ pub(crate) const TABLE_ROWS: [Row; 61] = [
         Test::Version(EntryTest::Index),
         "a parent of `verdefs` is not there",
         "/parent",
+    ),
+    (
+        9,
+        Test::Thunk(ThunkTest::Symbol),
+        "the symbol of a thunk is not there",
+        "/symbol",
     ),
     (
         9,
@@ -133,6 +152,25 @@ pub(crate) const TABLE_ROWS: [Row; 61] = [
         "the part got_relr stands at address 0",
         "/address",
     ),
+    (
+        12,
+        Test::Thunk(ThunkTest::Order),
+        "the thunk's symbol does not come behind that of the thunk ahead",
+        "/symbol",
+    ),
+    (
+        12,
+        Test::Thunk(ThunkTest::Place),
+        "the thunk does not stand at the next free place of the primary part, behind the sections of its block's file and in its group's range; or the input section begins before that place",
+        "/address",
+    ),
+    (
+        12,
+        Test::Thunk(ThunkTest::Owner),
+        "no file owns the block of thunks",
+        "",
+    ),
+    (12, Test::Thunk(ThunkTest::Last), "x86-64 has no thunks", ""),
     (
         13,
         Test::Symbol(SymbolTest::Position),

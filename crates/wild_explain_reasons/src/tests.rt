@@ -20,6 +20,8 @@ pub(crate) enum PlanTest {
     FirstSection,
     NoDynamicSegment,
     Entry,
+    PrimaryPart,
+    PrimaryRaw,
     Pair,
     SysvBuckets,
     GnuBuckets,
@@ -122,11 +124,22 @@ pub(crate) enum FileTest {
     Role,
     Range,
     Copies,
+    Block,
     Twice,
     Order,
     Mark,
     Library,
     Needed,
+}
+
+/// What is asked of a thunk.
+#[derive(Clone, Copy)]
+pub(crate) enum ThunkTest {
+    Symbol,
+    Order,
+    Place,
+    Owner,
+    Last,
 }
 
 /// What is asked of a group.
@@ -162,5 +175,6 @@ pub(crate) enum Test {
     Input(InputTest),
     Listed(EntryTest),
     Version(EntryTest),
+    Thunk(ThunkTest),
     Auxiliary,
 }

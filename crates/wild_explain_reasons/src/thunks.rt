@@ -1,0 +1,124 @@
+//! Tests of thunks, and where they stand.
+
+use crate::items::{Item, SectionPlace};
+use crate::tests::ThunkTest;
+use crate::verdict::{Finding, due, plain};
+use wild_types::{Group, Layout, Thunk};
+
+/// The bytes of a thunk.
+const THUNK_SIZE: u64 = 12;
+
+/// Whether there are thunks.
+pub(crate) fn has_thunks(layout: &Layout) -> bool {
+    for block in layout.thunk_blocks.as_slice() {
+        if block.len() != 0 {
+            return true;
+        }
+    }
+    false
+}
+
+/// The first thunk whose symbol is not there.
+fn first_absent(layout: &Layout, thunks: &[Thunk]) -> Option<usize> {
+    for (i, thunk) in thunks.iter().enumerate() {
+        if thunk.symbol.0 >= layout.symbols.len() {
+            return Some(i);
+        }
+    }
+    None
+}
+
+/// The first thunk whose symbol does not come behind that of the one ahead.
+fn first_descending(thunks: &[Thunk]) -> Option<usize> {
+    let mut low: usize = 0;
+    for (i, thunk) in thunks.iter().enumerate() {
+        if thunk.symbol.0 < low {
+            return Some(i);
+        }
+        low = thunk.symbol.0.saturating_add(1);
+    }
+    None
+}
+
+/// Whether a file owns the block of that number.
+fn is_owned(layout: &Layout, block: usize) -> bool {
+    for group in layout.groups.as_slice() {
+        for file in group.files.as_slice() {
+            if file.owns_thunk_block && file.thunk_block == block {
+                return true;
+            }
+        }
+    }
+    false
+}
+
+/// The first thunk of a group that is not the next free place, or the first input section that begins before that; the group's range of
+/// the primary part is from `start` to `end`.
+fn misplaced_in(
+    layout: &Layout,
+    group: usize,
+    held: &Group,
+    start: u64,
+    end: u64,
+) -> Option<Finding> {
+    let mut next = start;
+    for (file, held) in held.files.as_slice().iter().enumerate() {
+        for (section, input) in held.sections.as_slice().iter().enumerate() {
+            if input.part == layout.primary_part && input.is_filled(layout) {
+                if input.address < next {
+                    let item = Item::Input(SectionPlace {
+                        group,
+                        file,
+                        section,
+                    });
+                    let verdict = due(true, next);
+                    return Some(Finding { item, verdict });
+                }
+                next = input.address.saturating_add(input.size);
+            }
+        }
+        for (i, thunk) in layout.thunks_of(held).iter().enumerate() {
+            let place = next.saturating_add(3) / 4 * 4;
+            next = place.saturating_add(THUNK_SIZE);
+            if thunk.address != place || end < next {
+                let item = Item::Thunk(held.thunk_block, i);
+                let verdict = due(true, place);
+                return Some(Finding { item, verdict });
+            }
+        }
+    }
+    None
+}
+
+/// The same of all groups.
+fn first_misplaced(layout: &Layout) -> Option<Finding> {
+    let part = layout.primary_part;
+    let mut start = layout.parts.as_slice().get(part)?.address;
+    for (i, group) in layout.groups.as_slice().iter().enumerate() {
+        let end = start.saturating_add(group.given(part));
+        let found = misplaced_in(layout, i, group, start, end);
+        if found.is_some() {
+            return found;
+        }
+        start = end;
+    }
+    None
+}
+
+/// The thunk, or the input section, that fails a test, where the clause fails at an index.
+pub(crate) fn find_thunk(layout: &Layout, index: usize, test: ThunkTest) -> Option<Finding> {
+    if let ThunkTest::Place = test {
+        return first_misplaced(layout);
+    }
+    let thunks = layout.thunk_blocks.as_slice().get(index)?.as_slice();
+    let found = match test {
+        ThunkTest::Symbol => first_absent(layout, thunks)?,
+        ThunkTest::Order => first_descending(thunks)?,
+        ThunkTest::Owner if is_owned(layout, index) => return None,
+        _ => 0,
+    };
+    Some(Finding {
+        item: Item::Thunk(index, found),
+        verdict: plain(true),
+    })
+}
