@@ -1,5 +1,5 @@
 -- What the parts of `.symtab` take of symbols, one behind the other (gABI, "Symbol Table").
---   entry_of l f named i s     the entry of symbol i of a file, or of the name of its slot or its stub
+--   entry_of l f named i s     the entry of symbol i of a file, or of the name of its slot, its stub or a thunk to it
 --   taken_bytes k at n         what a part takes of an entry whose name stands at an offset of the strings
 --   sunk k at ns               of some, whose names stand one behind the other
 --   Walks k from at to next ns   from bytes and an offset to others: those of the entries are added, whatever comes behind them
@@ -25,7 +25,7 @@ use Rattle.wild_symbols.specs.DynamicEntries.{entry_at}
 use Rattle.wild_symbols.specs.TableEntries.{NamedEntry, named_entry, is_side}
 use Rattle.wild_layout.specs.Faults.{table_error}
 
--- the entry of symbol i of a file, or of the name of its slot or its stub
+-- the entry of symbol i of a file, or of the name of its slot, its stub or a thunk to it
 abbrev pub entry_of : Layout → File → Named → ℕ → Symbol → NamedEntry
 entry_of l f named i s = named_entry l f (item named i s)
 

@@ -6,7 +6,7 @@ ghost use Rattle.wild_types.specs.declared.layout.Layout.{Layout};
 ghost use Rattle.wild_needs.specs.declared.table.TablePart.TheVariants.{Side, Long};
 ghost use Rattle.wild_words.specs.Words.{word};
 ghost use Rattle.wild_needs.specs.DynamicStrings.{behind_text};
-ghost use Rattle.wild_needs.specs.TableSymbols.{suffix, table_strings};
+ghost use Rattle.wild_needs.specs.TableSymbols.{full_name, table_strings};
 ghost use Rattle.wild_symbols.specs.Strings.{string, string_bytes};
 ghost use Rattle.wild_symbols.specs.Symbols.{symbol_bytes};
 ghost use Rattle.wild_symbols.specs.TableEntries.{is_side, null_entry, null_entries, file_table, fields_of, table_entries};
@@ -18,7 +18,7 @@ use crate::symbols::{add_entry, behind_text};
 use std::alloc::{AllocError, Global};
 use std::marker::Model;
 use std::mem::replace;
-use wild_needs::{Named, TablePart, TableSink, give_table, has_long, is_on, suffix};
+use wild_needs::{Named, TablePart, TableSink, give_table, has_long, is_on, prefix, suffix};
 use wild_relax::Arch;
 use wild_sections::{Resolved, section_in_file};
 use wild_symbols::{
@@ -26,7 +26,7 @@ use wild_symbols::{
 };
 use wild_types::{Fault, File, Group, Role, Symbol, SymbolIndex};
 
-/// What the entry of a symbol of a file says, or of the name of its slot or its stub; or what it lacks.
+/// What the entry of a symbol of a file says, or of the name of its slot, its stub or a thunk to it; or what it lacks.
 pub(crate) fn fields_of<A: Arch>(
     resolved: &Resolved<A>,
     file: &File,
@@ -68,7 +68,7 @@ fn fields_or_none<A: Arch>(
     }
 }
 
-/// Whether a symbol, or the name of its slot or its stub, is local, or whether it is not.
+/// Whether a symbol, or the name of its slot, its stub or a thunk to it, is local, or whether it is not.
 fn is_side(local: bool, named: Named, symbol: &Symbol) -> bool
     ensures { (l : Layout) (f : File) (i : ℕ) → result ≡ is_side local (entry_of l f named i symbol.now) }
 {
@@ -83,10 +83,11 @@ fn add_index(index: u32, bytes: &mut PartBytes) -> Result<(), AllocError>
     bytes.extend(&index.to_le_bytes())
 }
 
-/// Adds the name of a symbol, of its slot or its stub, with a zero behind it.
+/// Adds the name of a symbol, of its slot, its stub or a thunk to it, with a zero behind it.
 fn add_name(named: Named, symbol: &Symbol, bytes: &mut PartBytes) -> Result<(), AllocError>
-    ensures { OnOk result (bytes.new ≡ bytes.old ++ string (symbol.now.name ++ suffix named)) }
+    ensures { OnOk result (bytes.new ≡ bytes.old ++ string (full_name named symbol.now.name)) }
 {
+    bytes.extend(prefix(named))?;
     bytes.extend(symbol.name.as_slice())?;
     bytes.extend(suffix(named))?;
     bytes.extend(&[0])
@@ -94,9 +95,10 @@ fn add_name(named: Named, symbol: &Symbol, bytes: &mut PartBytes) -> Result<(), 
 
 /// The offset behind that name and the zero, at most 2^64 - 1.
 fn behind_name(at: u64, named: Named, symbol: &Symbol) -> u64
-    ensures { result ≡ behind_text at (symbol.now.name ++ suffix named) }
+    ensures { result ≡ behind_text at (full_name named symbol.now.name) }
 {
-    let room = (symbol.name.len() as u64).saturating_add(suffix(named).len() as u64);
+    let affixes = prefix(named).len() + suffix(named).len();
+    let room = (symbol.name.len() as u64).saturating_add(affixes as u64);
     at.saturating_add(room.saturating_add(1))
 }
 
@@ -145,7 +147,7 @@ impl<'r, 'l, 'f, A: Arch> TableBytes<'r, 'l, 'f, A> {
         (self.bytes, self.at)
     }
 
-    /// Adds the entry of a symbol, or of the name of its slot or its stub, on its side.
+    /// Adds the entry of a symbol, or of the name of its slot, its stub or a thunk to it, on its side.
     fn add_side(
         &mut self,
         local: bool,

@@ -61,6 +61,10 @@ fn fault_words(fault: Fault) -> (&'static str, &'static str) {
             "an entry stores what a resolver answers, and has nothing to add to it",
             "take the function's address itself, and add in code",
         ),
+        Fault::ThunkOutOfRange { .. } => (
+            "the target of a thunk is 4 GiB or more from it",
+            "move the sections nearer",
+        ),
         Fault::PltTooFar { .. } => (
             "a stub is too far from its slot",
             "move the parts plt_got and got nearer",

@@ -1,6 +1,6 @@
 -- The longer section index of an entry is 0 where st_shndx tells its section itself.
 use Rattle.std.proofs.Common.{◌≡◌, ℕ, ◌%◌, ◌^◌, ◌&&◌, Bool, true, false, nat_lt, if◌then◌else◌, get_or, map, filter, Option, Some, None, Result, All, refl}
-use Rattle.std.specs.Prelude.{codes, unwrap_or}
+use Rattle.std.specs.Prelude.{codes, unwrap_or, slice_get}
 use Rattle.std.proofs.lemmas.List.Elements.{All-append, All-filter, All-map}
 use Rattle.wild_words.proofs.ListLemmas.{All-flat_map, All-optional}
 use Rattle.wild_records.specs.Abi.Section.{shn_loreserve, shn_xindex}
@@ -26,7 +26,7 @@ use Rattle.wild_types.specs.Lookups.{has_table}
 use Rattle.wild_symbols.specs.declared.table.TableFields.{TableFields}
 use Rattle.wild_symbols.specs.declared.writer.SymbolAttributes.{SymbolAttributes}
 use Rattle.wild_symbols.specs.DynamicFields.{common_section, part_section, section_named, some_section, stands_as_stub, stub_or_zero}
-use Rattle.wild_symbols.specs.TableEntries.{NamedEntry, at_address, counted_from, fields_of, file_table, first_or, group_table, in_table_section, is_side, named_entry, no_attributes, null_entries, null_entry, or_none_in_table, slot_role, table_at, table_attributes, table_by, table_canonical, table_fields, table_placed, with_function}
+use Rattle.wild_symbols.specs.TableEntries.{NamedEntry, at_address, counted_from, fields_of, file_table, first_or, group_table, in_table_section, is_side, named_entry, no_attributes, thunk_attributes, null_entries, null_entry, or_none_in_table, slot_role, table_at, table_attributes, table_by, table_canonical, table_fields, table_placed, with_function}
 use Rattle.wild_names.specs.IndexLaws.{side_table}
 
 -- the index is 0 where st_shndx does not send to it
@@ -88,6 +88,7 @@ told_of : (l : Layout) (f : File) (x : Named) (i : ℕ) (s : Symbol) → IsTold 
 told_of l f named.Itself i s = told_by l i f.role s (output_section l (Some f) s.place)
 told_of l f named.Slot i s = told_section i (part_section (part_with (slot_role l s) l.parts)) (unwrap_or (got_of s) 0) no_attributes
 told_of l f named.Stub i s = told_section i (part_section (part_with role.PltGot l.parts)) (unwrap_or (plt_of s) 0) no_attributes
+told_of l f (named.Thunk a) i s = told_section i (part_section (slice_get l.parts l.primary_part)) a thunk_attributes
 
 told : (l : Layout) (f : File) (x : TableSymbol) → IsTold (table_fields l f x)
 unfolding table_fields

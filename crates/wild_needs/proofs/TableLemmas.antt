@@ -10,13 +10,16 @@ use Rattle.wild_needs.specs.declared.table.TablePart.{TablePart}
 use Rattle.wild_needs.specs.declared.table.TablePart.TheVariants.{Side, Strings}
 use Rattle.wild_needs.specs.declared.table.Count.{Count}
 use Rattle.wild_needs.specs.DynamicStrings.{text_room}
-use Rattle.wild_needs.specs.TableSymbols.{TableSymbol, item, item_name, is_on, side, suffix}
+use Rattle.wild_needs.specs.TableSymbols.{TableSymbol, item, item_name, is_on, side, prefix, suffix, full_name}
 use Rattle.wild_needs.specs.TableCounts.{taken, Counts}
 use Rattle.wild_needs.specs.Runs.{Ran, none, more, stop}
 
 -- a name's bytes, with the zero behind it
-pub name_room : (named : Named) (s : Symbol) → text_room (s.name ++ suffix named) ≡ text_room s.name + length (suffix named)
-name_room named s = let e = length-append s.name (suffix named) in omega (arith, e)
+pub name_room : (named : Named) (s : Symbol) → text_room (full_name named s.name) ≡ text_room s.name + (length (prefix named) + length (suffix named))
+name_room named s =
+    let a = length-append (prefix named) (s.name ++ suffix named) in
+    let b = length-append s.name (suffix named) in
+    omega (arith, a, b)
 
 -- one symbol counted is a run
 pub count_one : {refuses : Count → TableSymbol → Infallible → Count → Type 0} (a b : Count) (x : TableSymbol) → b.sum ≡ min (2 ^ 64 - 1) (a.sum + taken a.part x) → b.part ≡ a.part → Ran Counts refuses a (x ∷ []) (Ok tt) b

@@ -1,7 +1,8 @@
 -- Which symbols `.symtab` has (gABI, "Symbol Table"). Its local symbols stand in front of all others; names stand in the order in
 -- which the files are processed.
---   TableSymbol            a symbol of the layout, or the name of its slot or its stub
+--   TableSymbol            a symbol of the layout, or the name of its slot, of its stub or of a thunk to it
 --   pass_items l p i ss    what symbols from number i on give, in one pass
+--   thunk_items l f        the names of the thunks that a file writes
 --   file_items l f         what a file gives, in the order of the names
 --   item_name x            its name
 --   is_local x             it stands among the local symbols
@@ -9,7 +10,7 @@
 --   local_count, global_count   how many entries a file has among the local symbols, and among the others
 --   table_strings l f      the strings of a file
 --   has_long l r           a part of that role has a section index of 32 bits for each symbol
-use Rattle.std.specs.Prelude.{ℕ, ◌+◌, ◌/◌, ◌==◌, Bool, true, false, not, ◌&&◌, ◌||◌, if◌then◌else◌, List, [], ◌∷◌, ◌++◌, length, map, codes}
+use Rattle.std.specs.Prelude.{ℕ, ◌+◌, ◌/◌, ◌==◌, Bool, true, false, not, ◌&&◌, ◌||◌, if◌then◌else◌, List, [], ◌∷◌, ◌++◌, length, map, codes, Option, Some, None, slice_get}
 use Rattle.std.specs.List.{filter, flat_map, list_any}
 use Rattle.wild_records.specs.Abi.Symbol.{stb_local}
 use Rattle.wild_types.specs.declared.part.Role.{Role}
@@ -17,6 +18,7 @@ use Rattle.wild_types.specs.declared.file.FileRole.{FileRole}
 use Rattle.wild_types.specs.declared.file.FileRole.TheVariants as file_role
 use Rattle.wild_types.specs.declared.file.File.{File}
 use Rattle.wild_types.specs.declared.symbol.Symbol.{Symbol}
+use Rattle.wild_types.specs.declared.layout.Thunk.{Thunk}
 use Rattle.wild_needs.specs.declared.table.Named.{Named}
 use Rattle.wild_needs.specs.declared.table.Named.TheVariants as named
 use Rattle.wild_needs.specs.declared.table.Pass.{Pass}
@@ -25,12 +27,13 @@ use Rattle.wild_types.specs.FileRoles.{is_prelude}
 use Rattle.wild_types.specs.Flags.{has_flag, downgrade_to_local}
 use Rattle.wild_types.specs.Parts.{has_role}
 use Rattle.wild_types.specs.FileSymbols.{loaded_symbols}
+use Rattle.wild_types.specs.FileThunks.{thunks_of}
 use Rattle.wild_types.specs.SymbolSlots.{names_slot, names_stub}
 use Rattle.wild_types.specs.Lookups.{has_table, has_many_sections}
 
 -- ---- symbols
 
--- a symbol of the layout, its number, and what of it is named: itself, its slot, or its stub
+-- a symbol of the layout, its number, and what of it is named: itself, its slot, its stub, or a thunk to it
 pub record TableSymbol : Type 0 where
   pub named : Named
   pub index : ℕ
@@ -66,19 +69,39 @@ passes other = record { slots = false; own = true } ∷ record { slots = true; o
 abbrev pub items_of : Layout → List Pass → File → List TableSymbol
 items_of l ps f = flat_map (λ (p : Pass). pass_items l p f.first_symbol (loaded_symbols l f)) ps
 
--- what a file gives
+abbrev pub named_thunk : Thunk → Option Symbol → List TableSymbol
+named_thunk t None = []
+named_thunk t (Some s) = item (named.Thunk t.address) t.symbol s ∷ []
+
+-- the name of a thunk
+abbrev pub thunk_item : Layout → Thunk → List TableSymbol
+thunk_item l t = named_thunk t (slice_get l.symbols t.symbol)
+
+-- the names of the thunks that a file writes
+abbrev pub thunk_items : Layout → File → List TableSymbol
+thunk_items l f = flat_map (thunk_item l) (thunks_of l f)
+
+-- what a file gives: its symbols, and behind them its thunks
 unfoldable pub file_items : Layout → File → List TableSymbol
-file_items l f = if has_table l then items_of l (passes f.role) f else []
+file_items l f = if has_table l then items_of l (passes f.role) f ++ thunk_items l f else []
 
 -- ---- names
 
+abbrev pub prefix : Named → List ℕ
+prefix (named.Thunk a) = codes "__wild_thunk_"
+prefix other = []
+
 abbrev pub suffix : Named → List ℕ
-suffix named.Itself = []
 suffix named.Slot = codes "$got"
 suffix named.Stub = codes "$plt"
+suffix other = []
+
+-- what is named of a symbol with that name
+abbrev pub full_name : Named → List ℕ → List ℕ
+full_name n name = prefix n ++ (name ++ suffix n)
 
 abbrev pub item_name : TableSymbol → List ℕ
-item_name x = x.symbol.name ++ suffix x.named
+item_name x = full_name x.named x.symbol.name
 
 -- ---- sides
 
@@ -90,7 +113,7 @@ abbrev pub is_local_by : Named → Symbol → Bool
 is_local_by named.Itself s = is_local_symbol s
 is_local_by other s = true
 
--- names of slots and stubs are local
+-- names of slots, stubs and thunks are local
 abbrev pub is_local : TableSymbol → Bool
 is_local x = is_local_by x.named x.symbol
 

@@ -25,8 +25,8 @@ pub use strings::{
     string_start, strings_have_their_room, strings_room, text_room,
 };
 pub use table::{
-    Named, Pass, TablePart, global_count, has_long, is_local, is_on, local_count, passes, suffix,
-    table_room,
+    Named, Pass, TablePart, global_count, has_long, is_local, is_on, local_count, passes, prefix,
+    suffix, table_room,
 };
 pub use versions::{
     definition_size, definitions_size, need_count, need_size, needs_of, version_room,

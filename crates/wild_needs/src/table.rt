@@ -3,7 +3,7 @@ ghost use Rattle.std.specs.Prelude.{◌≡◌, ℕ, ◌-◌, ◌^◌, ◌≤◌,
 ghost use Rattle.wild_needs.specs.DynamicStrings.{text_room};
 ghost use Rattle.wild_types.specs.Lists.{total};
 ghost use Rattle.wild_needs.specs.TableCounts.{taken};
-ghost use Rattle.wild_needs.specs.TableSymbols.{passes, file_items, suffix, is_local_symbol, is_local_by, item, is_on, local_count, global_count, table_strings, has_long};
+ghost use Rattle.wild_needs.specs.TableSymbols.{passes, file_items, prefix, suffix, is_local_symbol, is_local_by, item, is_on, local_count, global_count, table_strings, has_long};
 
 use crate::strings::text_room;
 use crate::walk::{TableSink, give_table};
@@ -21,6 +21,8 @@ pub enum Named {
     Slot,
     /// Its stub: `NAME$plt`.
     Stub,
+    /// The thunk at an address that goes on to it: `__wild_thunk_NAME`.
+    Thunk(u64),
 }
 
 /// What a walk over the symbols of a file gives to `.symtab`.
@@ -76,7 +78,7 @@ pub fn is_local(named: Named, symbol: &Symbol) -> bool
 {
     match named {
         Named::Itself => is_local_symbol(symbol),
-        Named::Slot | Named::Stub => true,
+        Named::Slot | Named::Stub | Named::Thunk(_) => true,
     }
 }
 
@@ -91,15 +93,26 @@ pub fn is_on(local: bool, named: Named, symbol: &Symbol) -> bool
     }
 }
 
+/// What a name has in front of the symbol's.
+pub fn prefix(named: Named) -> &'static [u8]
+    ensures is { result.now ≡ prefix named }
+    ensures few { length result.now ≤ 13 }
+{
+    match named {
+        Named::Thunk(_) => b"__wild_thunk_",
+        Named::Itself | Named::Slot | Named::Stub => b"",
+    }
+}
+
 /// What a name has behind the symbol's.
 pub fn suffix(named: Named) -> &'static [u8]
     ensures is { result.now ≡ suffix named }
     ensures few { length result.now ≤ 4 }
 {
     match named {
-        Named::Itself => b"",
         Named::Slot => b"$got",
         Named::Stub => b"$plt",
+        Named::Itself | Named::Thunk(_) => b"",
     }
 }
 
@@ -123,7 +136,10 @@ fn taken(part: TablePart, named: Named, symbol: &Symbol) -> u64
         TablePart::Side(local) | TablePart::Long(local) => {
             u64::from(is_on(local, named, symbol))
         }
-        TablePart::Strings => text_room(&symbol.name).saturating_add(suffix(named).len() as u64),
+        TablePart::Strings => {
+            let affixes = prefix(named).len() + suffix(named).len();
+            text_room(&symbol.name).saturating_add(affixes as u64)
+        }
     }
 }
 

@@ -1,12 +1,13 @@
 //! The one walk over the symbols that `.symtab` has of a file (gABI, "Symbol Table"). What is done with each is a sink's: it is counted,
 //! written, or looked at for what it lacks.
 ghost use Rattle.std.specs.Prelude.{[], if◌then◌else◌};
+ghost use Rattle.std.specs.List.{flat_map};
 ghost use Rattle.wild_types.specs.FileSymbols.{loaded_symbols};
-ghost use Rattle.wild_needs.specs.TableSymbols.{item, where_asked, slot_items, own_item, symbol_items, pass_items, file_items};
+ghost use Rattle.wild_needs.specs.TableSymbols.{item, where_asked, slot_items, own_item, symbol_items, pass_items, passes, items_of, thunk_item, thunk_items, file_items};
 ghost use Rattle.wild_needs.specs.Runs.{Ran};
 
 use crate::table::{Named, Pass, passes};
-use wild_types::{File, Layout, Symbol};
+use wild_types::{File, Layout, Symbol, Thunk};
 
 /// Where the symbols of `.symtab` go, one after another.
 pub trait TableSink {
@@ -23,7 +24,7 @@ pub trait TableSink {
     /// In a state the symbol is refused for a reason, which leaves a state.
     ghost refuses: { Self → TableSymbol → Self.Error → Self → Type 0 };
 
-    /// Takes the symbol of that number, or the name of its slot or its stub, or refuses it.
+    /// Takes the symbol of that number, or the name of its slot, its stub or a thunk to it, or refuses it.
     fn take(&mut self, named: Named, index: usize, symbol: &Symbol) -> Result<(), Self::Error>
         ensures { Ran goes refuses self.old (item named index symbol.now ∷ []) result self.new };
 }
@@ -136,16 +137,55 @@ fn give_pass<S: TableSink>(
     Ok(())
 }
 
+/// Gives all that the symbols of a file have, pass by pass.
+#[inline(always)]
+#[tactic(auto, using(crate::proofs::RunLemmas::runs, crate::proofs::RunLemmas::copied_loops))]
+fn give_symbols<S: TableSink>(layout: &Layout, file: &File, sink: &mut S) -> Result<(), S::Error>
+    ensures { Ran S.goes S.refuses sink.old (items_of layout.now (passes file.now.role) file.now) result sink.new }
+{
+    for pass in passes(file.role) {
+        give_pass(layout, *pass, file, sink)?;
+    }
+    Ok(())
+}
+
+/// Gives the name of a thunk, where its symbol is there.
+#[tactic(auto, using(crate::proofs::RunLemmas::runs))]
+fn give_thunk<S: TableSink>(layout: &Layout, thunk: Thunk, sink: &mut S) -> Result<(), S::Error>
+    ensures { Ran S.goes S.refuses sink.old (thunk_item layout.now thunk) result sink.new }
+{
+    match layout.symbols.as_slice().get(thunk.symbol.0) {
+        Some(symbol) => {
+            sink.take(
+                Named::Thunk(thunk.address),
+                thunk.symbol.0,
+                symbol,
+            )
+        }
+        None => Ok(()),
+    }
+}
+
+/// Gives the names of the thunks that a file writes.
+#[tactic(auto, using(crate::proofs::RunLemmas::runs, crate::proofs::RunLemmas::copied_loops))]
+fn give_thunks<S: TableSink>(layout: &Layout, file: &File, sink: &mut S) -> Result<(), S::Error>
+    ensures { Ran S.goes S.refuses sink.old (thunk_items layout.now file.now) result sink.new }
+{
+    for thunk in layout.thunks_of(file) {
+        give_thunk(layout, *thunk, sink)?;
+    }
+    Ok(())
+}
+
 /// Gives the symbols that `.symtab` has of a file, until one is refused.
 #[inline]
 #[tactic(auto, using(crate::proofs::RunLemmas::runs), unfolding(crate::specs::TableSymbols::file_items))]
 pub fn give_table<S: TableSink>(layout: &Layout, file: &File, sink: &mut S) -> Result<(), S::Error>
     ensures { Ran S.goes S.refuses sink.old (file_items layout.now file.now) result sink.new }
 {
-    if layout.has_table() {
-        for pass in passes(file.role) {
-            give_pass(layout, *pass, file, sink)?;
-        }
+    if !layout.has_table() {
+        return Ok(());
     }
-    Ok(())
+    give_symbols(layout, file, sink)?;
+    give_thunks(layout, file, sink)
 }

@@ -5,6 +5,7 @@ ghost use Rattle.wild_relax.specs.ThunkAArch64.{thunk_words, thunk_aarch64, nop_
 use wild_records::abi::symbol::STO_AARCH64_VARIANT_PCS;
 use wild_reloc::AArch64Instruction;
 use wild_slot::{page_of, put_words};
+use wild_types::THUNK_SIZE;
 
 const PAGE: u64 = 4096;
 
@@ -37,7 +38,7 @@ pub const MIN_BRANCH_RANGE: u64 = 1 << 27;
 /// Thunks of AArch64.
 pub const THUNKS: ThunkConfig = ThunkConfig {
     min_branch_range: MIN_BRANCH_RANGE,
-    thunk_size: 12,
+    thunk_size: THUNK_SIZE,
 };
 
 /// The thunk at an address that goes on to the target. It is refused exactly where their pages are too far apart, and then

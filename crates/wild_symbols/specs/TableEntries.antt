@@ -1,5 +1,5 @@
 -- What the entries of `.symtab` say of symbols (gABI, "Symbol Table").
---   table_fields l f x         what is said of a symbol of a file, of its slot or its stub; or what it lacks
+--   table_fields l f x         what is said of a symbol of a file, of its slot, its stub or a thunk to it; or what it lacks
 --   file_table l f             the symbols of a file's entries, each with its name, and whether it is local
 --   side_entries local at ns   the entries of the local ones, or of the others; names stand one behind the other from an offset on
 --   group_table l g            the symbols of a group's entries
@@ -31,6 +31,7 @@ use Rattle.wild_types.specs.Addresses.{raw_value}
 use Rattle.wild_needs.specs.DynamicStrings.{behind_text, text_room}
 use Rattle.wild_needs.specs.DynamicSymbols.{output_section}
 use Rattle.wild_types.specs.FileRoles.{is_prelude, is_library}
+use Rattle.wild_types.specs.FileThunks.{thunk_size}
 use Rattle.wild_types.specs.Flags.{has_flag, copy_relocation, canonical_plt, downgrade_to_local}
 use Rattle.wild_types.specs.Lists.{total}
 use Rattle.wild_types.specs.Parts.{part_with}
@@ -124,12 +125,23 @@ slot_role l s = if begins_block (slots_of l s).words then role.GotRelr else role
 abbrev pub at_part : Layout → ℕ → Role → Option ℕ → Result TableFields Fault
 at_part l i r address = in_table_section i (part_section (part_with r l.parts)) (unwrap_or address 0) no_attributes
 
+-- ---- thunks
+
+-- a local function of its own (gABI, "Symbol Table": STB_LOCAL, STT_FUNC)
+abbrev pub thunk_attributes : SymbolAttributes
+thunk_attributes = record { info = stt_func; other = 0; size = thunk_size }
+
+-- at an address in the section of the part in which thunks stand
+abbrev pub thunk_fields : Layout → ℕ → ℕ → Result TableFields Fault
+thunk_fields l i address = in_table_section i (part_section (slice_get l.parts l.primary_part)) address thunk_attributes
+
 -- ---- symbols
 
 abbrev pub fields_of : Layout → File → Named → ℕ → Symbol → Result TableFields Fault
 fields_of l f named.Itself i s = table_by l i f.role s (output_section l (Some f) s.place)
 fields_of l f named.Slot i s = at_part l i (slot_role l s) (got_of s)
 fields_of l f named.Stub i s = at_part l i role.PltGot (plt_of s)
+fields_of l f (named.Thunk a) i s = thunk_fields l i a
 
 -- what is said of it, or what it lacks
 unfoldable pub table_fields : Layout → File → TableSymbol → Result TableFields Fault

@@ -1,15 +1,14 @@
 //! What the entries of `.symtab` say of symbols (gABI, "Symbol Table").
-ghost use Rattle.std.specs.Prelude.{◌≡◌, ◌%◌, ◌^◌, ◌≤◌, length, Some};
+ghost use Rattle.std.specs.Prelude.{◌≡◌, ◌%◌, ◌^◌, Some, slice_get};
 ghost use Rattle.wild_records.specs.SymbolSections.{split_index};
 ghost use Rattle.wild_types.specs.Addresses.{raw_value};
 ghost use Rattle.wild_needs.specs.DynamicSymbols.{output_section};
 ghost use Rattle.wild_slot.specs.SlotParts.{begins_block};
 ghost use Rattle.wild_slot.specs.SymbolWords.{slots_of};
 ghost use Rattle.wild_types.specs.SymbolSlots.{got_of, plt_of};
-ghost use Rattle.wild_needs.specs.TableSymbols.{suffix};
 ghost use Rattle.wild_types.specs.Parts.{part_with};
 ghost use Rattle.wild_symbols.specs.DynamicFields.{named_sections, part_section};
-ghost use Rattle.wild_symbols.specs.TableEntries.{table_info, table_attributes, with_function, short, in_table_section, counted_from, at_address, table_placed, first_or, table_at, table_canonical, table_by, no_attributes, slot_role, fields_of, no_table_fields};
+ghost use Rattle.wild_symbols.specs.TableEntries.{table_info, table_attributes, with_function, short, in_table_section, counted_from, at_address, table_placed, first_or, table_at, table_canonical, table_by, no_attributes, slot_role, thunk_attributes, thunk_fields, fields_of, no_table_fields};
 ghost use Rattle.wild_symbols.specs.SlotNames.{slot_fields};
 
 use crate::dynamic::{
@@ -21,7 +20,7 @@ use wild_needs::Named;
 use wild_records::abi::section::{SHN_ABS, SHN_LORESERVE, SHN_UNDEF};
 use wild_records::abi::symbol::STT_FUNC;
 use wild_slot::{SlotWord, SymbolSlots};
-use wild_types::{Fault, File, FileRole, Layout, Missing, Place, Symbol};
+use wild_types::{Fault, File, FileRole, Layout, Missing, Place, Symbol, THUNK_SIZE};
 
 /// What an entry of `.symtab` says of a symbol besides its name.
 #[derive(Clone, Copy)]
@@ -289,20 +288,41 @@ pub(crate) fn slot_fields(
     in_table_section(index, section, address.unwrap_or(0), no_attributes())
 }
 
-/// What stands behind the name of a symbol in that of its slot, or of its stub.
-pub(crate) fn suffix(named: Named) -> &'static [u8]
-    ensures suffix { result.now ≡ suffix named }
-    ensures short { length result.now ≤ 4 }
+/// What is said of each thunk wherever it lies: it is a local function.
+fn thunk_attributes() -> SymbolAttributes
+    ensures { result ≡ thunk_attributes }
 {
-    match named {
-        Named::Itself => b"",
-        Named::Slot => b"$got",
-        Named::Stub => b"$plt",
+    SymbolAttributes {
+        info: STT_FUNC,
+        other: 0,
+        size: THUNK_SIZE,
     }
 }
 
-/// What the entry of a symbol says, or of the name of its slot or its stub. The symbol is one of the file, has that number,
-/// stands in the output section with that header index (0: in none), and has the address `raw`.
+/// The section of the part in which thunks stand.
+fn thunk_section(layout: &Layout) -> Option<usize>
+    ensures { result ≡ part_section (slice_get layout.now.parts layout.now.primary_part) }
+{
+    match layout.parts.as_slice().get(layout.primary_part) {
+        Some(part) => some_section(part.section.0),
+        None => None,
+    }
+}
+
+/// What is said of a thunk at an address that goes on to the symbol with that number.
+fn thunk_fields(layout: &Layout, index: usize, address: u64) -> Result<TableFields, Fault>
+    ensures { result ≡ thunk_fields layout.now index address }
+{
+    in_table_section(
+        index,
+        thunk_section(layout),
+        address,
+        thunk_attributes(),
+    )
+}
+
+/// What the entry of a symbol says, or of the name of its slot, its stub or a thunk to it. The symbol has that number, stands in the
+/// output section with that header index (0: in none), and has the address `raw`.
 ///
 /// # Errors
 ///
@@ -336,6 +356,7 @@ pub fn table_fields(
             subject.fields(section)
         }
         Named::Slot | Named::Stub => slot_fields(layout, sections, index, symbol, named),
+        Named::Thunk(address) => thunk_fields(layout, index, address),
     }
 }
 

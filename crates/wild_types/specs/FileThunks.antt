@@ -1,11 +1,16 @@
 -- The thunks of files: code that carries branches of a file on to targets out of their range ("ELF for the Arm 64-bit Architecture",
 -- "Call and Jump relocations").
+--   thunk_size       the bytes of a thunk
 --   block_of l k     the thunks of a block; none where it is not there
 --   thunks_of l f    those that the file writes behind its sections: all of its block, where it owns that
 use Rattle.std.specs.Prelude.{ℕ, if◌then◌else◌, List, [], unwrap_or, slice_get}
 use Rattle.wild_types.specs.declared.layout.Thunk.{Thunk}
 use Rattle.wild_types.specs.declared.file.File.{File}
 use Rattle.wild_types.specs.declared.layout.Layout.{Layout}
+
+-- three instructions (Arm Architecture Reference Manual, C6.2: `adrp`, `add`, `br`)
+abbrev pub thunk_size : ℕ
+thunk_size = 12
 
 -- the thunks of a block
 abbrev pub block_of : Layout → ℕ → List Thunk

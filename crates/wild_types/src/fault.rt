@@ -64,6 +64,10 @@ pub enum Fault {
     IfuncAddend {
         addend: i64,
     },
+    /// The target of a thunk is too far from it: the distance of their pages, modulo 2^64.
+    ThunkOutOfRange {
+        value: u64,
+    },
     /// A stub is too far from its slot: their distance, modulo 2^64.
     PltTooFar {
         value: u64,

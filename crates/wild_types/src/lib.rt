@@ -31,7 +31,7 @@ pub use item::ItemRef;
 pub use kind::{Machine, OutputKind, RelocationModel};
 pub use layout::{
     DynamicSymbol, Entry, GnuHash, Identity, Layout, Merged, Property, PropertyValue,
-    SortedSection, SysvHash, Thunk, Tls, VersionDefinition,
+    SortedSection, SysvHash, THUNK_SIZE, Thunk, Tls, VersionDefinition,
 };
 pub use lookups::{is_allocated, is_executable, is_thread_local, is_writable, some_from};
 pub use options::Options;
