@@ -14,6 +14,10 @@ module _ {S X E : Type 0} {goes : S → X → S → Type 0} {refuses : S → X �
   ran_on none s = s
   ran_on (more h t) s = more h (ran_on t s)
 
+  -- nothing is offered
+  pub ran_none : {a : S} (xs : List X) → xs ≡ [] → Ran goes refuses a xs (Ok tt) a
+  ran_none {a = a} xs h = subst (λ (ys : List X). Ran goes refuses a ys (Ok tt) a) (sym h) none
+
   -- what is refused stays refused, whatever comes behind it
   pub ran_out : {a b : S} {xs : List X} {e : E} (ys : List X) → Ran goes refuses a xs (Err e) b → Ran goes refuses a (xs ++ ys) (Err e) b
   ran_out ys (more h t) = more h (ran_out ys t)
@@ -45,6 +49,15 @@ module _ {S X Y E : Type 0} {goes : S → X → S → Type 0} {refuses : S → X
   pub copied_out : {a b c : S} {all : List X} {e : E} (f : Y → List X) (ys : List Y) (i : ℕ) (d : Y) → i < length ys
       → Left goes refuses a all b (flat_map f (drop i ys)) → Ran goes refuses b (f (get_or ys i d)) (Err e) c → Ran goes refuses a all (Err e) c
   copied_out {a = a} {b = b} {all = all} f ys i d low h s = left_out (flat_map f (drop (i + 1) ys)) (subst (λ (xs : List X). Left goes refuses a all b xs) (flat_drop f ys i d low) h) s
+
+  -- the same, for an item that a loop read
+  pub listed_next : {a b c : S} {all : List X} {u : Unit {0}} (f : Y → List X) (ys : List Y) (i : ℕ) (y : Y) → i < length ys → y ≡ get_or ys i y
+      → Left goes refuses a all b (flat_map f (drop i ys)) → Ran goes refuses b (f y) (Ok u) c → Left goes refuses a all c (flat_map f (drop (i + 1) ys))
+  listed_next {b = b} {c = c} {u = u} f ys i y low read h s = copied_next f ys i y low h (subst (λ (z : Y). Ran goes refuses b (f z) (Ok u) c) read s)
+
+  pub listed_out : {a b c : S} {all : List X} {e : E} (f : Y → List X) (ys : List Y) (i : ℕ) (y : Y) → i < length ys → y ≡ get_or ys i y
+      → Left goes refuses a all b (flat_map f (drop i ys)) → Ran goes refuses b (f y) (Err e) c → Ran goes refuses a all (Err e) c
+  listed_out {b = b} {c = c} {e = e} f ys i y low read h s = copied_out f ys i y low h (subst (λ (z : Y). Ran goes refuses b (f z) (Err e) c) read s)
 
   pub flat_done : {a b : S} {all : List X} (f : Y → List X) (ys : List Y) (i : ℕ) → length ys ≤ i → Left goes refuses a all b (flat_map f (drop i ys)) → Ran goes refuses a all (Ok tt) b
   flat_done {a = a} {b = b} {all = all} f ys i high h = left_done (subst (λ (zs : List Y). Left goes refuses a all b (flat_map f zs)) (drop_all i ys high) h)
@@ -80,3 +93,5 @@ pub ruleset runs = (none, ran_on, ran_out)
 pub ruleset symbol_loops = (symbols_all, symbols_next, symbols_out, symbols_done)
 
 pub ruleset copied_loops = (left_all, copied_next, copied_out, flat_done)
+
+pub ruleset listed_loops = (left_all, listed_next, listed_out, flat_done)

@@ -167,7 +167,7 @@ fn give_thunk<S: TableSink>(layout: &Layout, thunk: Thunk, sink: &mut S) -> Resu
 }
 
 /// Gives the names of the thunks that a file writes.
-#[tactic(auto, using(crate::proofs::RunLemmas::runs, crate::proofs::RunLemmas::copied_loops))]
+#[tactic(auto, using(crate::proofs::RunLemmas::runs, crate::proofs::RunLemmas::listed_loops))]
 fn give_thunks<S: TableSink>(layout: &Layout, file: &File, sink: &mut S) -> Result<(), S::Error>
     ensures { Ran S.goes S.refuses sink.old (thunk_items layout.now file.now) result sink.new }
 {
