@@ -49,23 +49,3 @@ pub(crate) fn answer(
     let status = run(rt, alloc, &owned, &mut source, &mut sink)?;
     Ok((status, sink.bytes().to_vec(alloc)?))
 }
-
-/// The bytes of a plan's image, from the lines without a space.
-pub(crate) fn image_of(
-    rt: &(impl Threads + Sync),
-    alloc: Global,
-    plan: &str,
-) -> Result<Vec<u8>, Fail> {
-    let (status, text) = answer(rt, alloc, &["link", "1"], plan.as_bytes(), &CALM)?;
-    if status != 0 {
-        return Err("no image".into());
-    }
-    let text = String::from_utf8(text).ok().ok_or("no text")?;
-    let mut digits = String::new(alloc);
-    for line in text.as_str().lines() {
-        if !line.contains(" ") {
-            digits.push_str(line)?;
-        }
-    }
-    Ok(hex::decode(alloc, digits.as_str()).ok().ok_or("no hex")?)
-}

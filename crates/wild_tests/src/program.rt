@@ -1,11 +1,26 @@
 //! The program over sources and sinks that fail, and over those that never do.
-use crate::images::SMALLEST_TEXT;
 use crate::outside::{CALM, Outside, answer, words_of};
-use crate::plans::{SMALLEST, changed};
 use std::alloc::Global;
 use std::test::*;
 use std::thread::Threads;
 use wild_program::{SureSink, SureSource, run_surely};
+use wild_tests_plans::SMALLEST;
+
+/// Computed by hand from the definitions.
+const SMALLEST_TEXT: &str = "image 344
+count 1 1
+7f454c4602010100000000000000000002003e00010000008000400000000000
+4000000000000000980000000000000000000000400038000100400003000200
+0100000005000000000000000000000000004000000000000000400000000000
+8700000000000000870000000000000000100000000000000000000000000000
+e801000000c3c3002e74657874002e7368737472746162000000000000000000
+0000000000000000000000000000000000000000000000000000000000000000
+0000000000000000000000000000000000000000000000000100000001000000
+0600000000000000800040000000000080000000000000000700000000000000
+0000000000000000100000000000000000000000000000000700000003000000
+0000000000000000000000000000000087000000000000001100000000000000
+000000000000000001000000000000000000000000000000
+";
 
 /// Words that are no command.
 const NO_COMMANDS: &[&[&str]] = &[
@@ -47,6 +62,14 @@ fn failing_reads(rt: HostRuntime) -> Result<(), Fail> {
             "{call}"
         );
     }
+    // the third read found the end: there is no fourth
+    let calm = Outside {
+        reads: &[3],
+        most: 700,
+        ..CALM
+    };
+    let (status, text) = answer(&rt, rt.alloc(), &["link", "1"], plan, &calm)?;
+    assert!(rt; status == 0 && text.as_slice() == SMALLEST_TEXT.as_bytes());
     Ok(())
 }
 
@@ -100,8 +123,8 @@ fn long_plans(rt: HostRuntime) -> Result<(), Fail> {
     for _ in 0..1200 {
         items.push_str(r#",{"number":0}"#)?;
     }
-    let plan = changed(alloc, SMALLEST, &[(last, items.as_str())])?;
-    let text = changed(alloc, SMALLEST_TEXT, &[("count 1 1\n", "count 1 1201\n")])?;
+    let plan = SMALLEST.replace(alloc, last, items.as_str())?;
+    let text = SMALLEST_TEXT.replace(alloc, "count 1 1\n", "count 1 1201\n")?;
     let (status, said) = answer(&rt, alloc, &["link", "2"], plan.as_bytes(), &CALM)?;
     assert!(rt; status == 0 && said.as_slice() == text.as_bytes());
     Ok(())
@@ -145,11 +168,7 @@ fn status_of(rt: &(impl Threads + Sync), alloc: Global, plan: &str) -> Result<u8
 
 #[test]
 fn sure_runs(rt: HostRuntime) -> Result<(), Fail> {
-    let plan = changed(
-        rt.alloc(),
-        SMALLEST,
-        &[(r#""number":2,"#, r#""number":6,"#)],
-    )?;
+    let plan = SMALLEST.replace(rt.alloc(), r#""number":2,"#, r#""number":6,"#)?;
     let whole = status_of(&rt, rt.alloc(), SMALLEST)?;
     let broken = status_of(&rt, rt.alloc(), plan.as_str())?;
     let other = status_of(&rt, rt.alloc(), "[]")?;

@@ -1,11 +1,7 @@
-//! Tests of the program that explains plans: mistakes, and the places that it names.
+//! Tests of the program that explains plans: its words, sizes and needs.
 #![tactic(auto)]
 
 #[cfg(test)]
-mod mistakes;
-#[cfg(test)]
 mod outside;
-#[cfg(test)]
-mod plans;
 #[cfg(test)]
 mod program;

@@ -1,7 +1,7 @@
 //! Words, and what is said of plans without faults.
 use crate::outside::said;
-use crate::plans::{SMALLEST, changed};
 use std::test::*;
+use wild_tests_plans::SMALLEST;
 
 #[test]
 fn words(rt: HostRuntime) -> Result<(), Fail> {
@@ -24,11 +24,8 @@ fn sizes_of_an_image(rt: HostRuntime) -> Result<(), Fail> {
 /// What is needed is said of a plan whose `part_sizes` is empty.
 #[test]
 fn needs_of_groups(rt: HostRuntime) -> Result<(), Fail> {
-    let plan = changed(
-        rt.alloc(),
-        SMALLEST,
-        &[(r#""part_sizes":[64,56,7,17,192]"#, r#""part_sizes":[]"#)],
-    )?;
+    let sizes = r#""part_sizes":[64,56,7,17,192]"#;
+    let plan = SMALLEST.replace(rt.alloc(), sizes, r#""part_sizes":[]"#)?;
     let (status, text) = said(&rt, rt.alloc(), &["needs"], plan.as_str())?;
     let line = "/groups/0/part_sizes [64,56,0,17,192]\n";
     assert!(rt; status == 0 && text.contains(line));

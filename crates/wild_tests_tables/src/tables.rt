@@ -1,6 +1,5 @@
 //! The tables of a group's slots, stubs and entries, by their writer; and a dynamic section as GNU ld writes it.
 use crate::layouts::{layout_of, resolution_of};
-use crate::plans::{MOVED, PACKED, SLOTTED};
 use std::alloc::{AllocError, Global};
 use std::test::*;
 use wild_plan::{
@@ -12,6 +11,7 @@ use wild_relr::{block_words, count_words};
 use wild_tables::{
     ROLES, Refused, TableWriter, relative_entry, verify_resolution_allocation, write_dynamic,
 };
+use wild_tests_plans::{MOVED, PACKED, SLOTTED};
 use wild_words::read_u64;
 
 /// Whether these bytes are just those words.

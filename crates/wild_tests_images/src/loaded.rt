@@ -1,10 +1,10 @@
 //! What a loader makes of images: of each kind of output, words that relocations and entries fill.
-use crate::outside::image_of;
-use crate::plans::{LINKED, MOVED, PACKED, SLOTTED, VERSIONED, WIDE, changed};
+use crate::written::image_of;
 use std::alloc::Global;
 use std::test::*;
 use wild_hashes::{lookup_gnu, lookup_sysv};
 use wild_loader::{Answer, Deed, LoadFault, Memory, Value, World, load_image, step_x86_64};
+use wild_tests_plans::{LINKED, MOVED, PACKED, SLOTTED, VERSIONED, WIDE};
 use wild_words::{Bytes, Items};
 
 /// A plan with changes, a base, and what memory has when its image is loaded there: pairs of an address and a word.
@@ -217,8 +217,7 @@ fn has_words(memory: &Memory, words: &[(u64, u64)]) -> bool {
 #[test]
 fn loaded_words(rt: HostRuntime) -> Result<(), Fail> {
     for (row, case) in LOADED.iter().enumerate() {
-        let plan = changed(rt.alloc(), case.plan, case.changes)?;
-        let image = image_of(&rt, rt.alloc(), plan.as_str())?;
+        let image = image_of(&rt, rt.alloc(), case.plan, case.changes)?;
         let memory = memory_of(rt.alloc(), image.as_slice(), case.base)?;
         assert!(rt; has_words(&memory, case.words), "row {row}");
     }
@@ -234,7 +233,7 @@ const EFFECTS: [(u64, Deed, u64); 3] = [
 
 #[test]
 fn effects_of_code(rt: HostRuntime) -> Result<(), Fail> {
-    let image = image_of(&rt, rt.alloc(), SLOTTED)?;
+    let image = image_of(&rt, rt.alloc(), SLOTTED, &[])?;
     let memory = memory_of(rt.alloc(), image.as_slice(), 0)?;
     for (place, deed, target) in &EFFECTS {
         let effect = step_x86_64(&memory, *place);
@@ -249,7 +248,7 @@ fn effects_of_code(rt: HostRuntime) -> Result<(), Fail> {
 /// A loader that has no answer of the resolver does not load the image.
 #[test]
 fn no_answer(rt: HostRuntime) -> Result<(), Fail> {
-    let image = image_of(&rt, rt.alloc(), SLOTTED)?;
+    let image = image_of(&rt, rt.alloc(), SLOTTED, &[])?;
     let world = world(rt.alloc(), 0, &[])?;
     let fault = load_image(rt.alloc(), image.as_slice(), &world).err();
     assert!(rt; matches!(fault, Some(LoadFault::NoAnswer { .. })));
@@ -264,7 +263,7 @@ fn has_name(image: &[u8], name: &[u8], index: Option<u64>) -> bool {
 /// Both hash tables have the defined symbols alone.
 #[test]
 fn names_in_an_image(rt: HostRuntime) -> Result<(), Fail> {
-    let image = image_of(&rt, rt.alloc(), VERSIONED)?;
+    let image = image_of(&rt, rt.alloc(), VERSIONED, &[])?;
     let image = image.as_slice();
     assert!(rt; has_name(image, b"v", Some(2)) && has_name(image, b"x", None));
     assert!(rt; has_name(image, b"w", None));

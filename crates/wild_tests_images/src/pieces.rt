@@ -1,0 +1,140 @@
+//! What each group has of an image, and its workers.
+ghost use Rattle.std.specs.Prelude.{◌≡◌};
+ghost use Rattle.wild_types.specs.declared.kind.Machine.TheVariants as machine;
+
+use crate::written::layout_of;
+use std::alloc::Global;
+use std::sync::atomic::{AtomicU64, Ordering};
+use std::test::*;
+use std::thread::Threads;
+use wild_crew::Gate;
+use wild_image::{
+    ElfX86_64, GroupPiece, SizedOutput, check_shares, write, write_gated, write_group,
+};
+use wild_made::make_plan;
+use wild_plan::{Error, Layout, Part, well_formed};
+use wild_tests_plans::{LINKED, MOVED, PACKED, SLOTTED, SMALLEST, THREE, VERSIONED};
+
+/// What each group has of a layout.
+fn pieces_of(alloc: Global, layout: &Layout) -> Result<Vec<GroupPiece>, Fail>
+    requires { layout.now.machine ≡ machine.X86_64 }
+{
+    let mut pieces = Vec::new(alloc);
+    match (well_formed(layout), check_shares(layout)) {
+        (Ok(()), Ok(())) => {
+            for index in 0..layout.groups.len() {
+                pieces.push(write_group::<ElfX86_64>(alloc, layout, index)?)?;
+            }
+            Ok(pieces)
+        }
+        _ => Err("no layout".into()),
+    }
+}
+
+/// Whether part `i` of the image has what the groups have of it, one behind the other, and no byte more.
+fn has_part(layout: &Layout, i: usize, part: &Part, pieces: &[GroupPiece], image: &[u8]) -> bool {
+    let mut rest = image.iter().skip(part.offset as usize);
+    let mut count = 0u64;
+    for piece in pieces {
+        if let Some(bytes) = piece.parts.as_slice().get(i) {
+            for byte in bytes.as_slice() {
+                if rest.next() != Some(byte) {
+                    return false;
+                }
+                count = count.saturating_add(1);
+            }
+        }
+    }
+    let size = if layout.takes_file_bytes(part.section) {
+        part.size
+    } else {
+        0
+    };
+    count == size
+}
+
+/// How many relocations of each section the pieces count.
+fn counts_of(alloc: Global, pieces: &[GroupPiece], sections: usize) -> Result<Vec<u64>, Fail> {
+    let mut counts = vec![in alloc; 0u64; sections]?;
+    for piece in pieces {
+        for (section, count) in piece.counts.as_slice() {
+            if let Some(sum) = counts.get_mut(*section as usize) {
+                *sum = sum.saturating_add(*count);
+            }
+        }
+    }
+    Ok(counts)
+}
+
+/// Whether each part of the image has what the groups have of it.
+fn has_parts(layout: &Layout, pieces: &[GroupPiece], image: &[u8]) -> bool {
+    for (i, part) in layout.parts.as_slice().iter().enumerate() {
+        if !has_part(layout, i, part, pieces, image) {
+            return false;
+        }
+    }
+    true
+}
+
+/// Whether the pieces of all groups are the image.
+fn are_pieces(alloc: Global, layout: &Layout, image: &SizedOutput) -> Result<bool, Fail>
+    requires { layout.now.machine ≡ machine.X86_64 }
+{
+    let pieces = pieces_of(alloc, layout)?;
+    let counts = counts_of(alloc, pieces.as_slice(), image.counts.len())?;
+    Ok(
+        pieces.len() == layout.groups.len()
+            && has_parts(layout, pieces.as_slice(), image.out.as_slice())
+            && counts.as_slice() == image.counts.as_slice(),
+    )
+}
+
+/// The image of a layout by one worker.
+fn written(rt: &(impl Threads + Sync), alloc: Global, layout: &Layout) -> Result<SizedOutput, Error>
+    requires { layout.now.machine ≡ machine.X86_64 }
+{
+    write::<ElfX86_64>(rt, alloc, layout, 1)
+}
+
+#[test]
+fn pieces_of_groups(rt: HostRuntime) -> Result<(), Fail> {
+    for plan in [SMALLEST, THREE, SLOTTED, MOVED, PACKED, LINKED, VERSIONED] {
+        let layout = layout_of(rt.alloc(), plan)?;
+        let image = written(&rt, rt.alloc(), &layout)?;
+        assert!(rt; are_pieces(rt.alloc(), &layout, &image)?);
+    }
+    Ok(())
+}
+
+/// Counts who enters; the first waits for a second.
+#[derive(Drop)]
+struct Meeting {
+    entered: AtomicU64,
+    met: AtomicU64,
+}
+
+impl Gate for Meeting {
+    fn enter(&self, _group: u32) {
+        if self.entered.fetch_add(1, Ordering::SeqCst) > 0 {
+            return;
+        }
+        for _ in 0..268435456u64 {
+            if self.entered.load(Ordering::SeqCst) > 1 {
+                self.met.store(1, Ordering::SeqCst);
+                return;
+            }
+        }
+    }
+}
+
+#[test]
+fn two_workers_meet(rt: HostRuntime) -> Result<(), Fail> {
+    let layout = make_plan(rt.alloc(), 2)?;
+    let gate = Meeting {
+        entered: AtomicU64::new(0),
+        met: AtomicU64::new(0),
+    };
+    let image = write_gated::<ElfX86_64>(&rt, rt.alloc(), &layout, 2, &gate)?;
+    assert!(rt; image.out.len() == 472 && gate.met.load(Ordering::SeqCst) == 1);
+    Ok(())
+}
