@@ -47,5 +47,8 @@ pub(crate) fn explained(
     let mut source = source_of(alloc, plan)?;
     let mut sink = sink(alloc);
     let _ = explain(rt, alloc, &words, &mut source, &mut sink)?;
-    Ok(String::from_utf8(sink.bytes().to_vec(alloc)?).unwrap_or(String::new(alloc)))
+    match String::from_utf8(sink.bytes().to_vec(alloc)?) {
+        Ok(text) => Ok(text),
+        Err(_) => Ok(String::new(alloc)),
+    }
 }

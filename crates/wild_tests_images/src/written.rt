@@ -44,5 +44,5 @@ pub(crate) fn image_of(
     let plan = changed(alloc, plan, changes)?;
     let layout = layout_of(alloc, plan.as_str())?;
     let image = write::<ElfX86_64>(rt, alloc, &layout, 1)?;
-    Ok(image.out)
+    Ok(image.out.as_slice().to_vec(alloc)?)
 }
