@@ -16,13 +16,9 @@ use Rattle.wild_types.specs.declared.file.Group.{Group}
 use Rattle.wild_types.specs.declared.layout.Thunk.{Thunk}
 use Rattle.wild_types.specs.declared.layout.Layout.{Layout}
 use Rattle.wild_types.specs.FilePlaces.{given}
-use Rattle.wild_types.specs.FileThunks.{thunks_of}
+use Rattle.wild_types.specs.FileThunks.{thunk_size, thunks_of}
 use Rattle.wild_types.specs.Lookups.{is_filled}
 use Rattle.wild_clauses.specs.SlotPlaces.{and_then, walk}
-
--- the bytes of a thunk: three instructions
-abbrev pub thunk_size : ℕ
-thunk_size = 12
 
 -- the block has thunks
 abbrev pub is_used : List Thunk → Bool

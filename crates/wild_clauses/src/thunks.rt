@@ -12,7 +12,7 @@ use wild_types::{
 use wild_words::Items;
 
 /// The bytes of a thunk: three instructions.
-const THUNK_SIZE: u128 = 12;
+const THUNK_SIZE: u128 = wild_types::THUNK_SIZE as u128;
 
 /// Whether there are thunks.
 pub(crate) fn has_thunks(layout: &Layout) -> bool

@@ -155,13 +155,7 @@ fn give_thunk<S: TableSink>(layout: &Layout, thunk: Thunk, sink: &mut S) -> Resu
     ensures { Ran S.goes S.refuses sink.old (thunk_item layout.now thunk) result sink.new }
 {
     match layout.symbols.as_slice().get(thunk.symbol.0) {
-        Some(symbol) => {
-            sink.take(
-                Named::Thunk(thunk.address),
-                thunk.symbol.0,
-                symbol,
-            )
-        }
+        Some(symbol) => { sink.take(Named::Thunk(thunk.address), thunk.symbol.0, symbol) }
         None => Ok(()),
     }
 }

@@ -313,12 +313,7 @@ fn thunk_section(layout: &Layout) -> Option<usize>
 fn thunk_fields(layout: &Layout, index: usize, address: u64) -> Result<TableFields, Fault>
     ensures { result ≡ thunk_fields layout.now index address }
 {
-    in_table_section(
-        index,
-        thunk_section(layout),
-        address,
-        thunk_attributes(),
-    )
+    in_table_section(index, thunk_section(layout), address, thunk_attributes())
 }
 
 /// What the entry of a symbol says, or of the name of its slot, its stub or a thunk to it. The symbol has that number, stands in the
