@@ -25,7 +25,7 @@ fn parts_of(line: &str) -> (&str, &str) {
 /// The plan of a row: that of a name, or a text, with each `new` in place of the `old` ahead of it, which has to be there.
 fn plan_of(alloc: Global, row: &str) -> Result<Option<String>, AllocError> {
     let mut plan = String::new(alloc);
-    let mut old = "";
+    let mut old = String::new(alloc);
     for line in row.lines() {
         let (word, text) = parts_of(line);
         if word == "plan" {
@@ -36,12 +36,12 @@ fn plan_of(alloc: Global, row: &str) -> Result<Option<String>, AllocError> {
         } else if word == "text" {
             plan = String::from_str(alloc, text)?;
         } else if word == "old" {
-            old = text;
+            old = String::from_str(alloc, text)?;
         } else if word == "new" {
-            if !plan.contains(old) {
+            if !plan.contains(old.as_str()) {
                 return Ok(None);
             }
-            plan = plan.replace(alloc, old, text)?;
+            plan = plan.replace(alloc, old.as_str(), text)?;
         }
     }
     Ok(Some(plan))
