@@ -20,7 +20,7 @@ const WRONG: [(&str, &str); 59] = [
     (r#"{"options":{"relax":1}}"#, "/options/relax"),
     (r#"{"options":{"execstack":1}}"#, "/options/execstack"),
     (
-        r#"{"options":{"strip_all":true,"bti":true}}"#,
+        r#"{"options":{"strip_all":true,"bti":1}}"#,
         "/options/bti",
     ),
     (r#"{"options":{"relr":1}}"#, "/options/relr"),
