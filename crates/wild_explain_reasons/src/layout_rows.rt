@@ -274,8 +274,8 @@ pub(crate) const LAYOUT_ROWS: [Row; 51] = [
     ),
     (
         8,
-        Test::Plan(PlanTest::PrimaryRaw),
-        "the part of thunks is not a raw one",
+        Test::Plan(PlanTest::Primary),
+        "the part of thunks is not a raw one in an allocated section with data",
         "/primary_part",
     ),
     (

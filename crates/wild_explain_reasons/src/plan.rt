@@ -28,10 +28,14 @@ fn has_zero(name: &Option<Bytes>) -> bool {
     }
 }
 
-/// Whether the part of thunks is a raw one.
-fn is_primary_raw(layout: &Layout) -> bool {
+/// Whether the part of thunks is a raw one in an allocated section with data.
+fn holds_thunks(layout: &Layout) -> bool {
     match layout.parts.as_slice().get(layout.primary_part) {
-        Some(part) => has_role(Role::Raw, part),
+        Some(part) => {
+            has_role(Role::Raw, part)
+                && layout.takes_file_bytes(part.section)
+                && layout.is_allocated_section(part.section)
+        }
         None => false,
     }
 }
@@ -76,7 +80,7 @@ pub(crate) fn test_plan(layout: &Layout, index: usize, test: PlanTest) -> Verdic
             _ => false,
         }),
         PlanTest::PrimaryPart => plain(layout.primary_part >= parts.len()),
-        PlanTest::PrimaryRaw => plain(has_thunks(layout) && !is_primary_raw(layout)),
+        PlanTest::Primary => plain(has_thunks(layout) && !holds_thunks(layout)),
         PlanTest::Pair => {
             let behind = behind_reserved(layout);
             due(layout.tlsld.unwrap_or(behind) != behind, behind)
@@ -129,7 +133,7 @@ pub(crate) fn push_plan(
             let word = role_word(role);
             write!(out, "no part of role {word}")?;
         }
-        PlanTest::PrimaryPart | PlanTest::PrimaryRaw => {
+        PlanTest::PrimaryPart | PlanTest::Primary => {
             let (part, parts) = (layout.primary_part, layout.parts.len());
             write!(out, "part {part} of {parts} parts")?;
         }

@@ -21,7 +21,7 @@ pub(crate) enum PlanTest {
     NoDynamicSegment,
     Entry,
     PrimaryPart,
-    PrimaryRaw,
+    Primary,
     Pair,
     SysvBuckets,
     GnuBuckets,
