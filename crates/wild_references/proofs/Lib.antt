@@ -75,5 +75,9 @@ mod RewrittenShorter
 mod RewrittenWider
 mod RewrittenWhole
 mod RewrittenFollowed
+mod FilledAArch64
+mod SinglesAArch64
+mod RunsAArch64
+mod KeptAArch64
 mod KeptDo
 mod Items

@@ -65,7 +65,7 @@ named : (s : Sort) (l : Layout) (w : World) (m : Memory) (item : Item) (r : Inpu
 named s l w m item r start o x y e h d n = subst (λ (q : Sort). operand_of w m item start o ≡ operand_by q y) e (named_is l w m item r start o x y h d n)
 
 -- its field lies below the last address, since it is loaded
-low_place : (m : Memory) (p : ℕ) (bs : List ℕ) → length bs ≡ 4 → Holds m p bs → p < 2 ^ 64
+pub low_place : (m : Memory) (p : ℕ) (bs : List ℕ) → length bs ≡ 4 → Holds m p bs → p < 2 ^ 64
 low_place m p bs four held =
     let z : p + 0 ≡ p = omega arith in
     byte_below m p (slice_index bs 0) (subst (λ (x : ℕ). byte_in m x ≡ Some (slice_index bs 0)) z (held 0 (omega (arith, four))))

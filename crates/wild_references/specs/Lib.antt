@@ -3,3 +3,4 @@ pub mod Laws
 pub mod Stubs
 pub mod Filled
 pub mod EffectLaws
+pub mod WordsAArch64

@@ -5,10 +5,12 @@ ghost use Rattle.wild_reloc.specs.declared.expression.Term.TheVariants as term;
 ghost use Rattle.wild_references.specs.Laws.{AddressesGive, AddressesGiveLinked, EntriesGive, ItemFieldsHold, PartsGive, PartsGiveLinked, SlotsGive, TermGives, TermGivesLinked, ThreadPlacesAreKnown};
 ghost use Rattle.wild_references.specs.Stubs.{StubsGoOn};
 ghost use Rattle.wild_references.specs.Filled.{FilledInstructionsDo};
+ghost use Rattle.wild_references.specs.WordsAArch64.{EachIsKept, KeptWordsDo};
 ghost use Rattle.wild_references.specs.EffectLaws.{InstructionsAreKept, ItemsHold, KeptInstructionsDo, OthersAreKept, PartnersHold, RewrittenAreFollowed, RewrittenHold, RewrittenStand, SequencesAreKept, WindowsAreAlone};
 
 use wild_geometry::machines_have_their_facts;
 use wild_loader::{stubs_are_read, stubs_of_words_are_read};
+use wild_meaning::wrong_words_are_refused;
 use wild_relax::{rewrites_keep_the_effect, rewrites_stay_in_their_patterns};
 use wild_reloc::widths_of_fields;
 
@@ -162,6 +164,14 @@ pub fn kept_instructions_do()
     ensures { KeptInstructionsDo }
 {
     other_bytes_are_kept();
+}
+
+/// No instruction of AArch64 is rewritten, and one of a single word does what it demands, by its field.
+pub fn kept_words_do()
+    ensures kept { EachIsKept }
+    ensures does { KeptWordsDo }
+{
+    wrong_words_are_refused();
 }
 
 /// Each reference of a loaded section holds.
