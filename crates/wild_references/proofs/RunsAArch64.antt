@@ -95,7 +95,7 @@ address_pair_does r a t x w0 w1 u0 u1 numbers is s0 s1 k0 decodes k1 at = by (d 
         let no : false ≡ true = rw e at none in
         cc)
     by false e = (
-        record { deed = Set (d w0); width = 64; value = t % 2 ^ 64 },
-        ap (λ (cs : List (Option Code)). option_and_then (effect (as_value t)) (option_and_then action_of (run cs a []))) words ∙ ap (λ o. option_and_then (effect (as_value t)) (option_and_then action_of o)) (address_run (d w0) a 0 0 e),
-        ap (λ (cs : List (Option Code)). option_and_then (effect r) (option_and_then action_of (run cs a []))) new ∙ ap (λ o. option_and_then (effect r) (option_and_then action_of o)) (address_run (d w0) a x (immediate Imm12Field u1) e) ∙ rw (at, numbers t) refl,
-      )
+      record { deed = Set (d w0); width = 64; value = t % 2 ^ 64 },
+      ap (λ (cs : List (Option Code)). option_and_then (effect (as_value t)) (option_and_then action_of (run cs a []))) words ∙ ap (λ o. option_and_then (effect (as_value t)) (option_and_then action_of o)) (address_run (d w0) a 0 0 e),
+      ap (λ (cs : List (Option Code)). option_and_then (effect r) (option_and_then action_of (run cs a []))) new ∙ ap (λ o. option_and_then (effect r) (option_and_then action_of o)) (address_run (d w0) a x (immediate Imm12Field u1) e) ∙ rw (at, numbers t) refl,
+    )

@@ -5,7 +5,7 @@ ghost use Rattle.wild_reloc.specs.declared.expression.Term.TheVariants as term;
 ghost use Rattle.wild_references.specs.Laws.{AddressesGive, AddressesGiveLinked, EntriesGive, ItemFieldsHold, PartsGive, PartsGiveLinked, SlotsGive, TermGives, TermGivesLinked, ThreadPlacesAreKnown};
 ghost use Rattle.wild_references.specs.Stubs.{StubsGoOn};
 ghost use Rattle.wild_references.specs.Filled.{FilledInstructionsDo};
-ghost use Rattle.wild_references.specs.WordsAArch64.{EachIsKept, KeptWordsDo};
+ghost use Rattle.wild_references.specs.WordsAArch64.{EachIsKept, KeptWordsDo, RunsAreKept};
 ghost use Rattle.wild_references.specs.EffectLaws.{InstructionsAreKept, ItemsHold, KeptInstructionsDo, OthersAreKept, PartnersHold, RewrittenAreFollowed, RewrittenHold, RewrittenStand, SequencesAreKept, WindowsAreAlone};
 
 use wild_geometry::machines_have_their_facts;
@@ -166,9 +166,11 @@ pub fn kept_instructions_do()
     other_bytes_are_kept();
 }
 
-/// No instruction of AArch64 is rewritten, and one of a single word does what it demands, by its field.
+/// No instruction of AArch64 is rewritten: all relocations of a sequence keep it, and an instruction of a single word does
+/// what it demands, by its field.
 pub fn kept_words_do()
     ensures kept { EachIsKept }
+    ensures runs { RunsAreKept }
     ensures does { KeptWordsDo }
 {
     wrong_words_are_refused();
