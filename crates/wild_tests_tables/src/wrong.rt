@@ -19,10 +19,7 @@ const WRONG: [(&str, &str); 59] = [
     ),
     (r#"{"options":{"relax":1}}"#, "/options/relax"),
     (r#"{"options":{"execstack":1}}"#, "/options/execstack"),
-    (
-        r#"{"options":{"strip_all":true,"bti":1}}"#,
-        "/options/bti",
-    ),
+    (r#"{"options":{"strip_all":true,"bti":1}}"#, "/options/bti"),
     (r#"{"options":{"relr":1}}"#, "/options/relr"),
     (
         r#"{"options":{"strip_all":true,"rpath":0,"static_tls":0}}"#,
