@@ -1,5 +1,5 @@
 -- Branches go where their words demand.
-use Rattle.std.proofs.Common.{ℕ, ◌+◌, ◌*◌, List, [], ◌∷◌, Some, sym, ap, ◌∙◌, arith}
+use Rattle.std.proofs.Common.{ℕ, ◌+◌, ◌*◌, ◌%◌, ◌^◌, List, [], ◌∷◌, Some, sym, ap, ◌∙◌, arith}
 use Rattle.wild_aarch64.proofs.ListLemmas.{for_each}
 use Rattle.wild_aarch64.specs.declared.code.Code.TheVariants.{BranchIf}
 use Rattle.wild_aarch64.specs.Slice.{Fixed, is, Form, form, signed}
@@ -7,23 +7,23 @@ use Rattle.wild_aarch64.specs.Forms.{branch, call}
 use Rattle.wild_aarch64.specs.Immediate.{kept, Imm14, Imm19, Imm26}
 use Rattle.wild_aarch64.specs.Row.{branches, branch_bits, distance}
 use Rattle.wild_aarch64.specs.Laws.{FieldIsWritten, BranchKeeps, BranchesKeep}
-use Rattle.wild_aarch64.proofs.NumberLemmas.{branch_lands, condition_lands, test_lands}
+use Rattle.wild_aarch64.proofs.NumberLemmas.{branch_goes, condition_goes, test_goes}
 use Rattle.wild_aarch64.proofs.FieldLemmas.{form_is_read, b_field, bl_field, b_cond_field, cbz_32_field, cbz_64_field, tbz_low_field, tbz_high_field}
 use Rattle.wild_aarch64.proofs.RunLemmas.{demands_b, demands_bl, demands_condition, b_runs, bl_runs, condition_runs}
 
 b_keeps : BranchKeeps branch
 b_keeps w reader numbers base a x v s t =
-    let code = t.placed.code in
-    let lands = branch_lands base a x t.near t.start t.goal (omega arith) t.placed.top in
-    let reads = numbers (base + x) ∙ ap (λ (i : ℕ). Some i) (sym t.placed.value) in
-    b_runs reader (base + a) _ _ (base + x) v (b_field w (branch_bits Imm26 (distance a x)) s) lands reads ∙ sym (demands_b v (base + a) w _ (form_is_read branch b_field w s))
+    let goes = branch_goes base a x t.near t.start t.goal in
+    let to = (base + x) % 2 ^ 64 in
+    let reads = numbers to ∙ ap (λ (i : ℕ). Some i) (sym t.placed) in
+    b_runs reader (base + a) _ _ to v (b_field w (branch_bits Imm26 (distance a x)) s) goes reads ∙ sym (demands_b v (base + a) w _ (form_is_read branch b_field w s))
 
 bl_keeps : BranchKeeps call
 bl_keeps w reader numbers base a x v s t =
-    let code = t.placed.code in
-    let lands = branch_lands base a x t.near t.start t.goal (omega arith) t.placed.top in
-    let reads = numbers (base + x) ∙ ap (λ (i : ℕ). Some i) (sym t.placed.value) in
-    bl_runs reader (base + a) _ _ (base + x) v (bl_field w (branch_bits Imm26 (distance a x)) s) lands reads ∙ sym (demands_bl v (base + a) w _ (form_is_read call bl_field w s))
+    let goes = branch_goes base a x t.near t.start t.goal in
+    let to = (base + x) % 2 ^ 64 in
+    let reads = numbers to ∙ ap (λ (i : ℕ). Some i) (sym t.placed) in
+    bl_runs reader (base + a) _ _ to v (bl_field w (branch_bits Imm26 (distance a x)) s) goes reads ∙ sym (demands_bl v (base + a) w _ (form_is_read call bl_field w s))
 
 -- conditional branches of 19 and of 14 bits
 abbrev far : List Fixed → Form
@@ -34,18 +34,18 @@ near fixed = form fixed Imm14 (λ w i. BranchIf (kept Imm14 w) (signed 16 (i * 4
 
 far_keeps : (fixed : List Fixed) → FieldIsWritten (far fixed) → BranchKeeps (far fixed)
 far_keeps fixed h w reader numbers base a x v s t =
-    let code = t.placed.code in
-    let lands = condition_lands base a x t.near t.start t.goal (omega arith) t.placed.top in
-    let reads = numbers (base + x) ∙ ap (λ (i : ℕ). Some i) (sym t.placed.value) in
-    condition_runs reader (base + a) _ (kept Imm19 w) _ (base + x) v (h w (branch_bits Imm19 (distance a x)) s) lands reads
+    let goes = condition_goes base a x t.near t.start t.goal in
+    let to = (base + x) % 2 ^ 64 in
+    let reads = numbers to ∙ ap (λ (i : ℕ). Some i) (sym t.placed) in
+    condition_runs reader (base + a) _ (kept Imm19 w) _ to v (h w (branch_bits Imm19 (distance a x)) s) goes reads
     ∙ sym (demands_condition v (base + a) w (kept Imm19 w) _ (form_is_read (far fixed) h w s))
 
 near_keeps : (fixed : List Fixed) → FieldIsWritten (near fixed) → BranchKeeps (near fixed)
 near_keeps fixed h w reader numbers base a x v s t =
-    let code = t.placed.code in
-    let lands = test_lands base a x t.near t.start t.goal (omega arith) t.placed.top in
-    let reads = numbers (base + x) ∙ ap (λ (i : ℕ). Some i) (sym t.placed.value) in
-    condition_runs reader (base + a) _ (kept Imm14 w) _ (base + x) v (h w (branch_bits Imm14 (distance a x)) s) lands reads
+    let goes = test_goes base a x t.near t.start t.goal in
+    let to = (base + x) % 2 ^ 64 in
+    let reads = numbers to ∙ ap (λ (i : ℕ). Some i) (sym t.placed) in
+    condition_runs reader (base + a) _ (kept Imm14 w) _ to v (h w (branch_bits Imm14 (distance a x)) s) goes reads
     ∙ sym (demands_condition v (base + a) w (kept Imm14 w) _ (form_is_read (near fixed) h w s))
 
 pub branches_keep : BranchesKeep

@@ -5,9 +5,9 @@ use Rattle.wild_aarch64.specs.declared.operand.Operand.TheVariants.{Number}
 use Rattle.wild_aarch64.specs.Slice.{bits, signed}
 use Rattle.wild_aarch64.specs.Immediate.{Imm16, Imm21, insert_bits, inserted}
 use Rattle.wild_aarch64.specs.Machine.{sum_64, page}
-use Rattle.wild_aarch64.specs.Row.{rows, call_to_offset, call_to_slot, slot_to_offset, address_to_near, distance, Within}
+use Rattle.wild_aarch64.specs.Row.{rows, call_to_offset, call_to_slot, slot_to_offset, address_to_near, distance, IsNear}
 use Rattle.wild_aarch64.specs.Laws.{RowKeeps, RowsKeep, RowIsStep, RowsAreSteps}
-use Rattle.wild_aarch64.proofs.NumberLemmas.{page_lands, slot_lands, near_lands, halves}
+use Rattle.wild_aarch64.proofs.NumberLemmas.{page_goes, slot_goes, near_goes, halves}
 use Rattle.wild_aarch64.proofs.WrittenLemmas.{adrp_word, adr_word, movz_word, movk_word, ldr_word}
 use Rattle.wild_aarch64.proofs.RunLemmas.{demands_call, demands_slot, demands_address, halves_run, halves_run_behind, load_runs_behind, near_runs_behind, offset_steps_behind, load_steps_behind, halves_step, near_steps_behind}
 
@@ -22,15 +22,14 @@ call_to_slot_keeps : RowKeeps call_to_slot
 call_to_slot_keeps r ws reader numbers base a x v low high old t =
     let place : base + (a + 4 + 4) ≡ base + a + 4 + 4 = omega arith in
     let at : a + 8 ≡ a + 4 + 4 = omega arith in
-    let code = t.0.code in
-    let near : Within (2 ^ 32) (page (a + 4 + 4)) (page x) = subst (λ (i : ℕ). Within (2 ^ 32) (page i) (page x)) at t.1 in
-    let lands = page_lands base (a + 4 + 4) x t.0.pages near (omega arith) t.0.top in
+    let near : IsNear (2 ^ 32) (page (a + 4 + 4)) (page x) = subst (λ (i : ℕ). IsNear (2 ^ 32) (page i) (page x)) at t.1 in
+    let goes = page_goes base (a + 4 + 4) x t.0.pages near in
     let i = distance (page (a + 4 + 4)) (page x) % 2 ^ 33 / 2 ^ 12 in
     let j = signed 33 (i % 2 ^ 21 * 4096) in
     let k = x % 2 ^ 12 / 2 ^ 3 in
-    let first : sum_64 (page (base + a + 4 + 4)) j ≡ base + page x = ap (λ (n : ℕ). sum_64 (page n) j) (sym place) ∙ lands in
-    load_runs_behind reader (base + a) _ _ j (k % 2 ^ 12 * 8) (base + x) v (adrp_word 0 i (omega arith)) (ldr_word 0 0 k (omega arith) (omega arith))
-    (ap (λ (n : ℕ). sum_64 n (k % 2 ^ 12 * 8)) first ∙ slot_lands base x t.0.aligned t.0.top) t.0.slot
+    let first : sum_64 (page (base + a + 4 + 4)) j ≡ (base + page x) % 2 ^ 64 = ap (λ (n : ℕ). sum_64 (page n) j) (sym place) ∙ goes in
+    load_runs_behind reader (base + a) _ _ j (k % 2 ^ 12 * 8) ((base + x) % 2 ^ 64) v (adrp_word 0 i (omega arith)) (ldr_word 0 0 k (omega arith) (omega arith))
+    (ap (λ (n : ℕ). sum_64 n (k % 2 ^ 12 * 8)) first ∙ slot_goes base x t.0.aligned) t.0.slot
     ∙ sym (demands_call r v (base + a) ws low high old)
 
 slot_to_offset_keeps : RowKeeps slot_to_offset
@@ -43,10 +42,9 @@ slot_to_offset_keeps r ws reader numbers base a x v low high old t =
 address_to_near_keeps : RowKeeps address_to_near
 address_to_near_keeps r ws reader numbers base a x v low high old t =
     let place : base + (a + 4) ≡ base + a + 4 = omega arith in
-    let code = t.0.code in
-    let lands = near_lands base (a + 4) x t.1 (omega arith) t.0.top in
     let j = signed 21 (distance (a + 4) x % 2 ^ 21 % 2 ^ 21) in
-    near_runs_behind reader r (base + a) _ j (base + x) v high (adr_word r (distance (a + 4) x % 2 ^ 21) (omega arith)) (ap (λ (i : ℕ). sum_64 i j) (sym place) ∙ lands) (numbers (base + x) ∙ ap (λ (i : ℕ). Some i) (sym t.0.value))
+    let to = (base + x) % 2 ^ 64 in
+    near_runs_behind reader r (base + a) _ j to v high (adr_word r (distance (a + 4) x % 2 ^ 21) (omega arith)) (ap (λ (i : ℕ). sum_64 i j) (sym place) ∙ near_goes base (a + 4) x t.1) (numbers to ∙ ap (λ (i : ℕ). Some i) (sym t.0))
     ∙ sym (demands_address r v (base + a) ws high old)
 
 pub rows_keep : RowsKeep

@@ -5,7 +5,7 @@
 --   Target, Comes         what the fields come from, and what it stands for in the loaded image
 --   Row, rows             the table
 --   branches, IsReached   branches, whose words stay but for their field
-use Rattle.std.specs.Prelude.{◌≡◌, ℕ, ◌+◌, ◌-◌, ◌*◌, ◌/◌, ◌%◌, ◌^◌, ◌<◌, ◌≤◌, Bool, true, false, if◌then◌else◌, List, [], ◌∷◌, Some}
+use Rattle.std.specs.Prelude.{◌≡◌, ℕ, ◌+◌, ◌-◌, ◌*◌, ◌/◌, ◌%◌, ◌^◌, ◌<◌, ◌≤◌, ◌⊎◌, Bool, true, false, if◌then◌else◌, List, [], ◌∷◌, Some}
 use Rattle.wild_aarch64.specs.declared.code.Code.{Code}
 use Rattle.wild_aarch64.specs.declared.operand.Operand.TheVariants.{Word}
 use Rattle.wild_aarch64.specs.declared.template.Template.TheVariants as templates
@@ -71,25 +71,26 @@ pub record Within (half p s : ℕ) : Type 0 where
   pub above : p ≤ s + half
   pub below : s < p + half
 
--- the code at a and the address x stand base above where they are linked, and v is x there
-pub record IsPlaced (base a x v : ℕ) : Type 0 where
-  pub code : base + a + 16 < 2 ^ 64
-  pub top : base + x < 2 ^ 64
-  pub value : v ≡ base + x
+-- the same of addresses, which are counted modulo 2^64
+pub record IsNear (half p s : ℕ) : Type 0 where
+  pub origin : p ≤ 2 ^ 64
+  pub near : (distance p s < half) ⊎ (2 ^ 64 ≤ distance p s + half)
 
--- the same of a slot, which reads as v; the image moves by whole pages
-pub record IsRead (reader : Reader) (base a x v : ℕ) : Type 0 where
+-- v is where the linked address x stands in an image that is loaded base above its addresses
+abbrev pub IsPlaced : ℕ → ℕ → ℕ → Type 0
+IsPlaced base x v = v ≡ (base + x) % 2 ^ 64
+
+-- a slot reads as v there; the image moves by whole pages
+pub record IsRead (reader : Reader) (base x v : ℕ) : Type 0 where
   pub aligned : x % 8 ≡ 0
   pub pages : base % 4096 ≡ 0
-  pub code : base + a + 16 < 2 ^ 64
-  pub top : base + x < 2 ^ 64
-  pub slot : reader (Word (base + x)) ≡ Some v
+  pub slot : reader (Word ((base + x) % 2 ^ 64)) ≡ Some v
 
--- v is what the target stands for; x is what the fields are made of
+-- v is what the target stands for; x is what the fields of code at a are made of
 abbrev pub Comes : Target → Reader → ℕ → ℕ → ℕ → ℕ → Type 0
 Comes ThreadOffset reader base a x v = (x < 2 ^ 32) × (v ≡ x)
-Comes OffsetSlot reader base a x v = IsRead reader base a x v × Within (2 ^ 32) (page (a + 8)) (page x)
-Comes (Address k) reader base a x v = IsPlaced base a x v × Within (2 ^ 20) (a + k) x
+Comes OffsetSlot reader base a x v = IsRead reader base x v × IsNear (2 ^ 32) (page (a + 8)) (page x)
+Comes (Address k) reader base a x v = IsPlaced base x v × IsNear (2 ^ 20) (a + k) x
 
 -- ---- the table
 
@@ -145,7 +146,7 @@ branch_bits field j = j % (2 * reach_of field) / 2 ^ 2
 
 -- a branch at a to x, both in the image that stands base above where it is linked; v is x there
 pub record IsReached (field : Field) (base a x v : ℕ) : Type 0 where
-  pub placed : IsPlaced base a x v
-  pub near : Within (reach_of field) a x
+  pub placed : IsPlaced base x v
+  pub near : IsNear (reach_of field) a x
   pub start : a % 4 ≡ 0
   pub goal : x % 4 ≡ 0

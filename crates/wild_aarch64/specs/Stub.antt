@@ -31,10 +31,11 @@ pub record HasSlot (p g : ℕ) : Type 0 where
   pub near : g < page p + 2 ^ 32
   pub aligned : g % 8 ≡ 0
 
--- the image stands base above where it is linked, base a multiple of a page; code of 16 bytes at p and the address g do not wrap there
+-- the image stands base above where it is linked, base a multiple of a page; code of three words at p, or of four, and the address g do
+-- not wrap there
 pub record StandsAt (base p g : ℕ) : Type 0 where
   pub pages : base % 4096 ≡ 0
-  pub code : base + p + 16 < 2 ^ 64
+  pub code : base + p + 12 ≤ 2 ^ 64
   pub top : base + g < 2 ^ 64
 
 abbrev pub StubsJump : Type 0

@@ -1,5 +1,5 @@
 -- The image of the worked program with a copied symbol is linked in its world.
-use Rattle.std.proofs.Common.{◌≡◌, ℕ, zero, suc, ◌+◌, ◌-◌, ◌<◌, ◌≤◌, ◌⊎◌, inl, inr, ◌==◌, true, false, List, [], ◌∷◌, refl, sym, ap, ◌∙◌, subst, arith}
+use Rattle.std.proofs.Common.{if◌then◌else◌, Bool, ◌≡◌, ℕ, zero, suc, ◌+◌, ◌-◌, ◌<◌, ◌≤◌, ◌⊎◌, inl, inr, ◌==◌, true, false, List, [], ◌∷◌, refl, sym, ap, ◌∙◌, subst, arith}
 use Rattle.std.specs.Prelude.{Some, None, Contains, All, slice_index_or, replicate}
 use Rattle.std.proofs.lemmas.Bool.{eqb-false}
 use Rattle.std.proofs.lemmas.List.{get_or-replicate}
@@ -26,7 +26,7 @@ use Rattle.wild_loader.specs.Tables.{first_dynamic}
 use Rattle.wild_meaning.specs.Value.{HasValue}
 use Rattle.wild_meaning.specs.Section.{HasFileBytes}
 use Rattle.wild_meaning.specs.World.{HasCopy, IsBehind}
-use Rattle.wild_types.specs.Item.{Item, item_of}
+use Rattle.wild_types.specs.Item.{Item, item_of, item_with}
 use Rattle.wild_meaning.specs.Item.{IsInput, IsKept, OfSection}
 use Rattle.wild_meaning.specs.Reference.{IsLinkedAlone, ReferenceHolds, ItemHolds}
 use Rattle.wild_meaning.specs.Segments.{headers_in, AreTold}
@@ -97,13 +97,25 @@ listed_in s h =
     by s f (suc zero) lt e listed = absurd (let none : Contains [] s = subst (λ (g : File). Contains g.sections s) (sym e) listed in omega (arith, none.1))
     by s f (suc (suc k)) lt e listed = absurd (omega (arith, lt))
 
+-- whose branches go by block 0
+in_block : (s : InputSection) (h : IsInput copying s) → item_of copying h.file s ≡ item_with 0 s
+in_block s h =
+    let group : group_of (copying_object ∷ copying_library ∷ []) ≡ h.group = only _ h.group h.grouped in
+    let filed : Contains (copying_object ∷ copying_library ∷ []) h.file = subst (λ (g : Group). Contains g.files h.file) (sym group) h.filed in
+    let first : h.file.thunk_block ≡ 0 = All-contains (λ (f : File). f.thunk_block ≡ 0) (copying_object ∷ copying_library ∷ []) h.file (All-from_recursion (λ (f : File). f.thunk_block ≡ 0) (copying_object ∷ copying_library ∷ []) (refl, (refl, tt))) filed in
+    ap (λ (k : ℕ). item_with k s) (by (s.part == copying.primary_part) h.file.thunk_block first)
+  where
+    by : (b : Bool) (n : ℕ) → n ≡ 0 → (if b then n else 0) ≡ 0
+    by true n e = e
+    by false n e = refl
+
 abbrev SectionHolds : InputSection → Type 0
-SectionHolds s = s.nobits ≡ false → ItemHolds copying copying_world copying_memory (item_of s)
+SectionHolds s = s.nobits ≡ false → ItemHolds copying copying_world copying_memory (item_with 0 s)
 
 items_hold : (item : Item) → IsKept copying item → ItemHolds copying copying_world copying_memory item
 items_hold item (OfSection s kept is) =
     let there : SectionHolds s = All-contains SectionHolds sections s (All-from_recursion SectionHolds sections ((λ e. item_holds), ((λ e. absurd (let both : true ≡ false = e in cc)), tt))) (listed_in s kept.input) in
-    subst (λ (i : Item). ItemHolds copying copying_world copying_memory i) (sym is) (there kept.has_data)
+    subst (λ (i : Item). ItemHolds copying copying_world copying_memory i) (sym (is ∙ in_block s kept.input)) (there kept.has_data)
 
 -- ---- zeros
 

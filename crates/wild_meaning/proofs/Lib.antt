@@ -17,7 +17,7 @@ mod StaticLegal
 mod StaticRefused
 mod Meant
 pub mod AmongLemmas
-mod OneReference
+pub mod OneReference
 pub mod PairLemmas
 mod CodeRefused
 mod SequenceRefused
@@ -28,10 +28,10 @@ mod CopyLoaded
 mod CopyLinked
 mod SegmentsRefused
 mod WordsRefused
-mod InstructionsAArch64
+pub mod InstructionsAArch64
 mod WordsLegal
 mod WordsLoaded
 mod WordsTemplates
 mod WordsLinked
 mod WordsCodeRefused
-mod MovesAArch64
+mod WordsUnknown

@@ -157,12 +157,12 @@ are_met l i n o (inl t) number h = subst (λ (cs : List Condition). AreMet l i c
 are_met l i n o (inr t) number h = subst (λ (cs : List Condition). AreMet l i cs) (sym t.1) (h.executable, (h.plain, tt))
 
 -- the relocations of a list with one partner
-record IsOnly (l : Layout) (item : Item) (first : InputRelocation) (start index : ℕ) (p : Partner) (rest : List InputRelocation) : Type 0 where
-  second : InputRelocation
-  is : rest ≡ second ∷ []
-  has : HasPartner l item first second start index p
+pub record IsOnly (l : Layout) (item : Item) (first : InputRelocation) (start index : ℕ) (p : Partner) (rest : List InputRelocation) : Type 0 where
+  pub second : InputRelocation
+  pub is : rest ≡ second ∷ []
+  pub has : HasPartner l item first second start index p
 
-only : (l : Layout) (item : Item) (first : InputRelocation) (start index : ℕ) (p : Partner) (rest : List InputRelocation) → HasPartners l item first start index (p ∷ []) rest → IsOnly l item first start index p rest
+pub only : (l : Layout) (item : Item) (first : InputRelocation) (start index : ℕ) (p : Partner) (rest : List InputRelocation) → HasPartners l item first start index (p ∷ []) rest → IsOnly l item first start index p rest
 only l item first start index p [] h = absurd h
 only l item first start index p (r ∷ []) h = record { second = r; is = refl; has = h.0 }
 only l item first start index p (r ∷ s ∷ rs) h = absurd h.1

@@ -1,5 +1,5 @@
 -- The image of the worked program without a dynamic linker is linked in its world.
-use Rattle.std.proofs.Common.{◌≡◌, ℕ, zero, suc, ◌+◌, ◌-◌, ◌%◌, ◌^◌, ◌<◌, ◌≤◌, ◌⊎◌, inl, inr, true, false, List, [], ◌∷◌, length, refl, sym, ◌∙◌, subst, arith}
+use Rattle.std.proofs.Common.{◌==◌, if◌then◌else◌, Bool, ◌≡◌, ℕ, zero, suc, ◌+◌, ◌-◌, ◌%◌, ◌^◌, ◌<◌, ◌≤◌, ◌⊎◌, inl, inr, true, false, List, [], ◌∷◌, length, refl, sym, ap, ◌∙◌, subst, arith}
 use Rattle.std.specs.Prelude.{Some, None, Contains, All, slice_index}
 use Rattle.std.proofs.lemmas.List.Elements.{All-from_recursion, All-contains}
 use lib.IntN.{pos}
@@ -26,7 +26,7 @@ use Rattle.wild_loader.specs.Instruction.{as_value}
 use Rattle.wild_loader.specs.InstructionX86_64.{meaning_x86_64, effect_x86_64}
 use Rattle.wild_meaning.specs.Value.{IsDefinedBy, IsSymbol, HasValue}
 use Rattle.wild_meaning.specs.Thread.{HasThreadOffset}
-use Rattle.wild_types.specs.Item.{Item, item_of}
+use Rattle.wild_types.specs.Item.{Item, item_of, item_with}
 use Rattle.wild_meaning.specs.Item.{IsInput, IsKept, OfSection}
 use Rattle.wild_meaning.specs.Template.{DoesDemanded, reads_alone}
 use Rattle.wild_meaning.specs.Reference.{IsLinkedAlone, IsOther, ReferenceHolds, ItemHolds}
@@ -355,13 +355,25 @@ listed_in s h =
     let file = only (file_of file_role.Object sections []) h.file filed in
     subst (λ (f : File). Contains f.sections s) (sym file) h.listed
 
+-- whose branches go by block 0
+in_block : (s : InputSection) (h : IsInput static_pie s) → item_of static_pie h.file s ≡ item_with 0 s
+in_block s h =
+    let group : group_of (file_of file_role.Object sections [] ∷ []) ≡ h.group = only _ h.group h.grouped in
+    let filed : Contains (file_of file_role.Object sections [] ∷ []) h.file = subst (λ (g : Group). Contains g.files h.file) (sym group) h.filed in
+    let first : h.file.thunk_block ≡ 0 = All-contains (λ (f : File). f.thunk_block ≡ 0) (file_of file_role.Object sections [] ∷ []) h.file (All-from_recursion (λ (f : File). f.thunk_block ≡ 0) (file_of file_role.Object sections [] ∷ []) (refl, tt)) filed in
+    ap (λ (k : ℕ). item_with k s) (by (s.part == static_pie.primary_part) h.file.thunk_block first)
+  where
+    by : (b : Bool) (n : ℕ) → n ≡ 0 → (if b then n else 0) ≡ 0
+    by true n e = e
+    by false n e = refl
+
 abbrev SectionHolds : InputSection → Type 0
-SectionHolds s = ItemHolds static_pie static_pie_world static_memory (item_of s)
+SectionHolds s = ItemHolds static_pie static_pie_world static_memory (item_with 0 s)
 
 items_hold : (item : Item) → IsKept static_pie item → ItemHolds static_pie static_pie_world static_memory item
 items_hold item (OfSection s kept is) =
     let there : SectionHolds s = All-contains SectionHolds sections s (All-from_recursion SectionHolds sections (branch_item_holds, (load_item_holds, (general_item_holds, (described_item_holds, (static_item_holds, tt)))))) (listed_in s kept.input) in
-    subst (λ (i : Item). ItemHolds static_pie static_pie_world static_memory i) (sym is) there
+    subst (λ (i : Item). ItemHolds static_pie static_pie_world static_memory i) (sym (is ∙ in_block s kept.input)) there
 
 abbrev HasData : InputSection → Type 0
 HasData s = s.nobits ≡ false

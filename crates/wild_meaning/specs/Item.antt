@@ -47,5 +47,5 @@ pub record IsKeptSection (l : Layout) (s : InputSection) : Type 0 where
 
 -- an item of the layout that stands in memory: what it is made of
 pub data IsKept (l : Layout) (item : Item) : Type 0 where
-  -- an input section
-  OfSection : (s : InputSection) → IsKeptSection l s → item ≡ item_of s → IsKept l item
+  -- an input section, with the block of thunks that its file has for it
+  OfSection : (s : InputSection) (k : IsKeptSection l s) → item ≡ item_of l k.input.file s → IsKept l item

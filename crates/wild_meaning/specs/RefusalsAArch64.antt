@@ -4,14 +4,15 @@
 --   WrongWordsAreRefused   wrong ones
 --   CutBitsAreRefused      a value that its field can't have, whatever stands there
 --   SlotAddendsAreRefused  an addend at a symbol's slot
---   OtherWordsStay         which words are taken for others
+--   NegatedMovesAreUnknown `movn` is no instruction of a reference
+--   ShiftedAddsAreUnknown  nor is `add` of a shifted number the second word of a page pair
 --   PairsAreExcepted       the low bits of an address are asked where its page is
-use Rattle.std.specs.Prelude.{◌≡◌, ◌≢◌, ℕ, ◌+◌, ◌-◌, ◌%◌, ◌^◌, ◌<◌, ◌≤◌, true, List, [], ◌∷◌, Some, None}
+use Rattle.std.specs.Prelude.{◌≡◌, ◌≢◌, ℕ, ◌+◌, ◌-◌, ◌%◌, ◌^◌, ◌<◌, ◌≤◌, true, false, List, [], ◌∷◌, Some, None}
 use Rattle.std.specs.Int.{w64, cast_unsigned}
 use Rattle.std.specs.List.{flat_map}
 use Rattle.wild_words.specs.Words.{word}
 use Rattle.wild_records.specs.Abi.Section.{shf_execinstr}
-use Rattle.wild_records.specs.Abi.Relocation.{r_aarch64_movw_uabs_g0, r_aarch64_adr_prel_lo21, r_aarch64_adr_got_page, r_aarch64_ld64_got_lo12_nc, r_aarch64_tlsle_movw_tprel_g1, r_aarch64_tlsle_movw_tprel_g2}
+use Rattle.wild_records.specs.Abi.Relocation.{r_aarch64_movw_uabs_g0, r_aarch64_adr_prel_lo21, r_aarch64_adr_got_page, r_aarch64_ld64_got_lo12_nc, r_aarch64_tlsle_movw_tprel_g1}
 use Rattle.wild_types.specs.declared.kind.Machine.TheVariants as machine
 use Rattle.wild_types.specs.declared.input.InputRelocation.{InputRelocation}
 use Rattle.wild_types.specs.declared.layout.Layout.{Layout}
@@ -21,8 +22,9 @@ use Rattle.wild_loader.specs.declared.world.World.{World}
 use Rattle.wild_loader.specs.Memory.{number_in, Holds}
 use Rattle.wild_loader.specs.Reach.{Reaches}
 use Rattle.wild_types.specs.Item.{Item}
-use Rattle.wild_aarch64.specs.Filled.{forms_filled}
-use Rattle.wild_meaning.specs.WordsAArch64.{is_of, with_zeros}
+use Rattle.wild_aarch64.specs.Slice.{stands}
+use Rattle.wild_aarch64.specs.Forms.{add_shifted, movn}
+use Rattle.wild_meaning.specs.WordsAArch64.{is_filled}
 use Rattle.wild_meaning.specs.World.{IsMovable}
 use Rattle.wild_meaning.specs.Value.{IsAbsolute}
 use Rattle.wild_meaning.specs.Item.{place_at}
@@ -32,7 +34,7 @@ use Rattle.wild_meaning.specs.Reference.{ReferenceHolds, IsExcepted}
 
 -- code of these words, which no relocation fills here
 abbrev pub code_of : ℕ → List ℕ → Item
-code_of address ws = record { address = address; flags = shf_execinstr; bytes = flat_map (word 4) ws; relocations = [] }
+code_of address ws = record { address = address; flags = shf_execinstr; bytes = flat_map (word 4) ws; relocations = []; thunk_block = 0 }
 
 -- the words in memory, in place of the item's, do what its instruction demands where its operand reads as v
 abbrev pub Does : Item → Instruction → ℕ → List ℕ → Type 0
@@ -51,9 +53,9 @@ slot_item = code_of 0x10000 (0x90000000 ∷ 0xf9400000 ∷ [])
 abbrev pub pair_item : Item
 pair_item = code_of 0x10000 (0x90000000 ∷ 0x91000000 ∷ [])
 
--- `movn x0, lsl 16`, whose type has bits of an offset
+-- `movz x0, lsl 16`, whose type has bits of an offset
 abbrev pub move_item : Item
-move_item = code_of 0x10000 (0x92a00000 ∷ [])
+move_item = code_of 0x10000 (0xd2a00000 ∷ [])
 
 abbrev pub move_word : Instruction
 move_word = of_word FieldBits r_aarch64_tlsle_movw_tprel_g1
@@ -94,6 +96,10 @@ pub record SlotAddendsAreRefused : Type 0 where
 abbrev pub PairsAreExcepted : Type 0
 PairsAreExcepted = (l : Layout) (item : Item) (r first : InputRelocation) (start i : ℕ) → IsTemplate l item r start address_pair_words first → IsMovable l.kind → r.symbol ≡ Some i → IsAbsolute l i → IsExcepted l item r
 
--- no word is taken for another one but under the two types that fill `movn`
-abbrev pub OtherWordsStay : Type 0
-OtherWordsStay = (n w : ℕ) → is_of (forms_filled n) w ≡ true → n ≢ r_aarch64_tlsle_movw_tprel_g2 → n ≢ r_aarch64_tlsle_movw_tprel_g1 → with_zeros w ≡ w
+-- what `movn` does is not told, so that none is an instruction that a relocation type fills
+abbrev pub NegatedMovesAreUnknown : Type 0
+NegatedMovesAreUnknown = (n w : ℕ) → stands movn.fixed w ≡ true → is_filled n (w ∷ []) ≡ false
+
+-- R_AARCH64_ADD_ABS_LO12_NC fills no `add` of a number that is shifted by 12
+abbrev pub ShiftedAddsAreUnknown : Type 0
+ShiftedAddsAreUnknown = (w u : ℕ) → stands add_shifted.fixed u ≡ true → address_pair_words.words (w ∷ u ∷ []) ≡ false

@@ -7,6 +7,7 @@
 --   instructions_of m  those of a machine
 --   IsOwnByte o k      byte k of an instruction is in none of its fields
 use Rattle.std.specs.Prelude.{ℕ, zero, suc, ◌+◌, ◌<◌, ◌≤◌, ◌⊎◌, ⊤, Bool, true, List, [], ◌∷◌, ◌++◌, length, map}
+use Rattle.std.specs.List.{flat_map}
 use Rattle.wild_records.specs.Abi.Relocation.{r_x86_64_pc32, r_x86_64_plt32, r_x86_64_gotpcrel, r_x86_64_gotpcrelx, r_x86_64_rex_gotpcrelx, r_x86_64_code_4_gotpcrelx, r_x86_64_gottpoff, r_x86_64_code_4_gottpoff, r_x86_64_gotpc32_tlsdesc, r_x86_64_code_4_gotpc32_tlsdesc, r_x86_64_tlsdesc_call, r_x86_64_tlsgd, r_x86_64_tlsld, r_x86_64_pltoff64, r_aarch64_jump26, r_aarch64_call26, r_aarch64_adr_prel_pg_hi21, r_aarch64_add_abs_lo12_nc, r_aarch64_tlsie_adr_gottprel_page21, r_aarch64_tlsie_ld64_gottprel_lo12_nc, r_aarch64_tlsdesc_adr_page21, r_aarch64_tlsdesc_ld64_lo12, r_aarch64_tlsdesc_add_lo12, r_aarch64_tlsdesc_call}
 use Rattle.wild_types.specs.declared.kind.Machine.{Machine}
 use Rattle.wild_types.specs.declared.kind.Machine.TheVariants as machine
@@ -185,11 +186,11 @@ bytes_of (suc n) = does_nothing (field ++ (bytes_of n).cells)
 abbrev pub of_word : Sort → ℕ → Instruction
 of_word sort n = record { template = bytes_of 1; words = is_filled n; field = 0; width = 4; sort = sort; numbers = n ∷ []; partners = []; conditions = [] }
 
--- a run of words of that kind, the first of them with its relocation type
+-- a run of words of that kind, the first of them with its relocation type, each further one with its partner's
 abbrev pub of_words : runs.Template → ℕ → Sort → ℕ → List Condition → List Partner → Instruction
 of_words run words sort number conditions partners = record {
   template = bytes_of words;
-  words = is_run run;
+  words = is_run run (number ∷ flat_map (λ (p : Partner). p.numbers) partners);
   field = 0;
   width = 4;
   sort = sort;

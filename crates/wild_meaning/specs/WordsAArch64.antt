@@ -1,18 +1,17 @@
 -- The words of AArch64 code that relocations fill; which instruction a word is, and what it does, is told by `wild_aarch64`.
 --   is_filled n ws    the words are one that a relocation type fills, and what it does is told
 --   filled_numbers    the relocation types that fill one word alone
---   is_run t ws       the words are a run of a kind, whatever their fields have
+--   is_run t ns ws    the words are a run of a kind, each one that its relocation type fills
 --   with_field v w    the word with those bits in its field
---   with_zeros w      the word, `movz` for `movn`
 --   effect_with ..    what words are to do with those bits in their fields
-use Rattle.std.specs.Prelude.{ℕ, ◌+◌, ◌^◌, Bool, true, false, ◌&&◌, ◌||◌, not, ◌==◌, if◌then◌else◌, List, [], ◌∷◌, map, Option, Some, None, option_and_then}
+use Rattle.std.specs.Prelude.{ℕ, Bool, true, false, ◌&&◌, ◌||◌, not, ◌==◌, if◌then◌else◌, List, [], ◌∷◌, map, Option, Some, None, option_and_then}
 use Rattle.std.specs.List.{list_all, filter}
 use Rattle.wild_records.specs.Abi.Relocation.{r_aarch64_jump26, r_aarch64_call26}
 use Rattle.wild_aarch64.specs.declared.template.Template.{Template}
 use Rattle.wild_aarch64.specs.declared.operand.Action as run-action
 use Rattle.wild_aarch64.specs.Immediate.{inserted}
 use Rattle.wild_aarch64.specs.Slice.{Form, stands}
-use Rattle.wild_aarch64.specs.Forms.{movn, forms}
+use Rattle.wild_aarch64.specs.Forms.{forms}
 use Rattle.wild_aarch64.specs.Filled.{filled_forms, forms_filled}
 use Rattle.wild_aarch64.specs.Code.{read}
 use Rattle.wild_aarch64.specs.Machine.{run, meaning}
@@ -31,18 +30,25 @@ abbrev pub is_told : Option run-action.Action → Bool
 is_told None = false
 is_told (Some act) = true
 
--- `movz` for `movn`: a type that fills either says by the sign of its number which one is to stand, and a number that is not negative asks for
--- `movz`, whichever the input has (aaelf64, "Static AArch64 relocations": MOV[NZ])
-abbrev pub with_zeros : ℕ → ℕ
-with_zeros w = if stands movn.fixed w then w + 2 ^ 30 else w
-
--- the words are of the forms that a relocation type fills, and what they do is told, whatever their fields have
+-- the words are of the forms that a relocation type fills, and what they do is told, whatever their fields have; of `movn` nothing is told
 abbrev pub is_filled : ℕ → List ℕ → Bool
-is_filled n ws = list_all (is_of (forms_filled n)) ws && is_told (run (shapes (map with_zeros ws)) 0 [])
+is_filled n ws = list_all (is_of (forms_filled n)) ws && is_told (run (shapes ws) 0 [])
 
--- the words begin with a run of that kind, for the register that the second one sets, and what it does is told
-abbrev pub is_run : Template → List ℕ → Bool
-is_run t ws = begins (codes_of t (register_in ws)) (map read ws) && is_told (run (shapes ws) 0 [])
+-- the word is of one of the forms, or there is none: the call through a descriptor has no field (aaelf64, "Relocations for thread-local
+-- storage": R_AARCH64_TLSDESC_CALL)
+abbrev pub may_be_of : List Form → ℕ → Bool
+may_be_of [] w = true
+may_be_of fs w = is_of fs w
+
+-- each word is one that its relocation type fills
+abbrev pub are_filled : List ℕ → List ℕ → Bool
+are_filled [] [] = true
+are_filled (n ∷ ns) (w ∷ ws) = may_be_of (forms_filled n) w && are_filled ns ws
+are_filled ns ws = false
+
+-- the words are a run of that kind, for the register that the second one sets, with those relocation types, and what it does is told
+abbrev pub is_run : Template → List ℕ → List ℕ → Bool
+is_run t ns ws = are_filled ns ws && (begins (codes_of t (register_in ws)) (map read ws) && is_told (run (shapes ws) 0 []))
 
 -- the relocation types that fill words, those of branches to code aside, which go to what stands for a symbol
 abbrev pub filled_numbers : List ℕ
@@ -63,4 +69,4 @@ reads_numbers other = None
 
 -- what the code of those bytes is to do at an address with those bits in its words' fields
 abbrev pub effect_with : ℕ → ℕ → List ℕ → Option Effect
-effect_with v a bs = option_and_then (effect reads_numbers) (option_and_then action_of (meaning a (map (λ w. with_field v (with_zeros w)) (words_of bs))))
+effect_with v a bs = option_and_then (effect reads_numbers) (option_and_then action_of (meaning a (map (with_field v) (words_of bs))))

@@ -17,7 +17,7 @@ use Rattle.wild_types.specs.declared.input.InputSection.{InputSection}
 use Rattle.wild_types.specs.declared.layout.Entry.TheVariants as entry
 use Rattle.wild_types.specs.declared.layout.Layout.{Layout}
 use Rattle.wild_loader.specs.declared.world.World.{World}
-use Rattle.wild_types.specs.Item.{Item, item_of}
+use Rattle.wild_types.specs.Item.{Item, item_with}
 use Rattle.wild_meaning.specs.Worked.{given, reference, input, one_file, loaded}
 
 -- a function with a slot (NON_INTERPOSABLE, GOT), and thread-local data (NON_INTERPOSABLE)
@@ -82,22 +82,22 @@ abbrev pub kept_code : InputSection
 kept_code = input 0x11040 6 (0 ∷ 0 ∷ 0 ∷ 0x90 ∷ 0 ∷ 0 ∷ 0 ∷ 0x91 ∷ []) (page_reference ∷ low_reference ∷ [])
 
 abbrev pub address_item : Item
-address_item = item_of address_code
+address_item = item_with 0 address_code
 
 abbrev pub slot_item : Item
-slot_item = item_of slot_code
+slot_item = item_with 0 slot_code
 
 abbrev pub call_item : Item
-call_item = item_of call_code
+call_item = item_with 0 call_code
 
 abbrev pub past_item : Item
-past_item = item_of past_code
+past_item = item_with 0 past_code
 
 abbrev pub descriptor_item : Item
-descriptor_item = item_of descriptor_code
+descriptor_item = item_with 0 descriptor_code
 
 abbrev pub kept_item : Item
-kept_item = item_of kept_code
+kept_item = item_with 0 kept_code
 
 -- the layout: code from 0x11000 on, a thunk at 0x11060, slots at 0x11080, thread-local data from 0x30000 to 0x30010
 abbrev pub words_static : Layout

@@ -17,7 +17,7 @@ use Rattle.wild_types.specs.declared.layout.Entry.TheVariants as entry
 use Rattle.wild_types.specs.declared.layout.Layout.{Layout}
 use Rattle.wild_loader.specs.declared.world.Answer.{Answer}
 use Rattle.wild_loader.specs.declared.world.World.{World}
-use Rattle.wild_types.specs.Item.{Item, item_of}
+use Rattle.wild_types.specs.Item.{Item, item_with}
 use Rattle.wild_meaning.specs.Worked.{given, reference, input, blank, file_of, group_of, loaded, dynamic_at}
 
 -- a library's symbol of 8 bytes, which is copied (DYNAMIC, COPY_RELOCATION)
@@ -33,7 +33,7 @@ abbrev pub copying_data : InputSection
 copying_data = input 0x1000 3 (0 ∷ 0 ∷ 0 ∷ 0 ∷ 0 ∷ 0 ∷ 0 ∷ 0 ∷ []) (reference 0 r_x86_64_64 0 (pos 0) ∷ [])
 
 abbrev pub copying_item : Item
-copying_item = item_of copying_data
+copying_item = item_with 0 copying_data
 
 -- data that are 0, behind file bytes; the copied symbol stands in them
 abbrev pub copying_blank : InputSection

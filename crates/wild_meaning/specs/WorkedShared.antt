@@ -15,7 +15,7 @@ use Rattle.wild_types.specs.declared.input.InputSection.{InputSection}
 use Rattle.wild_types.specs.declared.layout.Layout.{Layout}
 use Rattle.wild_loader.specs.declared.world.Answer.{Answer}
 use Rattle.wild_loader.specs.declared.world.World.{World}
-use Rattle.wild_types.specs.Item.{Item, item_of}
+use Rattle.wild_types.specs.Item.{Item, item_with}
 use Rattle.wild_meaning.specs.Worked.{given, reference, input, one_file, loaded, dynamic_at}
 
 -- its own symbol, with a slot (NON_INTERPOSABLE, GOT)
@@ -65,7 +65,7 @@ abbrev pub shared_data : InputSection
 shared_data = input 0x1000 3 shared_bytes shared_references
 
 abbrev pub shared_item : Item
-shared_item = item_of shared_data
+shared_item = item_with 0 shared_data
 
 -- `lea rax, [rip + descriptor]`
 abbrev pub shared_reference : InputRelocation
@@ -75,7 +75,7 @@ abbrev pub shared_code : InputSection
 shared_code = input 0x1080 6 (0x48 ∷ 0x8d ∷ 0x05 ∷ 0 ∷ 0 ∷ 0 ∷ 0 ∷ 0xc3 ∷ 0xc3 ∷ []) (shared_reference ∷ [])
 
 abbrev pub code_item : Item
-code_item = item_of shared_code
+code_item = item_with 0 shared_code
 
 -- the layout: data and code from 0x1000 on, slots at 0x2000, the dynamic section behind them, thread-local data from 0x3000 to 0x3010
 abbrev pub shared : Layout

@@ -16,7 +16,7 @@ use Rattle.wild_types.specs.declared.input.InputSection.{InputSection}
 use Rattle.wild_types.specs.declared.layout.Entry.TheVariants as entry
 use Rattle.wild_types.specs.declared.layout.Layout.{Layout}
 use Rattle.wild_loader.specs.declared.world.World.{World}
-use Rattle.wild_types.specs.Item.{Item, item_of}
+use Rattle.wild_types.specs.Item.{Item, item_with}
 use Rattle.wild_meaning.specs.Partners.{tls_get_addr}
 use Rattle.wild_meaning.specs.Worked.{given, reference, input, one_file, loaded}
 
@@ -71,19 +71,19 @@ abbrev pub static_data : InputSection
 static_data = input 0x1100 3 (0 ∷ 0 ∷ 0 ∷ 0 ∷ 0 ∷ 0 ∷ 0 ∷ 0 ∷ 0 ∷ 0 ∷ 0 ∷ 0 ∷ 0 ∷ 0 ∷ 0 ∷ 0 ∷ []) (reference 0 r_x86_64_64 1 (pos 0) ∷ reference 8 r_x86_64_tpoff64 2 (pos 0) ∷ [])
 
 abbrev pub branch_item : Item
-branch_item = item_of branch_code
+branch_item = item_with 0 branch_code
 
 abbrev pub load_item : Item
-load_item = item_of load_code
+load_item = item_with 0 load_code
 
 abbrev pub general_item : Item
-general_item = item_of general_code
+general_item = item_with 0 general_code
 
 abbrev pub described_item : Item
-described_item = item_of described_code
+described_item = item_with 0 described_code
 
 abbrev pub static_item : Item
-static_item = item_of static_data
+static_item = item_with 0 static_data
 
 -- the layout: code and data from 0x1000 on, slots at 0x2000, thread-local data from 0x3000 to 0x3010
 abbrev pub static_pie : Layout

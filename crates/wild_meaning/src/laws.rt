@@ -1,7 +1,7 @@
 //! What the definitions refuse: worked layouts, legal worlds of theirs, and images that are not linked there.
 ghost use Rattle.wild_meaning.specs.CopyRefusals.{CopyingWorldIsLegal, WrongCopyIsRefused, WrongZeroIsRefused, WrongPlaceOfCopyIsRefused, WrongMachineIsRefused, WrongHeadersAreRefused, CopyingImageIsLinked};
 ghost use Rattle.wild_meaning.specs.ImageRefusalsAArch64.{WordsWorldIsLegal, WrongCodeOfWordsIsRefused, WordsImageIsLinked};
-ghost use Rattle.wild_meaning.specs.RefusalsAArch64.{RightWordsDo, WrongWordsAreRefused, CutBitsAreRefused, SlotAddendsAreRefused, PairsAreExcepted, OtherWordsStay, ThunksAreJudged};
+ghost use Rattle.wild_meaning.specs.RefusalsAArch64.{RightWordsDo, WrongWordsAreRefused, CutBitsAreRefused, SlotAddendsAreRefused, PairsAreExcepted, NegatedMovesAreUnknown, ShiftedAddsAreUnknown, ThunksAreJudged};
 ghost use Rattle.wild_meaning.specs.Replaced.{DynamicIsReplaceable, ExportedIsReplaceable, AnswersAreTaken};
 ghost use Rattle.wild_meaning.specs.SegmentRefusals.{WrongSegmentsAreRefused, OtherPlacesAreRefused, WrongSizesAreRefused, NoDynamicIsRefused, WrongEntriesAreRefused};
 ghost use Rattle.wild_meaning.specs.SharedRefusals.{SharedWorldIsLegal, WrongSlotsAreRefused, WrongAddressesAreRefused, WrongOffsetsAreRefused, WrongModulesAreRefused, WrongDescriptorsAreRefused, WrongSizeIsRefused, WrongByteIsRefused, WrongCodeOfLibraryIsRefused};
@@ -81,14 +81,16 @@ pub fn wrong_segments_are_refused()
 /// On AArch64 a descriptor's call that was rewritten does what is demanded, and so does a page pair; where one word is wrong, the code does
 /// not: a call left, a half in the other half's place, a distance from another place, the complement of a number, the slot of another symbol. No
 /// reference holds whose value its field can't have, or that adds something to a symbol's slot. The two parts of an absolute symbol's address are
-/// asked at the same bases. No word but `movn` is taken for another one. A thunk whose page is the next does not reach its target.
+/// asked at the same bases. Neither `movn` nor an `add` of a shifted number is an instruction that its type fills. A thunk whose page is the next
+/// does not reach its target.
 pub fn wrong_words_are_refused()
     ensures right { RightWordsDo }
     ensures wrong { WrongWordsAreRefused }
     ensures cut { CutBitsAreRefused }
     ensures addends { SlotAddendsAreRefused }
     ensures pairs { PairsAreExcepted }
-    ensures others { OtherWordsStay }
+    ensures negated { NegatedMovesAreUnknown }
+    ensures shifted { ShiftedAddsAreUnknown }
     ensures thunks { ThunksAreJudged }
 {}
 

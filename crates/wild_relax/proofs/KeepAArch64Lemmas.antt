@@ -37,10 +37,10 @@ use Rattle.wild_relax.proofs.FieldsAArch64Lemmas.{read_back, parts_are_fields}
 -- ---- what is read
 
 -- the instruction of a word with its field cleared
-abbrev shape : ℕ → Option Code
+abbrev pub shape : ℕ → Option Code
 shape w = option_map cleared (read w)
 
-adrp_shape : (r w : ℕ) → is_adrp r w ≡ true → shape w ≡ Some (Adrp r 0)
+pub adrp_shape : (r w : ℕ) → is_adrp r w ≡ true → shape w ≡ Some (Adrp r 0)
 adrp_shape r w h =
     let last = and_parts _ _ h in
     let first = and_parts _ _ last.0 in
@@ -49,7 +49,7 @@ adrp_shape r w h =
     let register : w % 2 ^ 5 ≡ r = eqb-true _ _ last.1 in
     ap (option_map cleared) (reads_adrp w r (immediate Imm21 w) (omega (arith, class)) (omega (arith, class)) (omega (arith, top)) (omega (arith, register)) refl)
 
-ldr_shape : (r q w : ℕ) → is_ldr r q w ≡ true → shape w ≡ Some (Ldr r q 0)
+pub ldr_shape : (r q w : ℕ) → is_ldr r q w ≡ true → shape w ≡ Some (Ldr r q 0)
 ldr_shape r q w h =
     let last = and_parts _ _ h in
     let first = and_parts _ _ last.0 in
@@ -58,7 +58,7 @@ ldr_shape r q w h =
     let from : w / 2 ^ 5 % 2 ^ 5 ≡ q = eqb-true _ _ last.1 in
     ap (option_map cleared) (reads_ldr w r q (immediate Imm12 w) (omega (arith, top)) (omega (arith, top)) (omega (arith, top)) (omega (arith, top)) (omega (arith, register)) (omega (arith, from)) refl)
 
-add_shape : (r q w : ℕ) → is_add r q w ≡ true → shape w ≡ Some (Add r q 0)
+pub add_shape : (r q w : ℕ) → is_add r q w ≡ true → shape w ≡ Some (Add r q 0)
 add_shape r q w h =
     let last = and_parts _ _ h in
     let first = and_parts _ _ last.0 in
@@ -67,7 +67,7 @@ add_shape r q w h =
     let from : w / 2 ^ 5 % 2 ^ 5 ≡ q = eqb-true _ _ last.1 in
     ap (option_map cleared) (reads_add w r q (immediate Imm12 w) (omega (arith, top)) (omega (arith, top)) (omega (arith, top)) (omega (arith, register)) (omega (arith, from)) refl)
 
-blr_shape : (r w : ℕ) → is_blr r w ≡ true → shape w ≡ Some (Blr r)
+pub blr_shape : (r w : ℕ) → is_blr r w ≡ true → shape w ≡ Some (Blr r)
 blr_shape r w h =
     let last = and_parts _ _ h in
     let first = and_parts _ _ last.0 in
@@ -116,15 +116,15 @@ filled_word info mask m v w size h =
 plain_word : (m : Word) (v w : ℕ) → w < 2 ^ 32 → place 0 (word 0 v) (place 0 (word 4 (word_made m (number (slice_range (word 4 w) 0 4)))) (word 4 w)) ≡ word 4 (word_made m w)
 plain_word m v w h = rw (no_bytes v) (ap (λ (bs : List ℕ). place 0 [] bs) (made_word m w h) ∙ over_none (word_made m w))
 
-call_first : (v w : ℕ) → w < 2 ^ 32 → template_of CALL_FIRST v (word 4 w) ≡ word 4 0xd503201f
+pub call_first : (v w : ℕ) → w < 2 ^ 32 → template_of CALL_FIRST v (word 4 w) ≡ word 4 0xd503201f
 unfolding template_of x86_64_row
 call_first v w h = plain_word words.Nop v w h
 
-call_second : (v w : ℕ) → w < 2 ^ 32 → template_of CALL_SECOND v (word 4 w) ≡ word 4 0xd503201f
+pub call_second : (v w : ℕ) → w < 2 ^ 32 → template_of CALL_SECOND v (word 4 w) ≡ word 4 0xd503201f
 unfolding template_of x86_64_row
 call_second v w h = plain_word words.Nop v w h
 
-address_first : (v w : ℕ) → w < 2 ^ 32 → template_of ADDRESS_FIRST v (word 4 w) ≡ word 4 0xd503201f
+pub address_first : (v w : ℕ) → w < 2 ^ 32 → template_of ADDRESS_FIRST v (word 4 w) ≡ word 4 0xd503201f
 unfolding template_of x86_64_row
 address_first v w h = plain_word words.Nop v w h
 

@@ -13,3 +13,4 @@ pub mod TemplateLemmas
 pub mod AArch64Lemmas
 pub mod FieldsAArch64Lemmas
 pub mod KeepAArch64Lemmas
+pub mod TogetherLemmas

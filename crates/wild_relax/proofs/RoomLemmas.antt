@@ -1,10 +1,10 @@
 -- A rewrite that stands has room.
 use Rattle.std.proofs.Common.{◌≡◌, ℕ, suc, ◌+◌, Bool, true, false, List, [], ◌∷◌, length, refl, ap, arith, subst, ⊎_elim}
-use Rattle.std.specs.Prelude.{Option, Some, None, Ok, Err, ◌&&◌, ◌||◌, not, cond, nat_le, Contains}
+use Rattle.std.specs.Prelude.{Option, Some, None, Ok, Err, Result, ◌&&◌, ◌||◌, not, cond, if◌then◌else◌, nat_le, Contains}
 use Rattle.std.specs.List.{list_all}
 use Rattle.std.proofs.lemmas.Bool.Decides.{nat_tests}
 use Rattle.std.proofs.lemmas.Bool.{and_parts, or_cases, eqb-true}
-use Rattle.wild_words.proofs.Basics.{listed_passes}
+use Rattle.wild_words.proofs.Basics.{implied, listed_passes}
 use Rattle.wild_types.specs.Kinds.{is_executable}
 use Rattle.wild_types.specs.Lookups.{executable}
 use Rattle.wild_relax.specs.declared.reference.UnknownSequence.{UnknownSequence}
@@ -17,6 +17,7 @@ use Rattle.wild_relax.specs.RowSymbols.{takes_symbol, takes_value, is_mandatory}
 use Rattle.wild_relax.specs.RowSequences.{has_its_sequence, has_partner}
 use Rattle.wild_relax.specs.Rows.{rows_x86_64, applies, unknown_sequence, standing_x86_64, chosen_x86_64}
 use Rattle.wild_relax.specs.Rewrite.{Rewrite, HasRoom}
+use Rattle.wild_relax.specs.RowsAArch64.{rows_aarch64, applies_aarch64, has_its_words, standing_aarch64, chosen_aarch64, is_branch, branch_alone, branch_aarch64}
 use Rattle.wild_relax.specs.RewriteX86_64.{rewrite_of}
 
 -- what a first row is
@@ -103,6 +104,52 @@ chosen_has_room q row e =
     (λ l. room_in q.bytes (relocation_of q).offset row.always (rewrite_of row) (always_stands q row first.here (and_parts _ _ l).0) (and_parts _ _ l).1)
     (λ l. room_in q.bytes (relocation_of q).offset row.needed (rewrite_of row) (needed_stands q row first.whole) l)
     (or_cases _ _ (listed_passes lies_in_its_own rows_x86_64 row each_lies first.listed))
+
+-- ---- AArch64
+
+-- what the first row that stands is there
+pub standing_first_aarch64 : (q : Question) (row : Row) → standing_aarch64 q ≡ Some row → IsFirst (applies_aarch64 q) rows_aarch64 row
+unfolding standing_aarch64
+standing_first_aarch64 q row e = first_is (applies_aarch64 q) rows_aarch64 row e
+
+-- what a row of branches is
+pub record IsBranchRow (q : Question) (row : Row) : Type 0 where
+  pub here : applies q row ≡ true
+  pub listed : Contains rows_aarch64 row
+  pub branch : is_branch row ≡ true
+
+pub branch_is : (q : Question) (row : Row) → branch_aarch64 q ≡ Some row → IsBranchRow q row
+unfolding branch_aarch64 chosen_aarch64
+branch_is q row e = by_chosen (chosen_aarch64 q) refl e
+  where
+    by_test : (r : Row) (b : Bool) → chosen_aarch64 q ≡ Ok (Some r) → is_branch r ≡ b → (if b then Some r else None) ≡ Some row → IsBranchRow q row
+    by_test r false is k h = cc
+    by_test r true is k h =
+        let same : r ≡ row = cc in
+        let good = checked_is (has_its_words q) (unknown_sequence q) (standing_aarch64 q) r is in
+        let first = standing_first_aarch64 q r good.same in
+        subst (IsBranchRow q) same (record { here = (and_parts _ _ first.here).0; listed = first.listed; branch = k })
+
+    by_chosen : (c : Result (Option Row) UnknownSequence) → chosen_aarch64 q ≡ c → branch_alone c ≡ Some row → IsBranchRow q row
+    by_chosen (Ok None) is h = cc
+    by_chosen (Ok (Some r)) is h = by_test r (is_branch r) is refl h
+    by_chosen (Err e) is h = cc
+
+-- it stands by itself
+abbrev stands_alone : Row → Bool
+stands_alone row = not (is_branch row) || not row.anywhere && lies_in (rewrite_of row) row.always
+
+each_stands_alone : list_all stands_alone rows_aarch64 ≡ true
+unfolding rows_aarch64
+each_stands_alone = refl
+
+pub branch_has_room : (q : Question) (row : Row) → branch_aarch64 q ≡ Some row → HasRoom (rewrite_of row) (relocation_of q).offset (length q.bytes)
+branch_has_room q row e =
+    let k = branch_is q row e in
+    let l = and_parts _ _ (implied _ _ (listed_passes stands_alone rows_aarch64 row each_stands_alone k.listed) k.branch) in
+    room_in q.bytes (relocation_of q).offset row.always (rewrite_of row) (always_stands q row k.here l.0) l.1
+
+-- ---- what a row asks
 
 pub partner_asked : (q : Question) (row : Row) → has_its_sequence q row ≡ true → has_partner row q ≡ true
 unfolding has_its_sequence

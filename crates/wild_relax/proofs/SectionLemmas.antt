@@ -37,7 +37,7 @@ pub record IsAt (bs : List ℕ) (offset : ℕ) (p : Pattern) : Type 0 where
   pub inside : offset - field_of p + length (cells_of p) ≤ length bs
   pub whole : IsWhole (cells_of p) (slice_range bs (offset - field_of p) (offset - field_of p + length (cells_of p)))
 
-at_place : (bs : List ℕ) (offset : ℕ) (p : Pattern) → stands_before bs offset p ≡ true → IsAt bs offset p
+pub at_place : (bs : List ℕ) (offset : ℕ) (p : Pattern) → stands_before bs offset p ≡ true → IsAt bs offset p
 unfolding stands_before stands_at
 at_place bs offset p h =
     let inside : offset - field_of p + length (cells_of p) ≤ length bs = grind (arith, nat_tests) in
@@ -56,7 +56,7 @@ each_stands_on : list_all (λ (row : Row). stands_on row.needed row) rows_x86_64
 unfolding rows_x86_64
 each_stands_on = refl
 
-either_at : (bs : List ℕ) (offset : ℕ) (row : Row) (n : Pattern) → (not row.anywhere ≡ true → IsAt bs offset row.always) → IsAt bs offset n → stands_on n row ≡ true → IsAt bs offset (either_pattern n row.always)
+pub either_at : (bs : List ℕ) (offset : ℕ) (row : Row) (n : Pattern) → (not row.anywhere ≡ true → IsAt bs offset row.always) → IsAt bs offset n → stands_on n row ≡ true → IsAt bs offset (either_pattern n row.always)
 either_at bs offset row pattern.Nothing always needed h = always h
 either_at bs offset row other always needed h = needed
 

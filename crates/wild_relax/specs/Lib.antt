@@ -18,3 +18,4 @@ pub mod ThunkAArch64
 pub mod LawsAArch64
 pub mod FieldsAArch64
 pub mod KeepAArch64
+pub mod TogetherAArch64

@@ -1,25 +1,36 @@
 -- The rewrite that stands at a relocation.
---   relaxation_x86_64 q   that of x86-64
+--   relaxation_x86_64 q, relaxation_aarch64 q   that of a machine
 --   chosen_of m q         its row, by the machine
-use Rattle.std.specs.Prelude.{◌≡◌, refl, Option, Some, None, Result, Ok, Err}
+use Rattle.std.specs.Prelude.{◌≡◌, refl, Bool, Option, Some, None, Result, Ok, Err}
 use Rattle.wild_types.specs.declared.kind.Machine.{Machine}
 use Rattle.wild_types.specs.declared.kind.Machine.TheVariants as machine
 use Rattle.wild_relax.specs.declared.reference.UnknownSequence.{UnknownSequence}
 use Rattle.wild_relax.specs.declared.row.Row.{Row}
+use Rattle.wild_relax.specs.declared.aarch64.ElfAArch64Relaxation.{ElfAArch64Relaxation}
 use Rattle.wild_relax.specs.declared.x86_64.ElfX86_64Relaxation.{ElfX86_64Relaxation}
 use Rattle.wild_relax.specs.Question.{Question}
 use Rattle.wild_relax.specs.Rows.{chosen_x86_64}
+use Rattle.wild_relax.specs.RowsAArch64.{branch_aarch64}
 use Rattle.wild_relax.specs.RowSymbols.{is_mandatory}
 
 -- with whether it is taken also where rewriting is off
-abbrev pub with_duty : Question → Result (Option Row) UnknownSequence → Result (Option ElfX86_64Relaxation) UnknownSequence
-with_duty q (Ok None) = Ok None
-with_duty q (Ok (Some row)) = Ok (Some (record { row = row; mandatory = is_mandatory row.duty q }))
-with_duty q (Err e) = Err e
+abbrev pub with_duty : {R : Type 0} → (Row → Bool → R) → Question → Result (Option Row) UnknownSequence → Result (Option R) UnknownSequence
+with_duty make q (Ok None) = Ok None
+with_duty make q (Ok (Some row)) = Ok (Some (make row (is_mandatory row.duty q)))
+with_duty make q (Err e) = Err e
+
+abbrev pub of_x86_64 : Row → Bool → ElfX86_64Relaxation
+of_x86_64 row mandatory = record { row = row; mandatory = mandatory }
+
+abbrev pub of_aarch64 : Row → Bool → ElfAArch64Relaxation
+of_aarch64 row mandatory = record { row = row; mandatory = mandatory }
 
 -- the first row that stands, as a rewrite
 abbrev pub relaxation_x86_64 : Question → Result (Option ElfX86_64Relaxation) UnknownSequence
-relaxation_x86_64 q = with_duty q (chosen_x86_64 q)
+relaxation_x86_64 q = with_duty of_x86_64 q (chosen_x86_64 q)
+
+abbrev pub relaxation_aarch64 : Question → Result (Option ElfAArch64Relaxation) UnknownSequence
+relaxation_aarch64 q = with_duty of_aarch64 q (Ok (branch_aarch64 q))
 
 -- ---- by machine
 
@@ -29,13 +40,18 @@ rows_of row (Ok None) = Ok None
 rows_of row (Ok (Some r)) = Ok (Some (row r))
 rows_of row (Err e) = Err e
 
--- the first row that stands at a relocation, or why it is refused; of AArch64 there is none so far
+-- the first row that stands at a relocation, or why it is refused
 abbrev pub chosen_of : Machine → Question → Result (Option Row) UnknownSequence
 chosen_of machine.X86_64 q = chosen_x86_64 q
-chosen_of machine.AArch64 q = Ok None
+chosen_of machine.AArch64 q = Ok (branch_aarch64 q)
 
 -- the duty changes no row
-pub rows_with_duty : (q : Question) (found : Result (Option Row) UnknownSequence) → rows_of (λ (r : ElfX86_64Relaxation). r.row) (with_duty q found) ≡ found
+pub rows_with_duty : (q : Question) (found : Result (Option Row) UnknownSequence) → rows_of (λ (r : ElfX86_64Relaxation). r.row) (with_duty of_x86_64 q found) ≡ found
 rows_with_duty q (Ok None) = refl
 rows_with_duty q (Ok (Some row)) = refl
 rows_with_duty q (Err e) = refl
+
+pub branches_with_duty : (q : Question) (found : Result (Option Row) UnknownSequence) → rows_of (λ (r : ElfAArch64Relaxation). r.row) (with_duty of_aarch64 q found) ≡ found
+branches_with_duty q (Ok None) = refl
+branches_with_duty q (Ok (Some row)) = refl
+branches_with_duty q (Err e) = refl

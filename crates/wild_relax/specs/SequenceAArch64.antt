@@ -1,11 +1,12 @@
 -- Words of AArch64 that stand in a row, each with a relocation (aaelf64, "Relocation types"; "Thread Local Storage").
 --   types_of s              their relocation types, in order
+--   words_before n          how many words of its sequence stand before that of a relocation type
 --   words_at bs start n     so many words of the bytes
 --   stand_with s r ws       the words are those of the sequence for register r
 --   register_of s ws        the register that they are about
 --   stand_as s ws           they are those of the sequence, for that register
 --   is_among q s k          the relocation is that of the word with k before it, and the others stand around it
-use Rattle.std.specs.Prelude.{ℕ, zero, suc, ◌+◌, ◌-◌, ◌*◌, ◌/◌, ◌%◌, ◌^◌, ◌==◌, Bool, true, false, ◌&&◌, nat_le, nat_lt, List, [], ◌∷◌, length, drop, slice_range, Option, Some, None}
+use Rattle.std.specs.Prelude.{ℕ, zero, suc, ◌+◌, ◌-◌, ◌*◌, ◌/◌, ◌%◌, ◌^◌, ◌==◌, Bool, true, false, ◌&&◌, ◌||◌, if◌then◌else◌, nat_le, nat_lt, List, [], ◌∷◌, length, drop, slice_range, Option, Some, None}
 use Rattle.wild_words.specs.Words.{number}
 use Rattle.wild_records.specs.Abi.Relocation as abi
 use Rattle.wild_relax.specs.declared.pattern.Sequence.{Sequence}
@@ -24,6 +25,14 @@ abbrev pub types_of : Sequence → List ℕ
 types_of DescriptorCall = abi.r_aarch64_tlsdesc_adr_page21 ∷ abi.r_aarch64_tlsdesc_ld64_lo12 ∷ abi.r_aarch64_tlsdesc_add_lo12 ∷ abi.r_aarch64_tlsdesc_call ∷ []
 types_of OffsetSlot = abi.r_aarch64_tlsie_adr_gottprel_page21 ∷ abi.r_aarch64_tlsie_ld64_gottprel_lo12_nc ∷ []
 types_of Address = abi.r_aarch64_adr_prel_pg_hi21 ∷ abi.r_aarch64_add_abs_lo12_nc ∷ []
+
+-- so many words stand before that of the type, 0 where it is of no sequence
+abbrev pub words_before : ℕ → ℕ
+words_before n =
+    if n == abi.r_aarch64_tlsdesc_ld64_lo12 || n == abi.r_aarch64_tlsie_ld64_gottprel_lo12_nc || n == abi.r_aarch64_add_abs_lo12_nc then 1
+    else if n == abi.r_aarch64_tlsdesc_add_lo12 then 2
+    else if n == abi.r_aarch64_tlsdesc_call then 3
+    else 0
 
 abbrev pub same_symbol : Option ℕ → Option ℕ → Bool
 same_symbol (Some a) (Some b) = a == b

@@ -1,11 +1,94 @@
-//! AArch64: thunks, and what code leaves free.
+//! AArch64 ("ELF for the Arm 64-bit Architecture"), with thunks and what code leaves free.
 ghost use Rattle.std.specs.Prelude.{◌≡◌, length, is_ok, IfErr, OnOk, OnErr};
 ghost use Rattle.wild_relax.specs.ThunkAArch64.{thunk_words, thunk_aarch64, nop_byte, nops, is_variant};
 
+use crate::arch::Arch;
+use crate::reference::{Reference, UnknownSequence};
+use crate::relaxation::Relaxation;
+use crate::row::{Row, is_mandatory};
+use crate::rows_aarch64::choose_branch;
 use wild_records::abi::symbol::STO_AARCH64_VARIANT_PCS;
-use wild_reloc::AArch64Instruction;
+use wild_reloc::{AArch64Instruction, RelName, aarch64};
 use wild_slot::{page_of, put_words};
-use wild_types::THUNK_SIZE;
+use wild_types::{Machine, THUNK_SIZE};
+
+/// AArch64.
+pub struct ElfAArch64;
+
+impl Arch for ElfAArch64 {
+    ghost use Rattle.std.specs.Prelude.{refl};
+    ghost use Rattle.wild_types.specs.declared.kind.Machine.TheVariants.{AArch64};
+    ghost use Rattle.wild_reloc.specs.declared.names.RelName.TheVariants as names;
+    ghost use Rattle.wild_relax.specs.ThunkAArch64.{nops};
+    ghost use Rattle.wild_relax.specs.RowsAArch64.{branch_aarch64};
+    ghost use Rattle.wild_relax.specs.Relaxation.{relaxation_aarch64, branches_with_duty};
+    ghost use Rattle.std.specs.Prelude.{Ok};
+
+    type Relaxation = ElfAArch64Relaxation;
+
+    ghost machine = { AArch64 };
+
+    ghost name_of = { names.AArch64 };
+
+    ghost relaxation = { relaxation_aarch64 };
+
+    ghost nop_padding = { nops };
+
+    ghost same_machine = { refl };
+
+    ghost same_rows = { λ q. branches_with_duty q (Ok (branch_aarch64 q)) };
+
+    #[inline]
+    fn arch_identifier() -> Machine {
+        Machine::AArch64
+    }
+
+    fn rel_type_to_string(number: u32) -> RelName {
+        aarch64::rel_type_to_string(number)
+    }
+
+    fn fill_nop_padding(room: &mut [u8]) {
+        fill_nop_padding(room);
+    }
+
+    fn new_relaxation(
+        reference: &Reference,
+    ) -> Result<Option<ElfAArch64Relaxation>, UnknownSequence> {
+        match choose_branch(reference) {
+            None => Ok(None),
+            Some(row) => Ok(Some(ElfAArch64Relaxation {
+                row,
+                mandatory: is_mandatory(row.duty, reference),
+            })),
+        }
+    }
+}
+
+/// A rewrite of instructions of AArch64 that stands at a relocation.
+#[derive(Clone, Copy)]
+pub struct ElfAArch64Relaxation {
+    pub row: Row,
+    /// Whether it is taken also where rewriting is off.
+    pub mandatory: bool,
+}
+
+impl Relaxation for ElfAArch64Relaxation {
+    ghost use Rattle.wild_types.specs.declared.kind.Machine.TheVariants.{AArch64};
+
+    ghost as_row = { λ r. r.row };
+
+    ghost mandatory = { λ r. r.mandatory };
+
+    ghost machine = { AArch64 };
+
+    fn row(&self) -> Row {
+        self.row
+    }
+
+    fn is_mandatory(&self) -> bool {
+        self.mandatory
+    }
+}
 
 const PAGE: u64 = 4096;
 

@@ -24,6 +24,7 @@ pub trait Arch {
     ghost use Rattle.wild_relax.specs.declared.reference.UnknownSequence.{UnknownSequence};
     ghost use Rattle.wild_relax.specs.Question.{Question, question, relocation_of};
     ghost use Rattle.wild_relax.specs.Rewrite.{HasRoom};
+    ghost use Rattle.wild_relax.specs.RewriteX86_64.{rewrite_of};
     ghost use Rattle.wild_relax.specs.Relaxation.{rows_of, chosen_of};
 
     /// A rewrite of instructions of the machine.
@@ -148,7 +149,7 @@ pub trait Arch {
     fn new_relaxation(reference: &Reference) -> Result<Option<Self::Relaxation>, UnknownSequence>
         ensures first { result ≡ Self.relaxation (question reference.now) }
         ensures room { IfOk result (λ found. IfSome found (λ r.
-            HasRoom (Self.Relaxation.rewrite r) (relocation_of (question reference.now)).offset (length reference.now.bytes.now))) };
+            HasRoom (rewrite_of (Self.Relaxation.as_row r)) (relocation_of (question reference.now)).offset (length reference.now.bytes.now))) };
 
     /// The rewrites are the machine's own.
     ghost same_machine: { Self.Relaxation.machine ≡ Self.machine };

@@ -2,6 +2,7 @@
 ghost use Rattle.wild_relax.specs.FieldsAArch64.{FieldsAgree, PartsAreFields, TypesHaveForms};
 ghost use Rattle.wild_relax.specs.KeepAArch64.{RowsOfAArch64Keep};
 ghost use Rattle.wild_relax.specs.LawsAArch64.{StubsOfAArch64Jump, ThunksReach};
+ghost use Rattle.wild_relax.specs.TogetherAArch64.{ChosenStand, RowsStandTogether};
 
 /// A stub jumps to the address in its slot, with a landing pad in front too; a thunk jumps to its target: at every base that is a
 /// multiple of a page.
@@ -21,4 +22,11 @@ pub fn aarch64_fields_agree()
 /// What the rows write in place of a sequence's words does what these demand, for every register that stands and at every base.
 pub fn aarch64_rewrites_keep_the_effect()
     ensures { RowsOfAArch64Keep }
+{}
+
+/// A row is chosen only where it stands with its whole word in the input. Where it is one of a sequence, those of the other words are
+/// chosen for theirs: no sequence is rewritten in part.
+pub fn aarch64_rows_stand_together()
+    ensures stand { ChosenStand }
+    ensures together { RowsStandTogether }
 {}

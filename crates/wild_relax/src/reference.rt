@@ -28,7 +28,8 @@ pub struct UnknownSequence {
     pub written: RelocationKindInfo,
 }
 
-const NOTHING: RelocationInfo = RelocationInfo {
+/// A relocation that does nothing.
+pub const NO_RELOCATION: RelocationInfo = RelocationInfo {
     number: 0,
     offset: 0,
     symbol: None,
@@ -67,7 +68,7 @@ impl Reference<'_> {
     {
         match self.relocations.get(self.at) {
             Some(relocation) => *relocation,
-            None => NOTHING,
+            None => NO_RELOCATION,
         }
     }
 

@@ -1,6 +1,7 @@
 //! What a rewrite is to the writer of a section.
 ghost use Rattle.std.specs.Prelude.{◌≡◌, ◌+◌, ◌-◌, ◌≤◌, length};
 
+use crate::rewrite;
 use crate::row::Row;
 use wild_reloc::RelocationKindInfo;
 
@@ -70,67 +71,73 @@ pub enum RelocationModifier {
     SkipNextRelocation,
 }
 
-/// A rewrite of instructions that stands at a relocation.
+/// A rewrite of instructions that stands at a relocation: a row, and whether it is taken also where rewriting is off.
 pub trait Relaxation {
     ghost use Rattle.std.specs.Prelude.{Bool};
     ghost use Rattle.wild_types.specs.declared.kind.Machine.{Machine};
-    ghost use Rattle.wild_reloc.specs.declared.info.RelocationKindInfo.{RelocationKindInfo};
-    ghost use Rattle.wild_relax.specs.Rewrite.{Rewrite, rewritten};
-    ghost use Rattle.wild_relax.specs.declared.relaxation.RelaxationKind.{RelaxationKind};
+    ghost use Rattle.wild_relax.specs.Rewrite.{rewritten};
+    ghost use Rattle.wild_relax.specs.RewriteX86_64.{rewrite_of, info_written, is_number};
     ghost use Rattle.wild_relax.specs.declared.row.Row.{Row};
 
     /// Its row.
     ghost as_row: { Self → Row };
 
-    /// What is written, and as which relocation type.
-    ghost rewrite: { Self → Rewrite };
-
-    /// How the field is written.
-    ghost info: { Self → RelocationKindInfo };
-
     /// Whether it is taken also where rewriting is off.
     ghost mandatory: { Self → Bool };
 
-    /// Its kind.
-    ghost kind: { Self → RelaxationKind };
-
     /// The machine.
     ghost machine: { Machine };
-
-    /// Whether the field gets a number, for which the slot is asked where it does not fit.
-    ghost falls_back: { Self → Bool };
 
     /// Its row.
     fn row(&self) -> Row
         ensures { result ≡ Self.as_row self.now };
 
-    /// Writes the instructions, all but their field, into the bytes of the section, and moves the place of the field and
-    /// its addend. The bytes around the field, before and behind as many as the rewrite changes, are in the section; no
-    /// others change.
-    fn apply(&self, section_bytes: &mut [u8], offset_in_section: &mut u64, addend: &mut i64)
-        requires before { (Self.rewrite self.now).back ≤ offset_in_section.old }
-        requires behind { offset_in_section.old - (Self.rewrite self.now).back + (Self.rewrite self.now).size ≤ length section_bytes.old }
-        ensures bytes { section_bytes.new ≡ rewritten (Self.rewrite self.now) offset_in_section.old section_bytes.old }
-        ensures offset { offset_in_section.new ≡ offset_in_section.old - (Self.rewrite self.now).back + (Self.rewrite self.now).field }
-        ensures addend { addend.new ≡ (Self.rewrite self.now).addend addend.old };
-
-    /// How the field is written: its value, its size and its range.
-    fn rel_info(&self) -> RelocationKindInfo
-        ensures { result ≡ Self.info self.now };
-
-    /// What becomes of the instructions.
-    fn debug_kind(&self) -> RelaxationKind
-        ensures { result ≡ Self.kind self.now };
-
-    /// What is done with the relocation behind.
-    fn next_modifier(&self) -> RelocationModifier
-        ensures { result ≡ (Self.rewrite self.now).next };
-
     /// Whether it is taken also where rewriting is off.
     fn is_mandatory(&self) -> bool
         ensures { result ≡ Self.mandatory self.now };
 
+    /// Writes the instructions, all but their field, into the bytes of the section, and moves the place of the field and
+    /// its addend. The bytes around the field, before and behind as many as the rewrite changes, are in the section; no
+    /// others change.
+    fn apply(&self, section_bytes: &mut [u8], offset_in_section: &mut u64, addend: &mut i64)
+        requires before { (rewrite_of (Self.as_row self.now)).back ≤ offset_in_section.old }
+        requires behind { offset_in_section.old - (rewrite_of (Self.as_row self.now)).back + (rewrite_of (Self.as_row self.now)).size ≤ length section_bytes.old }
+        ensures bytes { section_bytes.new ≡ rewritten (rewrite_of (Self.as_row self.now)) offset_in_section.old section_bytes.old }
+        ensures offset { offset_in_section.new ≡ offset_in_section.old - (rewrite_of (Self.as_row self.now)).back + (rewrite_of (Self.as_row self.now)).field }
+        ensures addend { addend.new ≡ (rewrite_of (Self.as_row self.now)).addend addend.old }
+    {
+        let row = self.row();
+        let start = *offset_in_section - row.back();
+        rewrite::write(row.made, section_bytes, start as usize);
+        *offset_in_section = start + row.field();
+        *addend = row.addend_written(*addend);
+    }
+
+    /// How the field is written: its value, its size and its range.
+    fn rel_info(&self) -> RelocationKindInfo
+        ensures { result ≡ info_written (Self.as_row self.now) }
+    {
+        self.row().row_written()
+    }
+
+    /// What becomes of the instructions.
+    fn debug_kind(&self) -> RelaxationKind
+        ensures { result ≡ (Self.as_row self.now).kind }
+    {
+        self.row().kind
+    }
+
+    /// What is done with the relocation behind.
+    fn next_modifier(&self) -> RelocationModifier
+        ensures { result ≡ (rewrite_of (Self.as_row self.now)).next }
+    {
+        self.row().next_modifier()
+    }
+
     /// Whether the field gets the value itself, and not a distance: where it does not fit, the slot is asked after all.
     fn needs_got_fallback(&self) -> bool
-        ensures { result ≡ Self.falls_back self.now };
+        ensures { result ≡ is_number (Self.as_row self.now) }
+    {
+        self.row().is_number()
+    }
 }

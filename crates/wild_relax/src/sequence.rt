@@ -2,7 +2,7 @@
 ghost use Rattle.std.specs.Prelude.{◌≡◌, ◌+◌, ◌-◌, ◌*◌, ◌≤◌, ◌^◌, ◌<◌, length, drop};
 ghost use Rattle.wild_relax.specs.Question.{question, relocation_of};
 ghost use Rattle.wild_relax.specs.RewriteX86_64.{register_set};
-ghost use Rattle.wild_relax.specs.SequenceAArch64.{types_of, same_symbol, follow, words_at, register_read, is_adrp, is_ldr, is_add, is_blr, stand_as, is_among, has_around};
+ghost use Rattle.wild_relax.specs.SequenceAArch64.{types_of, words_before, same_symbol, follow, words_at, register_read, is_adrp, is_ldr, is_add, is_blr, stand_as, is_among, has_around};
 
 use crate::pattern::{Pattern, Sequence};
 use crate::reference::{Reference, RelocationInfo, is_zero};
@@ -36,6 +36,21 @@ fn types_of(sequence: Sequence) -> &'static [u32]
         Sequence::DescriptorCall => &OF_CALLS,
         Sequence::OffsetSlot => &OF_SLOTS,
         Sequence::Address => &OF_ADDRESSES,
+    }
+}
+
+/// How many words of its sequence stand before that of a relocation type; 0 where it is of no sequence.
+pub fn words_before(number: u32) -> usize
+    ensures value { result ≡ words_before number }
+    ensures few { result ≤ 3 }
+{
+    match number {
+        R_AARCH64_TLSDESC_LD64_LO12
+        | R_AARCH64_TLSIE_LD64_GOTTPREL_LO12_NC
+        | R_AARCH64_ADD_ABS_LO12_NC => 1,
+        R_AARCH64_TLSDESC_ADD_LO12 => 2,
+        R_AARCH64_TLSDESC_CALL => 3,
+        _ => 0,
     }
 }
 

@@ -1,10 +1,9 @@
 //! x86-64 (x86-64 psABI).
 use crate::arch::Arch;
 use crate::reference::{Reference, UnknownSequence};
-use crate::relaxation::{Relaxation, RelaxationKind, RelocationModifier};
-use crate::rewrite;
+use crate::relaxation::Relaxation;
 use crate::row::{Row, choose, is_mandatory};
-use wild_reloc::{RelName, RelocationKindInfo, x86_64};
+use wild_reloc::{RelName, x86_64};
 use wild_types::Machine;
 
 /// x86-64.
@@ -67,50 +66,18 @@ pub struct ElfX86_64Relaxation {
 
 impl Relaxation for ElfX86_64Relaxation {
     ghost use Rattle.wild_types.specs.declared.kind.Machine.TheVariants.{X86_64};
-    ghost use Rattle.wild_relax.specs.RewriteX86_64.{rewrite_of, info_written, is_number};
 
     ghost as_row = { λ r. r.row };
 
-    ghost rewrite = { λ r. rewrite_of r.row };
-
-    ghost info = { λ r. info_written r.row };
-
     ghost mandatory = { λ r. r.mandatory };
 
-    ghost kind = { λ r. r.row.kind };
-
     ghost machine = { X86_64 };
-
-    ghost falls_back = { λ r. is_number r.row };
 
     fn row(&self) -> Row {
         self.row
     }
 
-    fn apply(&self, section_bytes: &mut [u8], offset_in_section: &mut u64, addend: &mut i64) {
-        let start = *offset_in_section - self.row.back();
-        rewrite::write(self.row.made, section_bytes, start as usize);
-        *offset_in_section = start + self.row.field();
-        *addend = self.row.addend_written(*addend);
-    }
-
-    fn rel_info(&self) -> RelocationKindInfo {
-        self.row.row_written()
-    }
-
-    fn debug_kind(&self) -> RelaxationKind {
-        self.row.kind
-    }
-
-    fn next_modifier(&self) -> RelocationModifier {
-        self.row.next_modifier()
-    }
-
     fn is_mandatory(&self) -> bool {
         self.mandatory
-    }
-
-    fn needs_got_fallback(&self) -> bool {
-        self.row.is_number()
     }
 }

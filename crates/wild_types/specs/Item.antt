@@ -1,20 +1,33 @@
 -- What relocations are decided of: bytes of input files, with their relocations, at one address.
---   item_of s    an input section as it is
---   item_now i   the item that code has before it
-use Rattle.std.specs.Prelude.{ℕ, List}
+--   block_for l f s    the block of thunks that a section's branches go by
+--   item_with k s      an input section with that block
+--   item_of l f s      one of a file, as it is
+--   item_now i         the item that code has before it
+use Rattle.std.specs.Prelude.{ℕ, ◌==◌, if◌then◌else◌, List}
 use Rattle.wild_types.specs.declared.input.InputRelocation.{InputRelocation}
 use Rattle.wild_types.specs.declared.input.InputSection.{InputSection}
 use Rattle.wild_types.specs.declared.item.ItemRef.{ItemRef}
+use Rattle.wild_types.specs.declared.file.File.{File}
+use Rattle.wild_types.specs.declared.layout.Layout.{Layout}
 
--- input bytes and their relocations, at an address of the layout; the flags are the input section's own (gABI, sh_flags)
+-- input bytes and their relocations, at an address of the layout; the flags are the input section's own (gABI, sh_flags), and the
+-- branches go by the thunks of that block where a target is out of their range
 pub record Item : Type 0 where
   pub address : ℕ
   pub flags : ℕ
   pub bytes : List ℕ
   pub relocations : List InputRelocation
+  pub thunk_block : ℕ
 
-abbrev pub item_of : InputSection → Item
-item_of s = record { address = s.address; flags = s.flags; bytes = s.bytes; relocations = s.relocations }
+-- its file's; outside the primary part block 0
+abbrev pub block_for : Layout → File → InputSection → ℕ
+block_for l f s = if s.part == l.primary_part then f.thunk_block else 0
+
+abbrev pub item_with : ℕ → InputSection → Item
+item_with k s = record { address = s.address; flags = s.flags; bytes = s.bytes; relocations = s.relocations; thunk_block = k }
+
+abbrev pub item_of : Layout → File → InputSection → Item
+item_of l f s = item_with (block_for l f s) s
 
 abbrev pub item_now : ItemRef → Item
-item_now i = record { address = i.address; flags = i.flags; bytes = i.bytes.now; relocations = i.relocations.now }
+item_now i = record { address = i.address; flags = i.flags; bytes = i.bytes.now; relocations = i.relocations.now; thunk_block = i.thunk_block }

@@ -64,9 +64,17 @@ pub enum Fault {
     IfuncAddend {
         addend: i64,
     },
-    /// The target of a thunk is too far from it: the distance of their pages, modulo 2^64.
+    /// The target of a branch is out of its range, and no thunk goes there: their distance, modulo 2^64.
+    NoThunk {
+        value: u64,
+    },
+    /// A thunk is too far from a branch, or its target from it: the distance, of the target that of the pages, modulo 2^64.
     ThunkOutOfRange {
         value: u64,
+    },
+    /// A branch goes by a thunk, which has nothing to add to its target.
+    ThunkAddend {
+        addend: i64,
     },
     /// A stub is too far from its slot: their distance, modulo 2^64.
     PltTooFar {

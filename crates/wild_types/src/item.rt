@@ -2,7 +2,9 @@
 ghost use Rattle.std.specs.Prelude.{◌≡◌};
 ghost use Rattle.wild_types.specs.Item.{item_of, item_now};
 
+use crate::file::File;
 use crate::input::{InputRelocation, InputSection};
+use crate::layout::Layout;
 
 /// Input bytes and their relocations, at an address of the layout.
 #[derive(Clone, Copy)]
@@ -12,19 +14,26 @@ pub struct ItemRef<'a> {
     pub flags: u64,
     pub bytes: &'a [u8],
     pub relocations: &'a [InputRelocation],
+    /// The block of thunks that branches go by where a target is out of their range.
+    pub thunk_block: usize,
 }
 
 impl InputSection {
-    /// The item of a section that is loaded as it is.
+    /// The item of a section of that file, as it is.
     #[inline]
-    pub fn item(&self) -> ItemRef<'_>
-        ensures { item_now result ≡ item_of self.now }
+    pub fn item(&self, layout: &Layout, file: &File) -> ItemRef<'_>
+        ensures { item_now result ≡ item_of layout.now file.now self.now }
     {
         ItemRef {
             address: self.address,
             flags: self.flags,
             bytes: self.bytes.as_slice(),
             relocations: self.relocations.as_slice(),
+            thunk_block: if self.part == layout.primary_part {
+                file.thunk_block
+            } else {
+                0
+            },
         }
     }
 }

@@ -147,7 +147,7 @@ impl Layout {
     }
 
     /// The thunks of a block; none where it is not there.
-    fn block_of(&self, block: usize) -> &[Thunk]
+    pub fn block_of(&self, block: usize) -> &[Thunk]
         ensures { result.now ≡ block_of self.now block }
     {
         match self.thunk_blocks.as_slice().get(block) {

@@ -1,5 +1,5 @@
 use Rattle.wild_meaning.proofs.WordsRefused.{right_words, wrong_words, cut_bits, slot_addends, pairs_excepted, thunks_judged}
-use Rattle.wild_meaning.proofs.MovesAArch64.{other_words_stay}
+use Rattle.wild_meaning.proofs.WordsUnknown.{negated_unknown, shifted_unknown}
 use Rattle.wild_meaning.proofs.laws.wrong_words_are_refused.Goals as goal
 
 pub returns-clause-right : goal.returns-clause-right
@@ -17,8 +17,11 @@ returns-clause-addends c = slot_addends
 pub returns-clause-pairs : goal.returns-clause-pairs
 returns-clause-pairs c = pairs_excepted
 
-pub returns-clause-others : goal.returns-clause-others
-returns-clause-others c = other_words_stay
+pub returns-clause-negated : goal.returns-clause-negated
+returns-clause-negated c = negated_unknown
+
+pub returns-clause-shifted : goal.returns-clause-shifted
+returns-clause-shifted c = shifted_unknown
 
 pub returns-clause-thunks : goal.returns-clause-thunks
 returns-clause-thunks c = thunks_judged

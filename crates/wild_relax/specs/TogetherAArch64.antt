@@ -1,0 +1,59 @@
+-- The rows of a sequence of AArch64 stand together.
+--   asked_at q i         the same question, of the relocation in that place
+--   IsOneOf q row s k    the row is that of word k of a sequence, of which each word's row stands at its own relocation
+--   RowsStandTogether    so it is of each row that is chosen for a word
+--   ChosenStand          a row that is chosen stands, with all that it needs, and what it writes lies in its word
+use Rattle.std.specs.Prelude.{◌≡◌, ℕ, ◌+◌, ◌≤◌, true, false, length, Contains, Some, Ok, slice_get}
+use Rattle.wild_relax.specs.declared.pattern.Sequence.{Sequence}
+use Rattle.wild_relax.specs.declared.pattern.Pattern.TheVariants.{Among}
+use Rattle.wild_relax.specs.declared.row.Row.{Row}
+use Rattle.wild_relax.specs.Question.{Question, relocation_of}
+use Rattle.wild_relax.specs.Linked.{pattern_of, pattern_size, keeps_bytes, fits_in}
+use Rattle.wild_relax.specs.Pattern.{field_of}
+use Rattle.wild_relax.specs.RowsAArch64.{rows_aarch64, applies_aarch64, has_its_words, chosen_aarch64}
+use Rattle.wild_relax.specs.SequenceAArch64.{types_of, words_at, sequence_start, stand_as}
+use Rattle.wild_relax.specs.KeepAArch64.{Rewriting, rewritings}
+
+-- the same of another relocation
+abbrev pub asked_at : Question → ℕ → Question
+asked_at q i = record {
+  relocations = q.relocations;
+  at = i;
+  bytes = q.bytes;
+  flags = q.flags;
+  kind = q.kind;
+  section_flags = q.section_flags;
+  relax = q.relax;
+  value = q.value;
+  address = q.address;
+}
+
+-- the rows of a whole sequence stand at the relocations from a place on, and its words in the section
+pub record IsOneOf (q : Question) (row : Row) (s : Sequence) (k : ℕ) : Type 0 where
+  pub whole : Rewriting
+  pub known : Contains rewritings whole
+  pub same : whole.sequence ≡ s
+  pub first : ℕ
+  pub place : q.at ≡ first + k
+  pub here : slice_get whole.rows k ≡ Some row
+  pub each : (j : ℕ) (other : Row) → slice_get whole.rows j ≡ Some other → chosen_aarch64 (asked_at q (first + j)) ≡ Ok (Some other)
+  pub words : stand_as s (words_at q.bytes (sequence_start q k) (length (types_of s))) ≡ true
+
+-- where a row is chosen for a word of a sequence, those of the other words are chosen for theirs
+abbrev pub RowsStandTogether : Type 0
+RowsStandTogether = (q : Question) (row : Row) (s : Sequence) (k : ℕ) → chosen_aarch64 q ≡ Ok (Some row) → pattern_of row ≡ Among s k → IsOneOf q row s k
+
+-- ---- one row
+
+-- the row's pattern begins at the relocation and lies in the section; where it changes a word, that is its pattern
+pub record IsStanding (q : Question) (row : Row) : Type 0 where
+  pub listed : Contains rows_aarch64 row
+  pub here : applies_aarch64 q row ≡ true
+  pub whole : has_its_words q row ≡ true
+  pub number : (relocation_of q).number ≡ row.number
+  pub begins : field_of (pattern_of row) ≡ 0
+  pub inside : (relocation_of q).offset + pattern_size row ≤ length q.bytes
+  pub fits : keeps_bytes row ≡ false → (pattern_size row ≡ 4) × (fits_in row ≡ true)
+
+abbrev pub ChosenStand : Type 0
+ChosenStand = (q : Question) (row : Row) → chosen_aarch64 q ≡ Ok (Some row) → IsStanding q row
