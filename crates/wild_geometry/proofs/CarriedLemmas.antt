@@ -1,5 +1,5 @@
 -- The segments carry the bytes of parts and of input sections to their addresses.
-use Rattle.std.proofs.Common.{◌≡◌, ℕ, zero, suc, ◌+◌, ◌-◌, ◌<◌, ◌≤◌, ◌==◌, nat_lt, nat_le, true, false, not, ◌&&◌, ◌||◌, List, [], ◌∷◌, length, drop, get_or, All, Contains, Option, Some, slice_get, refl, arith, subst}
+use Rattle.std.proofs.Common.{◌≡◌, ℕ, zero, suc, ◌+◌, ◌-◌, ◌<◌, ◌≤◌, ◌==◌, nat_lt, nat_le, true, false, not, ◌&&◌, ◌||◌, List, [], ◌∷◌, length, drop, get_or, All, Option, Some, slice_get, refl, arith, subst}
 use Rattle.std.specs.List.{list_any}
 use Rattle.std.proofs.lemmas.Bool.{and_parts, and_from, leb-true, ltb-true, eqb-true, eqb-false, ne_eqb, not-true, not_from_false}
 use Rattle.wild_words.proofs.ListLemmas.{Found, Found-from_list_any, ItemAt-within, holds_at}
@@ -20,7 +20,7 @@ use Rattle.wild_clauses.specs.Segments.{at_equal_distance, has_byte, has_file_by
 use Rattle.wild_clauses.proofs.CoverLemmas.{all_below_each}
 use Rattle.wild_types.specs.FilePlaces.{bool_eq}
 use Rattle.wild_clauses.specs.Indexes.{part_index_fits}
-use Rattle.wild_layout.specs.Loadable.{IsMapped, IsPartMapped}
+use Rattle.wild_layout.specs.Loadable.{CarriesByte, IsMapped, IsPartMapped}
 use Rattle.wild_geometry.proofs.LaidLemmas.{Laid}
 use Rattle.wild_geometry.proofs.SectionLemmas.{Holds, Stood}
 use Rattle.wild_geometry.proofs.PieceLemmas.{place_is}
@@ -98,16 +98,11 @@ segment_of segments s h a bits k lt =
     Found-from_list_any (has_byte side.File s (s.address + k)) segments (all_below_each (λ n. list_any (has_byte side.File s (s.address + n)) segments) s.size each k lt)
 
 -- a segment carries the byte with that offset and that address
-record CarriesByte (l : Layout) (offset address : ℕ) : Type 0 where
-  segment : Segment
-  listed : Contains l.segments segment
-  loaded : segment.kind ≡ pt_load
-  from : segment.address ≤ address
-  to : address < segment.address + segment.file_size
-  distance : offset ≡ segment.offset + (address - segment.address)
+abbrev pub IsByteCarried : Layout → ℕ → ℕ → Type 0
+IsByteCarried l offset address = (h : Segment) × CarriesByte l h offset address
 
 -- byte n of a section with data
-byte_of : (l : Layout) → Laid l → (k : ℕ) (o : Filled l k) (n : ℕ) → n < o.section.size → CarriesByte l (o.section.offset + n) (o.section.address + n)
+byte_of : (l : Layout) → Laid l → (k : ℕ) (o : Filled l k) (n : ℕ) → n < o.section.size → IsByteCarried l (o.section.offset + n) (o.section.address + n)
 byte_of l h k o n lt =
     let loaded = later_item (λ x. bytes_are_loaded side.File l.segments x ≡ true) l.sections k o.section o.is o.later h.segments.loaded in
     let found = segment_of l.segments o.section loaded o.allocated o.bits n lt in
@@ -115,10 +110,10 @@ byte_of l h k o n lt =
     let a = c.from in
     let b = c.to in
     let d = c.distance in
-    record { segment = found.item; listed = found.listed; loaded = c.loaded; from = a; to = b; distance = omega arith }
+    (found.item, record { listed = found.listed; loaded = c.loaded; from = a; to = b; distance = omega arith })
 
 -- a byte of a part of such a section, that many behind the part's start
-byte_of_part : (l : Layout) → Laid l → (p : Part) → part_lies l p ≡ true → (o : Filled l p.section) → (k : ℕ) → k < p.size → CarriesByte l (p.offset + k) (p.address + k)
+pub byte_of_part : (l : Layout) → Laid l → (p : Part) → part_lies l p ≡ true → (o : Filled l p.section) → (k : ℕ) → k < p.size → IsByteCarried l (p.offset + k) (p.address + k)
 byte_of_part l h p lies o k lt =
     let level = part_level l p lies o in
     let low = level.low in
@@ -129,7 +124,7 @@ byte_of_part l h p lies o k lt =
     let c = byte_of l h p.section o n (omega arith) in
     let offset : o.section.offset + n ≡ p.offset + k = omega arith in
     let address : o.section.address + n ≡ p.address + k = omega arith in
-    subst (λ (a : ℕ). CarriesByte l (p.offset + k) a) address (subst (λ (b : ℕ). CarriesByte l b (o.section.address + n)) offset c)
+    subst (λ (a : ℕ). IsByteCarried l (p.offset + k) a) address (subst (λ (b : ℕ). IsByteCarried l b (o.section.address + n)) offset c)
 
 -- ---- parts
 
@@ -140,7 +135,7 @@ IsPartMapped-from_laid l h i d low kind loaded k lt =
     let both = and_parts (is_allocated_section l p.section) (takes_file_bytes l p.section) (or_other (is_partial_link l.kind || not (is_loaded_role p.role)) (is_allocated_section l p.section && takes_file_bytes l p.section) (h.parts.loaded i d low) asked) in
     let o = Filled-from_tests l p.section (ltb-true _ _ (h.indexes.parts i d low)) both.0 both.1 in
     let c = byte_of_part l h p (h.parts.lie i d low) o k lt in
-    (c.segment, record { listed = c.listed; loaded = c.loaded; from = c.from; to = c.to; distance = c.distance })
+    (c.0, record { listed = c.1.listed; loaded = c.1.loaded; from = c.1.from; to = c.1.to; distance = c.1.distance })
 
 -- ---- input sections
 
@@ -163,8 +158,8 @@ IsMapped-from_stood l h s holds stood filled alloc =
     let place = place_is l s st in
     λ k lt. (
     let c = byte_of_part l h st.part lies o (s.address - st.part.address + k) (omega arith) in
-    let a = c.from in
-    let b = c.to in
-    let d = c.distance in
-    (c.segment, record { listed = c.listed; loaded = c.loaded; from = omega arith; to = omega arith; distance = omega arith })
+    let a = c.1.from in
+    let b = c.1.to in
+    let d = c.1.distance in
+    (c.0, record { listed = c.1.listed; loaded = c.1.loaded; from = omega arith; to = omega arith; distance = omega arith })
     )

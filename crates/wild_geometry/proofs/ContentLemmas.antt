@@ -19,7 +19,6 @@ use Rattle.wild_symbols.specs.TableLaws.{side_count}
 use Rattle.wild_versions.proofs.RoomLemmas.{length-symbol_versions, length-file_definitions, length-group_needs}
 use Rattle.wild_types.specs.declared.input.InputRelocation.{InputRelocation}
 use Rattle.wild_types.specs.declared.input.InputSection.{InputSection}
-use Rattle.wild_types.specs.Item.{item_of}
 use Rattle.wild_types.specs.declared.part.Role.{Role}
 use Rattle.wild_types.specs.declared.part.Role.TheVariants as role
 use Rattle.wild_types.specs.declared.file.File.{File}
@@ -105,7 +104,7 @@ section_length l s =
 
 left_length : (l : Layout) (s : InputSection) → length (section_generals l s) ≡ length (left_relocations l s)
 unfolding section_generals
-left_length l s = length-map (left_relocations l s) (left_entry l (item_of s))
+left_length l s = length-map (left_relocations l s) (left_entry l s.address s.flags)
 
 general_length : (l : Layout) (f : File) → length (file_generals l f) ≡ general_count l f
 unfolding file_generals general_count

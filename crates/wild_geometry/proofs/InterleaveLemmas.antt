@@ -1,5 +1,5 @@
 -- Lists joined end to end, item by item with their numbers, and two such lists interleaved.
-use Rattle.std.proofs.Common.{◌≡◌, ℕ, zero, suc, ◌+◌, ◌<◌, List, [], ◌∷◌, ◌++◌, length, get_or, All, AllPairs, Contains, flat_map, arith}
+use Rattle.std.proofs.Common.{◌≡◌, ℕ, zero, suc, ◌+◌, ◌<◌, List, [], ◌∷◌, ◌++◌, length, get_or, All, AllPairs, Contains, flat_map, refl, sym, ap, arith, subst}
 use Rattle.std.proofs.lemmas.List.Elements.{All-nil, All-append, Contains-append_left, Contains-append_right}
 use Rattle.wild_words.proofs.ListLemmas.{AllPairs-nil, AllPairs-append, All-append-left, All-append-right, AllPairs-left, AllPairs-right, AllPairs-cross}
 use Rattle.wild_layout.specs.Faults.{flat_map_from}
@@ -54,3 +54,17 @@ AllPairs-both R f g i (x ∷ xs) sym p q c =
     (All-append (λ a. All (R a) (flat_map_from (both f g) (i + 1) xs)) (f i x) (g x)
     (λ k d l. All-both (R (get_or (f i x) k d)) f g (i + 1) xs (across k d l) (All-append-right (R (get_or (f i x) k d)) (g x) gs (front k d l)))
     (λ k d l. All-both (R (get_or (g x) k d)) f g (i + 1) xs (λ m e n. sym (get_or fs m e) (get_or (g x) k d) (All-append-left (R (get_or fs m e)) (g x) gs (behind m e n) k d l)) (across2 k d l)))
+
+-- ---- the same without numbers
+
+flat_map-unnumbered : {X Y : Type 0} (f : X → List Y) (i : ℕ) (xs : List X) → flat_map_from (λ n. f) i xs ≡ flat_map f xs
+flat_map-unnumbered f i [] = refl
+flat_map-unnumbered f i (x ∷ xs) = ap (λ ys. f x ++ ys) (flat_map-unnumbered f (i + 1) xs)
+
+pub All-two : {X Y : Type 0} (P : Y → Type 0) (f g : X → List Y) (xs : List X) → All P (flat_map f xs) → All P (flat_map g xs) → All P (flat_map (λ x. f x ++ g x) xs)
+All-two P f g xs a b = subst (All P) (flat_map-unnumbered (λ x. f x ++ g x) 0 xs) (All-both P (λ n. f) g 0 xs (subst (All P) (sym (flat_map-unnumbered f 0 xs)) a) b)
+
+pub AllPairs-two : {X Y : Type 0} (R : Y → Y → Type 0) (f g : X → List Y) (xs : List X) → ((x y : Y) → R x y → R y x) → AllPairs R (flat_map f xs) → AllPairs R (flat_map g xs) → All (λ a. All (R a) (flat_map g xs)) (flat_map f xs) → AllPairs R (flat_map (λ x. f x ++ g x) xs)
+AllPairs-two R f g xs flip p q c =
+    let numbered = sym (flat_map-unnumbered f 0 xs) in
+    subst (AllPairs R) (flat_map-unnumbered (λ x. f x ++ g x) 0 xs) (AllPairs-both R (λ n. f) g 0 xs flip (subst (AllPairs R) numbered p) q (subst (All (λ a. All (R a) (flat_map g xs))) numbered c))

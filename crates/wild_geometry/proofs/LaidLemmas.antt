@@ -1,15 +1,19 @@
--- What it says that the clauses on input sections, indexes and fields hold; and all that a layout is laid out by.
-use Rattle.std.proofs.Common.{◌≡◌, true, [], All, None, Ok}
+-- What it says that the clauses on input sections, indexes, fields and thunks hold; and all that a layout is laid out by.
+use Rattle.std.proofs.Common.{◌≡◌, ℕ, true, [], All, Option, Some, None, Ok, refl, subst}
+use Rattle.std.proofs.lemmas.Bool.{and_parts}
+use Rattle.wild_types.specs.declared.kind.Machine.{Machine}
+use Rattle.wild_types.specs.declared.kind.Machine.TheVariants as machine
 use Rattle.wild_types.specs.declared.layout.Layout.{Layout}
 use Rattle.wild_types.specs.Lists.{first_failing, unless}
 use Rattle.wild_types.specs.Lookups.{files_of}
 use Rattle.wild_clauses.specs.Places.{part_out_of_order}
-use Rattle.wild_clauses.specs.Contents.{addresses, each_section, section_misplaced, length_fits, part_is_raw, allocation_agrees, bytes_take_room, fields_lie}
+use Rattle.wild_clauses.specs.Contents.{addresses, each_section, section_misplaced, length_fits, part_is_raw, primary_fits, allocation_agrees, bytes_take_room, fields_lie, tlsld_fits, tls_fits}
 use Rattle.wild_clauses.specs.GroupStarts.{start_places, no_starts, start_astray}
 use Rattle.wild_clauses.specs.Indexes.{part_index_fits, primary_is_there, thunks_are_there, symbol_misfit, group_indexes_fit, listed_misfit, entry_is_there}
 use Rattle.wild_types.specs.FileSymbols.{copied_again}
 use Rattle.wild_clauses.specs.VersionTables.{parent_is_there}
-use Rattle.wild_clauses.specs.ClauseTests.{fails, check_inputs, check_indexes, check_fields, check_starts}
+use Rattle.wild_clauses.specs.ClauseTests.{fails, check_inputs, check_indexes, check_fields, check_thunks, check_tls, check_starts}
+use Rattle.wild_clauses.specs.Thunks.{thunks_misplaced, block_lost}
 use Rattle.wild_clauses.specs.WellFormed.{first_clause}
 use Rattle.wild_types.proofs.ListLemmas.{All-from_none_fails}
 use Rattle.wild_clauses.proofs.ClauseLemmas.{None-from_fails}
@@ -18,7 +22,7 @@ use Rattle.wild_layout.specs.SlotOrder.{SlotsFollow, EachAgrees}
 use Rattle.wild_layout.specs.ListedSymbols.{AreListed}
 use Rattle.wild_layout.specs.HashShapes.{HasHashShapes}
 use Rattle.wild_layout.specs.VersionOrder.{HasVersionsInOrder}
-use Rattle.wild_geometry.proofs.ClauseLemmas.{Both-from_first_error, NoneFails-from_first_clause, SizesFit, SizesFit-from_check, CountsFit, CountsFit-from_check, OrderHolds-from_check, RolesHold, RolesHold-from_check, PartsLie, PartsLie-from_check, SegmentsHold, SegmentsHold-from_check, SharesHold, SharesHold-from_check}
+use Rattle.wild_geometry.proofs.ClauseLemmas.{Both-from_first_error, holds_from_unless, NoneFails-from_first_clause, SizesFit, SizesFit-from_check, CountsFit, CountsFit-from_check, OrderHolds-from_check, RolesHold, RolesHold-from_check, PartsLie, PartsLie-from_check, SegmentsHold, SegmentsHold-from_check, SharesHold, SharesHold-from_check}
 use Rattle.wild_geometry.proofs.SlotClauses.{SlotsFollow-from_check, EachAgrees-from_checks}
 use Rattle.wild_geometry.proofs.ListedClauses.{AreListed-from_checks}
 use Rattle.wild_geometry.proofs.HashClauses.{HasHashShapes-from_check}
@@ -32,6 +36,7 @@ pub record InputsHold (l : Layout) : Type 0 where
   pub raw : All (λ g. each_section (part_is_raw l) g ≡ true) l.groups
   pub allocation : All (λ g. each_section (allocation_agrees l) g ≡ true) l.groups
   pub room : All (λ g. each_section (bytes_take_room l) g ≡ true) l.groups
+  pub primary : primary_fits l ≡ true
 
 pub InputsHold-from_check : (l : Layout) → check_inputs l ≡ Ok tt → InputsHold l
 unfolding check_inputs
@@ -48,6 +53,7 @@ InputsHold-from_check l h =
       raw = All-from_none_fails (each_section (part_is_raw l)) 0 l.groups (None-from_fails 8 _ d.first);
       allocation = All-from_none_fails (each_section (allocation_agrees l)) 0 l.groups (None-from_fails 8 _ e.first);
       room = All-from_none_fails (each_section (bytes_take_room l)) 0 l.groups (None-from_fails 8 _ e.rest);
+      primary = holds_from_unless (primary_fits l) (None-from_fails 8 _ t.first);
     }
 
 pub record IndexesHold (l : Layout) : Type 0 where
@@ -79,6 +85,33 @@ pub FieldsLie-from_check : (l : Layout) → check_fields l ≡ Ok tt → All (λ
 unfolding check_fields
 FieldsLie-from_check l h = All-from_none_fails (each_section (fields_lie l.machine)) 0 l.groups (None-from_fails 10 _ h)
 
+-- ---- clause 12
+
+pub record ThunksHold (l : Layout) : Type 0 where
+  pub placed : thunks_misplaced l ≡ None
+  pub owned : block_lost l 0 l.thunk_blocks ≡ None
+
+pub ThunksHold-from_check : (l : Layout) → check_thunks l ≡ Ok tt → ThunksHold l
+unfolding check_thunks
+ThunksHold-from_check l h =
+    let a = Both-from_first_error _ _ h in
+    let b = Both-from_first_error _ _ a.rest in
+    let c = Both-from_first_error _ _ b.rest in
+    record { placed = None-from_fails 12 _ b.first; owned = None-from_fails 12 _ c.first }
+
+-- ---- clause 15
+
+-- of AArch64 there is no pair for the output's own thread-local data
+none_on_aarch64 : (o : Option ℕ) → tlsld_fits machine.AArch64 o ≡ true → o ≡ None
+none_on_aarch64 None h = refl
+none_on_aarch64 (Some at) h = cc
+
+pub IsSingle-from_check : (l : Layout) → check_tls l ≡ Ok tt → l.machine ≡ machine.AArch64 → l.tlsld ≡ None
+unfolding check_tls
+IsSingle-from_check l h on =
+    let t = and_parts _ (tlsld_fits l.machine l.tlsld) (holds_from_unless (tls_fits l) (None-from_fails 15 _ h)) in
+    none_on_aarch64 l.tlsld (subst (λ (m : Machine). tlsld_fits m l.tlsld ≡ true) on t.1)
+
 -- ---- clause 16
 
 pub StartsFollow-from_check : (l : Layout) → check_starts l ≡ Ok tt → start_astray (start_places l.parts) no_starts 0 l.groups ≡ None
@@ -99,8 +132,10 @@ pub record Laid (l : Layout) : Type 0 where
   pub indexes : IndexesHold l
   pub fields : All (λ g. each_section (fields_lie l.machine) g ≡ true) l.groups
   pub slots : SlotsFollow l
+  pub thunks : ThunksHold l
   pub dynsyms : AreListed l
   pub slot_flags : EachAgrees l
+  pub tlsld : l.machine ≡ machine.AArch64 → l.tlsld ≡ None
   pub starts : start_astray (start_places l.parts) no_starts 0 l.groups ≡ None
   pub hashes : HasHashShapes l
   pub versions : HasVersionsInOrder l
@@ -121,8 +156,10 @@ Laid-from_clauses l h n =
       indexes = IndexesHold-from_check l c.indexes;
       fields = FieldsLie-from_check l c.fields;
       slots = SlotsFollow-from_check l c.slots;
+      thunks = ThunksHold-from_check l c.thunks;
       dynsyms = AreListed-from_checks l c.dynsyms c.names;
       slot_flags = EachAgrees-from_checks l c.indexes c.slot_flags;
+      tlsld = IsSingle-from_check l c.tls;
       starts = StartsFollow-from_check l c.starts;
       hashes = HasHashShapes-from_check l c.hashes;
       versions = HasVersionsInOrder-from_check l c.versions;

@@ -1,5 +1,5 @@
 -- What the groups give to the parts lies in the image, each piece apart from the others.
-use Rattle.std.proofs.Common.{◌≡◌, ℕ, zero, suc, ◌+◌, ◌<◌, ◌≤◌, inl, inr, ◌==◌, true, false, List, [], ◌∷◌, length, get_or, All, AllPairs, Contains, Some, slice_get, refl, sym, ap, ◌∙◌, arith, subst}
+use Rattle.std.proofs.Common.{◌≡◌, ℕ, zero, suc, ◌+◌, ◌<◌, ◌≤◌, inl, inr, ◌==◌, true, false, List, [], ◌∷◌, length, get_or, All, AllPairs, Contains, Some, slice_get, flat_map, refl, sym, ap, ◌∙◌, arith}
 use Rattle.std.proofs.lemmas.Bool.{cases_Bool, cases_order, and_parts, or_cases, leb-true, eqb-true, eqb-false}
 use Rattle.std.proofs.lemmas.Option.{slice_get-get_or, same_Some}
 use Rattle.std.proofs.lemmas.List.Elements.{All-nil, All-cons}
@@ -8,7 +8,6 @@ use Rattle.wild_words.proofs.OrderLemmas.{Apart-flip}
 use Rattle.wild_words.specs.Overlay.{Piece, Apart, AreApart}
 use Rattle.wild_types.specs.declared.part.Part.{Part}
 use Rattle.wild_types.specs.declared.part.Role.TheVariants as role
-use Rattle.wild_types.specs.declared.input.InputSection.{InputSection}
 use Rattle.wild_types.specs.declared.file.Group.{Group}
 use Rattle.wild_types.specs.declared.layout.Layout.{Layout}
 use Rattle.wild_types.specs.Lookups.{is_filled, takes_file_bytes, image_size}
@@ -17,15 +16,20 @@ use Rattle.wild_types.specs.Parts.{role_place, has_role}
 use Rattle.wild_types.proofs.ListLemmas.{total-prefix}
 use Rattle.wild_clauses.specs.Places.{takes_room, ends_low}
 use Rattle.wild_layout.specs.Content.{content}
-use Rattle.wild_layout.specs.Image.{some_piece, given_before, table_piece, table_pieces, owned_pieces, section_piece, pieces}
+use Rattle.wild_layout.specs.Image.{some_piece, given_before, table_piece, table_pieces, owned_pieces, pieces}
 use Rattle.wild_layout.specs.Faults.{flat_map_from}
-use Rattle.wild_layout.specs.SectionPlaces.{PartLies}
+use Rattle.wild_layout.specs.Sites.{extent_of}
+use Rattle.wild_layout.specs.Thunks.{thunk_bytes}
+use Rattle.wild_layout.specs.SectionPlaces.{PartLies, HasRoom}
 use Rattle.wild_geometry.proofs.InterleaveLemmas.{All-flat_map_from, AllPairs-flat_map_from, All-both, AllPairs-both}
 use Rattle.wild_geometry.proofs.LaidLemmas.{Laid}
 use Rattle.wild_geometry.proofs.OrderLemmas.{Takes, EndsBy-image, Follows, PartsFollow-from_order}
 use Rattle.wild_geometry.proofs.ShareLemmas.{total_to, size_from_shares, content_is_given, content_of_raw}
-use Rattle.wild_geometry.proofs.SectionLemmas.{all_sections, Stood, Runs}
-use Rattle.wild_geometry.proofs.PieceLemmas.{parts_apart, piece_of, place_is, section_pieces, section_pieces_by_group, Standing, section_pieces_apart, InImage, section_pieces_within}
+use Rattle.wild_geometry.proofs.SectionLemmas.{all_sections, Runs}
+use Rattle.wild_geometry.proofs.PieceLemmas.{parts_apart, owner_at, offset_is, stood_room, Standing, section_rooms_apart, InImage, section_rooms_within}
+use Rattle.wild_geometry.proofs.Rooms.{AreBeside, room_of, section_room}
+use Rattle.wild_geometry.proofs.ThunkRuns.{all_thunks}
+use Rattle.wild_geometry.proofs.ThunkLemmas.{SectionsStand, ThunksStand, thunk_room, each_thunk, each_owned, owned_apart, owned_within}
 
 -- ---- parts
 
@@ -110,18 +114,18 @@ tables_apart l f i k p q a b xs ys is at x y few g order =
       | inr (inr behind) ↦ elim (parts_apart l f i k p q is at (λ e. omega arith) x.takes y.takes) [ inl c ↦ inl (omega arith) | inr d ↦ inr (omega arith) ]
     ]
 
-section_apart : (l : Layout) → AllPairs (Follows l) l.parts → (i : ℕ) (p : Part) (j : ℕ) (xs : List ℕ) (s : InputSection) → slice_get l.parts i ≡ Some p → Given l i p j (length xs) → Stood l s → Apart (piece_in l i p j xs) (piece_of l s)
-section_apart l f i p j xs s is x st =
+-- and what stands in a raw part
+owner_apart : (l : Layout) → AllPairs (Follows l) l.parts → (i : ℕ) (p : Part) (j : ℕ) (xs : List ℕ) (k at : ℕ) (bs : List ℕ) (q : Part) → slice_get l.parts i ≡ Some p → Given l i p j (length xs) → HasRoom l k at (length bs) q → Apart (piece_in l i p j xs) (owner_at l k at bs)
+owner_apart l f i p j xs k at bs q is x h =
     let u = x.ends in
-    let place = place_is l s st in
-    let len = st.length in
-    let from = st.from in
-    let to = st.to in
-    let differ : i ≡ s.part → ⊥ = λ e.
-    (let same : p ≡ st.part = same_Some p st.part (sym is ∙ ap (slice_get l.parts) e ∙ st.is) in
-    let raw : role_place p.role ≡ 0 = ap (λ (r : Part). role_place r.role) same ∙ ap role_place st.raw in
+    let place = offset_is l k at (length bs) q h in
+    let from = h.from in
+    let to = h.to in
+    let differ : i ≡ k → ⊥ = λ e.
+    (let same : p ≡ q = same_Some p q (sym is ∙ ap (slice_get l.parts) e ∙ h.listed) in
+    let raw : role_place p.role ≡ 0 = ap (λ (r : Part). role_place r.role) same ∙ ap role_place h.raw in
     eqb-false (role_place p.role) 0 x.raw raw) in
-    elim (parts_apart l f i s.part p st.part is st.is differ x.takes st.takes) [ inl c ↦ inl (omega arith) | inr d ↦ inr (omega arith) ]
+    elim (parts_apart l f i k p q is h.listed differ x.takes h.takes) [ inl c ↦ inl (omega arith) | inr d ↦ inr (omega arith) ]
 
 -- ---- all pieces
 
@@ -174,13 +178,21 @@ given_apart l h follow =
         each_given l (Apart (piece_at l i p j g)) n k f d (λ o q lk y.
         two_given l h follow i o p q j k g f li lk (omega arith) low x y (λ e. lt)))
 
-given_and_sections : (l : Layout) → Laid l → Standing l → All (λ a. All (Apart a) (section_pieces l)) (given_pieces l)
-given_and_sections l h st =
-    All-flat_map_from (λ a. All (Apart a) (section_pieces l)) (table_pieces l) 0 l.groups (λ n j g e low.
-    each_given l (λ a. All (Apart a) (section_pieces l)) n j g (omega arith) (λ i p li x.
-    All-flat_map (Apart (piece_at l i p j g)) (section_piece l) (all_sections l) (λ k s m.
-    All-optional (Apart (piece_at l i p j g)) (is_filled l (get_or (all_sections l) k s)) (piece_of l (get_or (all_sections l) k s)) (λ c.
-    section_apart l st.follow i (get_or l.parts i p) j (content_at l i p j g) (get_or (all_sections l) k s) (slice_get-get_or l.parts i p li) (given_from_content l h i p li j g low x) (st.stood k s m c)))))
+-- a group's bytes of a part, with all that files own
+given_and_owned : (l : Layout) → Laid l → Standing l → ThunksStand l → All (λ a. All (Apart a) (flat_map (owned_pieces l) l.groups)) (given_pieces l)
+given_and_owned l h st thunks =
+    All-flat_map_from (λ a. All (Apart a) (flat_map (owned_pieces l) l.groups)) (table_pieces l) 0 l.groups (λ n j g e low.
+    each_given l (λ a. All (Apart a) (flat_map (owned_pieces l) l.groups)) n j g (omega arith) (λ i p li x.
+    each_owned l (AreBeside (extent_of (piece_at l i p j g))) st.stood
+    (All-flat_map (Apart (piece_at l i p j g)) (section_room l) (all_sections l) (λ k s m.
+    All-optional (Apart (piece_at l i p j g)) (is_filled l (get_or (all_sections l) k s)) (room_of l (get_or (all_sections l) k s)) (λ c.
+    let y = get_or (all_sections l) k s in
+    let there = st.stood k s m c in
+    owner_apart l st.follow i (get_or l.parts i p) j (content_at l i p j g) y.part y.address (room_of l y).bytes there.part (slice_get-get_or l.parts i p li) (given_from_content l h i p li j g low x) (stood_room l y there))))
+    (each_thunk l (Apart (piece_at l i p j g)) (λ k t m.
+    let y = get_or (all_thunks l) k t in
+    let there = thunks.stood k t m in
+    owner_apart l st.follow i (get_or l.parts i p) j (content_at l i p j g) l.primary_part y.address (thunk_bytes l y) there.part (slice_get-get_or l.parts i p li) (given_from_content l h i p li j g low x) (thunk_room l y there)))))
 
 given_within : (l : Layout) → Laid l → All (InImage l) (given_pieces l)
 given_within l h =
@@ -191,14 +203,13 @@ given_within l h =
     let in_image = EndsBy-image l i p li one.takes (omega arith) in
     omega arith))
 
-pub AreApart-from_laid : (l : Layout) → Laid l → Runs l → All (λ s. is_filled l s ≡ true → Stood l s) (all_sections l) → AreApart (image_size l) (pieces l)
+pub AreApart-from_laid : (l : Layout) → Laid l → Runs l → SectionsStand l → ThunksStand l → AreApart (image_size l) (pieces l)
 unfolding pieces
-AreApart-from_laid l laid runs stood =
+AreApart-from_laid l laid runs stood thunks =
     let h : Standing l = record { follow = (PartsFollow-from_order l 0 0 l.parts laid.order).pairs; ends = EndsBy-image l; runs = runs; stood = stood } in
-    let same = section_pieces_by_group l in
     record {
-      within = All-both (InImage l) (table_pieces l) (owned_pieces l) 0 l.groups (given_within l laid) (subst (All (InImage l)) same (section_pieces_within l h));
-      apart = AllPairs-both Apart (table_pieces l) (owned_pieces l) 0 l.groups Apart-flip (given_apart l laid h.follow) (subst (AllPairs Apart) same (section_pieces_apart l h)) (subst (λ (ps : List Piece). All (λ a. All (Apart a) ps) (given_pieces l)) same (given_and_sections l laid h));
+      within = All-both (InImage l) (table_pieces l) (owned_pieces l) 0 l.groups (given_within l laid) (owned_within l (section_rooms_within l h) stood thunks);
+      apart = AllPairs-both Apart (table_pieces l) (owned_pieces l) 0 l.groups Apart-flip (given_apart l laid h.follow) (owned_apart l h.follow Apart-flip (section_rooms_apart l h) stood thunks) (given_and_owned l laid h thunks);
     }
 
 -- ---- the tables

@@ -2,3 +2,4 @@ pub mod EntryKinds
 pub mod MachineFacts
 pub mod Loaded
 pub mod Slots
+pub mod Thunks

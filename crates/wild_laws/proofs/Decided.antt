@@ -65,9 +65,9 @@ item_decided l g f k s lies h =
       apart = sites_apart l s lies (no_overlap _ _ parts.1);
     }
 
-section_decided : (l : Layout) (g f k : ℕ) (s : InputSection) → is_read s ≡ true → SectionLies l s → section_errors l g f k s ≡ [] → IsDecided l (item_of s)
+section_decided : (l : Layout) (g f : ℕ) (file : File) (k : ℕ) (s : InputSection) → is_read s ≡ true → SectionLies l s → section_errors l g f file k s ≡ [] → IsDecided l (item_of l file s)
 unfolding section_errors
-section_decided l g f k s t lies h = item_decided l g f k (item_of s) (subst (λ (n : ℕ). All (FieldLies l.machine n) s.relocations) (sym (lies.bytes t)) lies.fields) (rw t at h)
+section_decided l g f file k s t lies h = item_decided l g f k (item_of l file s) (subst (λ (n : ℕ). All (FieldLies l.machine n) s.relocations) (sym (lies.bytes t)) lies.fields) (rw t at h)
 
 pub lies_at : (l : Layout) (s : InputSection) → IsLaidOut l → IsInput l s → SectionLies l s
 lies_at l s laid k =
@@ -80,5 +80,5 @@ sections_decided l laid none = λ s k read.
     let lies = lies_at l s laid k in
     let g = nothing_from (group_errors l) 0 l.groups k.group k.grouped none in
     let f = nothing_from (file_errors l g.0) 0 k.group.files k.file k.filed (nil_parts _ _ g.1).0 in
-    let e = nothing_from (section_errors l g.0 f.0) 0 k.file.sections s k.listed (nil_parts _ _ f.1).0 in
-    section_decided l g.0 f.0 e.0 s read lies e.1
+    let e = nothing_from (section_errors l g.0 f.0 k.file) 0 k.file.sections s k.listed (nil_parts _ _ f.1).0 in
+    section_decided l g.0 f.0 k.file e.0 s read lies e.1

@@ -7,7 +7,6 @@ use Rattle.wild_records.specs.Abi.Relocation.{r_x86_64_pc32, r_x86_64_plt32}
 use Rattle.wild_types.specs.declared.kind.Machine.{Machine}
 use Rattle.wild_types.specs.declared.kind.Machine.TheVariants as machine
 use Rattle.wild_types.specs.declared.input.InputRelocation.{InputRelocation}
-use Rattle.wild_types.specs.declared.input.InputSection.{InputSection}
 use Rattle.wild_types.specs.declared.layout.Layout.{Layout}
 use Rattle.wild_reloc.specs.Formula.{Formula, formula, Distance, StubDistance, Plain, Signed}
 use Rattle.wild_reloc.specs.FormulaX86_64.{x86_64_formula}
@@ -23,7 +22,7 @@ use Rattle.wild_loader.specs.Instruction.{Effect, effect, with_value}
 use Rattle.wild_loader.specs.InstructionAArch64.{meaning_aarch64}
 use Rattle.wild_loader.specs.InstructionX86_64.{meaning_x86_64}
 use Rattle.wild_meaning.specs.Sequence.{Instruction, size_of, IsOwnByte}
-use Rattle.wild_types.specs.Item.{Item, item_of}
+use Rattle.wild_types.specs.Item.{Item}
 use Rattle.wild_meaning.specs.Item.{place_at}
 use Rattle.wild_meaning.specs.Field.{form_width, IsInputByte}
 use Rattle.wild_meaning.specs.Template.{effect_of, demand_of, reads, reads_alone, IsInstruction, IsTemplate, DoesWith, DoesDemanded}
@@ -58,7 +57,7 @@ call_formula n c = at n c.0 c.1 c.2
     at n (suc (suc k)) l e = absurd (omega (arith, l))
 
 -- the byte is outside the four bytes of a reference's field
-outside : (s : InputSection) (r : InputRelocation) (k : ℕ) → NoField s k → Contains s.relocations r → Contains branch_types r.number → (k < r.offset) ⊎ (r.offset + 4 ≤ k)
+outside : (s : Item) (r : InputRelocation) (k : ℕ) → NoField s k → Contains s.relocations r → Contains branch_types r.number → (k < r.offset) ⊎ (r.offset + 4 ≤ k)
 outside s r k out listed number =
     let f = call_formula r.number number in
     subst (λ (n : ℕ). (k < r.offset) ⊎ (r.offset + n ≤ k)) f.wide (All-contains (λ (q : InputRelocation). (f : Formula) → x86_64_formula q.number ≡ Some f → (k < q.offset) ⊎ (q.offset + form_width f.form ≤ k)) s.relocations r out listed f.formula f.known)
@@ -90,10 +89,10 @@ does_so l w m item r start o d = record { value = d.value; demands = d.demands; 
 -- ---- opcodes
 
 -- the effect that a call or a jump demands
-demanded_deed : (l : Layout) (w : World) (m : Memory) (s : InputSection) (r : InputRelocation) (start opcode : ℕ) (deed : Deed) → DoesDeed opcode deed → l.machine ≡ machine.X86_64 → IsBranch s r start opcode → (v : ℕ) → (d : DoesWith (reads w m) l w m (item_of s) start (direct opcode deed) v) → d.effect.deed ≡ deed
+demanded_deed : (l : Layout) (w : World) (m : Memory) (s : Item) (r : InputRelocation) (start opcode : ℕ) (deed : Deed) → DoesDeed opcode deed → l.machine ≡ machine.X86_64 → IsBranch s r start opcode → (v : ℕ) → (d : DoesWith (reads w m) l w m s start (direct opcode deed) v) → d.effect.deed ≡ deed
 demanded_deed l w m s r start opcode deed does x branch v d =
-    let old : demand_of machine.X86_64 v (place_at w (item_of s) start) (slice_range s.bytes start (start + 5)) ≡ Some d.effect = subst (λ (k : Machine). demand_of k v (place_at w (item_of s) start) (slice_range s.bytes start (start + 5)) ≡ Some d.effect) x d.demanded in
-    let is = does (place_at w (item_of s) start) v (slice_range s.bytes start (start + 5)) (old_length s r start opcode branch) (first_byte s.bytes start ∙ branch.begins) in
+    let old : demand_of machine.X86_64 v (place_at w s start) (slice_range s.bytes start (start + 5)) ≡ Some d.effect = subst (λ (k : Machine). demand_of k v (place_at w s start) (slice_range s.bytes start (start + 5)) ≡ Some d.effect) x d.demanded in
+    let is = does (place_at w s start) v (slice_range s.bytes start (start + 5)) (old_length s r start opcode branch) (first_byte s.bytes start ∙ branch.begins) in
     ap deed_in (sym (sym is ∙ old)) ∙ refl
   where
     deed_in : Option Effect → Deed
@@ -101,9 +100,9 @@ demanded_deed l w m s r start opcode deed does x branch v d =
     deed_in (Some e) = e.deed
 
 -- the loaded code does what the instruction demands, so it begins with the input's opcode
-opcode_kept : (l : Layout) (w : World) (m : Memory) (s : InputSection) (r : InputRelocation) (start opcode : ℕ) (deed : Deed) → DoesDeed opcode deed → HasOpcode opcode deed → l.machine ≡ machine.X86_64 → IsBranch s r start opcode → (v : ℕ) → DoesWith (reads w m) l w m (item_of s) start (direct opcode deed) v → IsInputByte w m (item_of s) start
+opcode_kept : (l : Layout) (w : World) (m : Memory) (s : Item) (r : InputRelocation) (start opcode : ℕ) (deed : Deed) → DoesDeed opcode deed → HasOpcode opcode deed → l.machine ≡ machine.X86_64 → IsBranch s r start opcode → (v : ℕ) → DoesWith (reads w m) l w m s start (direct opcode deed) v → IsInputByte w m s start
 opcode_kept l w m s r start opcode deed does has x branch v d =
-    let a = place_at w (item_of s) start in
+    let a = place_at w s start in
     let loaded : effect_of machine.X86_64 (reads w m) a d.bytes ≡ Some d.effect = subst (λ (k : Machine). effect_of k (reads w m) a d.bytes ≡ Some d.effect) x d.does in
     let five = d.whole in
     let op = has (reads w m) a d.bytes d.effect five loaded (demanded_deed l w m s r start opcode deed does x branch v d) in
@@ -111,58 +110,58 @@ opcode_kept l w m s r start opcode deed does has x branch v d =
     let held : byte_in m (a + 0) ≡ Some (get_or d.bytes 0 0) = d.held 0 (omega (arith, five)) in
     subst (λ (p : ℕ). byte_in m p ≡ Some (get_or d.bytes 0 0)) z held ∙ ap (λ (b : ℕ). Some b) (op ∙ sym branch.begins)
 
-by_code : (l : Layout) (w : World) (m : Memory) (s : InputSection) (r : InputRelocation) (start : ℕ) (o : Instruction) (v : ℕ) → l.machine ≡ machine.X86_64 → IsFirst l s r → IsInstruction l (item_of s) r start o → IsCallOrJump o → DoesWith (reads w m) l w m (item_of s) start o v → IsInputByte w m (item_of s) start
+by_code : (l : Layout) (w : World) (m : Memory) (s : Item) (r : InputRelocation) (start : ℕ) (o : Instruction) (v : ℕ) → l.machine ≡ machine.X86_64 → IsFirst l s r → IsInstruction l s r start o → IsCallOrJump o → DoesWith (reads w m) l w m s start o v → IsInputByte w m s start
 by_code l w m s r start o v x f t (inl e) d =
-    let branch = is_branch l s r start 0xe8 Call x (subst (λ (p : Instruction). IsInstruction l (item_of s) r start p) e t) in
-    opcode_kept l w m s r start 0xe8 Call call_does call_opcode x branch v (subst (λ (p : Instruction). DoesWith (reads w m) l w m (item_of s) start p v) e d)
+    let branch = is_branch l s r start 0xe8 Call x (subst (λ (p : Instruction). IsInstruction l s r start p) e t) in
+    opcode_kept l w m s r start 0xe8 Call call_does call_opcode x branch v (subst (λ (p : Instruction). DoesWith (reads w m) l w m s start p v) e d)
 by_code l w m s r start o v x f t (inr e) d =
-    let branch = is_branch l s r start 0xe9 Jump x (subst (λ (p : Instruction). IsInstruction l (item_of s) r start p) e t) in
-    opcode_kept l w m s r start 0xe9 Jump jump_does jump_opcode x branch v (subst (λ (p : Instruction). DoesWith (reads w m) l w m (item_of s) start p v) e d)
+    let branch = is_branch l s r start 0xe9 Jump x (subst (λ (p : Instruction). IsInstruction l s r start p) e t) in
+    opcode_kept l w m s r start 0xe9 Jump jump_does jump_opcode x branch v (subst (λ (p : Instruction). DoesWith (reads w m) l w m s start p v) e d)
 
 -- so it is of each template
-by_template : (l : Layout) (w : World) (m : Memory) (s : InputSection) (r : InputRelocation) (start : ℕ) (o : Instruction) (one : InputRelocation) (v : ℕ) → l.machine ≡ machine.X86_64 → IsFirst l s r → IsTemplate l (item_of s) r start o one → DoesWith (reads w m) l w m (item_of s) start o v → IsInputByte w m (item_of s) start
+by_template : (l : Layout) (w : World) (m : Memory) (s : Item) (r : InputRelocation) (start : ℕ) (o : Instruction) (one : InputRelocation) (v : ℕ) → l.machine ≡ machine.X86_64 → IsFirst l s r → IsTemplate l s r start o one → DoesWith (reads w m) l w m s start o v → IsInputByte w m s start
 by_template l w m s r start o one v x f t d =
     let direct = template_direct l s r start o one x f t in
     by_code l w m s r start o v x f direct.stands direct.which d
 
 -- where the instruction begins, and that its other bytes are in its field
-record IsShort (s : InputSection) (r : InputRelocation) (start : ℕ) (o : Instruction) : Type 0 where
+record IsShort (s : Item) (r : InputRelocation) (start : ℕ) (o : Instruction) : Type 0 where
   five : size_of o ≡ 5
   behind : r.offset ≡ start + 1
   number : Contains branch_types r.number
 
-short : (l : Layout) (s : InputSection) (r : InputRelocation) (start : ℕ) (o : Instruction) → l.machine ≡ machine.X86_64 → IsFirst l s r → IsInstruction l (item_of s) r start o → IsCallOrJump o → IsShort s r start o
+short : (l : Layout) (s : Item) (r : InputRelocation) (start : ℕ) (o : Instruction) → l.machine ≡ machine.X86_64 → IsFirst l s r → IsInstruction l s r start o → IsCallOrJump o → IsShort s r start o
 short l s r start o x f t (inl e) =
-    let branch = is_branch l s r start 0xe8 Call x (subst (λ (p : Instruction). IsInstruction l (item_of s) r start p) e t) in
+    let branch = is_branch l s r start 0xe8 Call x (subst (λ (p : Instruction). IsInstruction l s r start p) e t) in
     record { five = ap size_of e; behind = branch.behind; number = branch.number }
 short l s r start o x f t (inr e) =
-    let branch = is_branch l s r start 0xe9 Jump x (subst (λ (p : Instruction). IsInstruction l (item_of s) r start p) e t) in
+    let branch = is_branch l s r start 0xe9 Jump x (subst (λ (p : Instruction). IsInstruction l s r start p) e t) in
     record { five = ap size_of e; behind = branch.behind; number = branch.number }
 
 -- ---- references that hold
 
 -- the reference keeps the bytes of its instruction
-abbrev KeepsBytes : Layout → World → Memory → InputSection → InputRelocation → Type 0
-KeepsBytes l w m s r = (start : ℕ) (o : Instruction) (one : InputRelocation) → IsTemplate l (item_of s) r start o one → (k : ℕ) → IsOwnByte o k → IsInputByte w m (item_of s) (start + k)
+abbrev KeepsBytes : Layout → World → Memory → Item → InputRelocation → Type 0
+KeepsBytes l w m s r = (start : ℕ) (o : Instruction) (one : InputRelocation) → IsTemplate l s r start o one → (k : ℕ) → IsOwnByte o k → IsInputByte w m s (start + k)
 
-kept_opcode : (l : Layout) (w : World) (m : Memory) (s : InputSection) (r : InputRelocation) (start : ℕ) (o : Instruction) (one : InputRelocation) → IsCallOrJump o → IsTemplate l (item_of s) r start o one → KeepsBytes l w m s r → IsInputByte w m (item_of s) start
+kept_opcode : (l : Layout) (w : World) (m : Memory) (s : Item) (r : InputRelocation) (start : ℕ) (o : Instruction) (one : InputRelocation) → IsCallOrJump o → IsTemplate l s r start o one → KeepsBytes l w m s r → IsInputByte w m s start
 kept_opcode l w m s r start o one (inl e) t keeps =
     let z : start + 0 ≡ start = omega arith in
-    subst (λ (k : ℕ). IsInputByte w m (item_of s) k) z (keeps start (direct 0xe8 Call) one (subst (λ (p : Instruction). IsTemplate l (item_of s) r start p one) e t) 0 (record { inside = omega arith; beside = inl (omega arith); apart = tt }))
+    subst (λ (k : ℕ). IsInputByte w m s k) z (keeps start (direct 0xe8 Call) one (subst (λ (p : Instruction). IsTemplate l s r start p one) e t) 0 (record { inside = omega arith; beside = inl (omega arith); apart = tt }))
 kept_opcode l w m s r start o one (inr e) t keeps =
     let z : start + 0 ≡ start = omega arith in
-    subst (λ (k : ℕ). IsInputByte w m (item_of s) k) z (keeps start (direct 0xe9 Jump) one (subst (λ (p : Instruction). IsTemplate l (item_of s) r start p one) e t) 0 (record { inside = omega arith; beside = inl (omega arith); apart = tt }))
+    subst (λ (k : ℕ). IsInputByte w m s k) z (keeps start (direct 0xe9 Jump) one (subst (λ (p : Instruction). IsTemplate l s r start p one) e t) 0 (record { inside = omega arith; beside = inl (omega arith); apart = tt }))
 
 -- or its instruction was rewritten: the loaded code has the effect, with some value
-record HasCode (l : Layout) (w : World) (m : Memory) (s : InputSection) (r : InputRelocation) : Type 0 where
+record HasCode (l : Layout) (w : World) (m : Memory) (s : Item) (r : InputRelocation) : Type 0 where
   start : ℕ
   instruction : Instruction
   first : InputRelocation
-  template : IsTemplate l (item_of s) r start instruction first
+  template : IsTemplate l s r start instruction first
   value : ℕ
-  code : DoesWith (reads_alone w m) l w m (item_of s) start instruction value
+  code : DoesWith (reads_alone w m) l w m s start instruction value
 
-opcode_there : (l : Layout) (w : World) (m : Memory) (s : InputSection) (r : InputRelocation) (start : ℕ) (o : Instruction) (one : InputRelocation) → l.machine ≡ machine.X86_64 → IsFirst l s r → IsTemplate l (item_of s) r start o one → KeepsBytes l w m s r ⊎ HasCode l w m s r → IsInputByte w m (item_of s) start
+opcode_there : (l : Layout) (w : World) (m : Memory) (s : Item) (r : InputRelocation) (start : ℕ) (o : Instruction) (one : InputRelocation) → l.machine ≡ machine.X86_64 → IsFirst l s r → IsTemplate l s r start o one → KeepsBytes l w m s r ⊎ HasCode l w m s r → IsInputByte w m s start
 opcode_there l w m s r start o one x f t (inl keeps) = kept_opcode l w m s r start o one (template_direct l s r start o one x f t).which t keeps
 opcode_there l w m s r start o one x f t (inr q) =
     let here = template_direct l s r start o one x f t in
@@ -170,13 +169,13 @@ opcode_there l w m s r start o one x f t (inr q) =
     let a = (short l s r start o x f here.stands here.which).behind in
     let b = (short l s r q.start q.instruction x f there.stands there.which).behind in
     let same : q.start ≡ start = omega (arith, a, b) in
-    subst (λ (k : ℕ). IsInputByte w m (item_of s) k) same (by_template l w m s r q.start q.instruction q.first q.value x f q.template (with_too l w m (item_of s) q.start q.instruction q.value q.code))
+    subst (λ (k : ℕ). IsInputByte w m s k) same (by_template l w m s r q.start q.instruction q.first q.value x f q.template (with_too l w m s q.start q.instruction q.value q.code))
 
-plain_keeps : (l : Layout) (w : World) (m : Memory) (s : InputSection) (r : InputRelocation) → ReferenceHolds l w m (item_of s) r → KeepsBytes l w m s r ⊎ HasCode l w m s r
+plain_keeps : (l : Layout) (w : World) (m : Memory) (s : Item) (r : InputRelocation) → ReferenceHolds l w m s r → KeepsBytes l w m s r ⊎ HasCode l w m s r
 plain_keeps l w m s r (inl p) = inl p.kept
 plain_keeps l w m s r (inr q) = inr (record { start = q.start; instruction = q.instruction; first = q.first; template = q.template; value = q.does.value; code = q.does.code })
 
-linked_keeps : (l : Layout) (w : World) (m : Memory) (s : InputSection) (r : InputRelocation) → LinkedHolds l w m (item_of s) r → KeepsBytes l w m s r ⊎ HasCode l w m s r
+linked_keeps : (l : Layout) (w : World) (m : Memory) (s : Item) (r : InputRelocation) → LinkedHolds l w m s r → KeepsBytes l w m s r ⊎ HasCode l w m s r
 linked_keeps l w m s r (inl p) = inl p.kept
 linked_keeps l w m s r (inr (inl q)) = inr (record { start = q.start; instruction = q.instruction; first = r; template = inl (q.template, refl); value = q.does.value; code = q.does.code })
 linked_keeps l w m s r (inr (inr q)) = inr (record { start = q.start; instruction = q.instruction; first = q.first; template = inr (record { rest = q.rest; sequence = q.sequence; one = (let lt = q.one.1 in (suc q.one.0, omega (arith, lt), q.one.2)) }); value = q.does.value; code = q.does.code })
@@ -208,9 +207,9 @@ at_start : (k start size offset : ℕ) → size ≡ 5 → offset ≡ start + 1 �
 at_start k start size offset five e from to (inl a) = omega (arith, e, from, a)
 at_start k start size offset five e from to (inr b) = absurd (omega (arith, five, e, to, b))
 
-pub other_byte : (l : Layout) (w : World) (m : Memory) (s : InputSection) (k : ℕ) → l.machine ≡ machine.X86_64 → HasFirstTypes s → EachIsAsked l w s → ItemHolds l w m (item_of s) → k < length s.bytes → NoField s k → IsInputByte w m (item_of s) k
+pub other_byte : (l : Layout) (w : World) (m : Memory) (s : Item) (k : ℕ) → l.machine ≡ machine.X86_64 → HasFirstTypes s → EachIsAsked l w s → ItemHolds l w m s → k < length s.bytes → NoField s k → IsInputByte w m s k
 other_byte l w m s k x types asked holds lt out =
-    stable (byte_in m (place_at w (item_of s) k)) (slice_index s.bytes k) (λ never. holds.others k lt (record {
+    stable (byte_in m (place_at w s k)) (slice_index s.bytes k) (λ never. holds.others k lt (record {
       fields = in_no_field l s k x out;
       templates = λ r start o one ref t. beside k start (size_of o) (λ from to.
           (let f = of_section l s r types ref in
@@ -218,6 +217,6 @@ other_byte l w m s k x types asked holds lt out =
           let d = template_direct l s r start o one x f t in
           let code = short l s r start o x f d.stands d.which in
           let here : start ≡ k = at_start k start (size_of o) r.offset code.five code.behind from to (outside s r k out ref.listed code.number) in
-          let done : IsInputByte w m (item_of s) start → ⊥ = λ h. never (subst (λ (j : ℕ). IsInputByte w m (item_of s) j) here h) in
+          let done : IsInputByte w m s start → ⊥ = λ h. never (subst (λ (j : ℕ). IsInputByte w m s j) here h) in
           done (opcode_there l w m s r start o one x f t (plain_keeps l w m s r (holds.references r ref told.0 (λ alone. done (opcode_there l w m s r start o one x f t (linked_keeps l w m s r (holds.linked r ref alone (told.1 alone))))))))));
     }))

@@ -7,7 +7,6 @@ use Rattle.wild_words.proofs.Basics.{listed_at, length-range, range_byte, listed
 use Rattle.wild_types.specs.declared.kind.Machine.{Machine}
 use Rattle.wild_types.specs.declared.kind.Machine.TheVariants as machine
 use Rattle.wild_types.specs.declared.input.InputRelocation.{InputRelocation}
-use Rattle.wild_types.specs.declared.input.InputSection.{InputSection}
 use Rattle.wild_types.specs.declared.layout.Layout.{Layout}
 use Rattle.wild_reloc.specs.Formula.{Formula}
 use Rattle.wild_loader.specs.declared.instruction.Cell.{Cell}
@@ -19,7 +18,7 @@ use Rattle.wild_loader.specs.Instruction.{Template, Reader, Effect, exact, field
 use Rattle.wild_loader.specs.ThreadCodeX86_64.{nop_byte}
 use Rattle.wild_loader.specs.InstructionX86_64.{templates_x86_64, meaning_x86_64, effect_x86_64}
 use Rattle.wild_meaning.specs.Sequence.{Instruction, size_of, IsOwnByte, instructions_of}
-use Rattle.wild_types.specs.Item.{item_of}
+use Rattle.wild_types.specs.Item.{Item}
 use Rattle.wild_meaning.specs.Item.{IsReference}
 use Rattle.wild_meaning.specs.Field.{formula_of, form_width, InNoField}
 use Rattle.wild_meaning.specs.Template.{IsInstruction, IsSequence, IsTemplate}
@@ -45,20 +44,20 @@ five P h (b ∷ c ∷ d ∷ e ∷ f ∷ g ∷ bs) n = absurd (omega (arith, n))
 
 -- ---- fields
 
-pub in_no_field : (l : Layout) (s : InputSection) (k : ℕ) → l.machine ≡ machine.X86_64 → NoField s k → InNoField l (item_of s) k
+pub in_no_field : (l : Layout) (s : Item) (k : ℕ) → l.machine ≡ machine.X86_64 → NoField s k → InNoField l s k
 in_no_field l s k x out = subst (λ (mach : Machine). All (λ (r : InputRelocation). (f : Formula) → formula_of mach r.number ≡ Some f → (k < r.offset) ⊎ (r.offset + form_width f.form ≤ k)) s.relocations) (sym x) out
 
-pub no_field : (l : Layout) (s : InputSection) (k : ℕ) → l.machine ≡ machine.X86_64 → InNoField l (item_of s) k → NoField s k
+pub no_field : (l : Layout) (s : Item) (k : ℕ) → l.machine ≡ machine.X86_64 → InNoField l s k → NoField s k
 no_field l s k x out = subst (λ (mach : Machine). All (λ (r : InputRelocation). (f : Formula) → formula_of mach r.number ≡ Some f → (k < r.offset) ⊎ (r.offset + form_width f.form ≤ k)) s.relocations) x out
 
 -- ---- the template of a reference
 
 -- the first of a sequence asks for a thread address
-first_asks : (l : Layout) (s : InputSection) (a b : InputRelocation) (start : ℕ) (o : Instruction) → l.machine ≡ machine.X86_64 → IsGetterCall l (item_of s) a b start o → is_thread a.number ≡ true
+first_asks : (l : Layout) (s : Item) (a b : InputRelocation) (start : ℕ) (o : Instruction) → l.machine ≡ machine.X86_64 → IsGetterCall l s a b start o → is_thread a.number ≡ true
 first_asks l s a b start o x q = asking o q.partner a.number (subst (λ (m : Machine). Contains (instructions_of m) o) x q.stands.known) q.calls q.stands.number
 
 -- the second of a sequence is the call of the function that gives thread addresses, behind one that asks for such an address
-second_calls : (l : Layout) (s : InputSection) (a b : InputRelocation) (start : ℕ) (o : Instruction) → l.machine ≡ machine.X86_64 → IsGetterCall l (item_of s) a b start o → IsThreadCall l s b
+second_calls : (l : Layout) (s : Item) (a b : InputRelocation) (start : ℕ) (o : Instruction) → l.machine ≡ machine.X86_64 → IsGetterCall l s a b start o → IsThreadCall l s b
 second_calls l s a b start o x q = record {
   number = calling o q.partner b.number (subst (λ (m : Machine). Contains (instructions_of m) o) x q.stands.known) q.calls q.has.number;
   getter = q.has.getter;
@@ -69,25 +68,25 @@ second_calls l s a b start o x q = record {
   asks = one_of thread_types a.number (first_asks l s a b start o x q);
 }
 
-pub no_sequence : (l : Layout) (s : InputSection) (a b : InputRelocation) (rest : List InputRelocation) (start : ℕ) (o : Instruction) → l.machine ≡ machine.X86_64 → (IsThreadCall l s b → ⊥) → IsSequence l (item_of s) a rest start o → Contains rest b → ⊥
-no_sequence l s a b rest start o x free q c = free (second_calls l s a b start o x (as_its_call l (item_of s) a b rest start o x q c))
+pub no_sequence : (l : Layout) (s : Item) (a b : InputRelocation) (rest : List InputRelocation) (start : ℕ) (o : Instruction) → l.machine ≡ machine.X86_64 → (IsThreadCall l s b → ⊥) → IsSequence l s a rest start o → Contains rest b → ⊥
+no_sequence l s a b rest start o x free q c = free (second_calls l s a b start o x (as_its_call l s a b rest start o x q c))
 
 -- the reference is one of an instruction alone
-pub record IsAlone (l : Layout) (s : InputSection) (r : InputRelocation) : Type 0 where
+pub record IsAlone (l : Layout) (s : Item) (r : InputRelocation) : Type 0 where
   pub asks : is_thread r.number ≡ false
   pub free : IsThreadCall l s r → ⊥
 
-pub record IsSingleOf (l : Layout) (s : InputSection) (r : InputRelocation) (start : ℕ) (o : Instruction) (one : InputRelocation) : Type 0 where
+pub record IsSingleOf (l : Layout) (s : Item) (r : InputRelocation) (start : ℕ) (o : Instruction) (one : InputRelocation) : Type 0 where
   pub same : one ≡ r
   pub single : o.partners ≡ []
-  pub stands : IsInstruction l (item_of s) r start o
+  pub stands : IsInstruction l s r start o
 
-pub single_of : (l : Layout) (s : InputSection) (r : InputRelocation) (start : ℕ) (o : Instruction) (one : InputRelocation) → l.machine ≡ machine.X86_64 → IsAlone l s r → IsTemplate l (item_of s) r start o one → IsSingleOf l s r start o one
+pub single_of : (l : Layout) (s : Item) (r : InputRelocation) (start : ℕ) (o : Instruction) (one : InputRelocation) → l.machine ≡ machine.X86_64 → IsAlone l s r → IsTemplate l s r start o one → IsSingleOf l s r start o one
 single_of l s r start o one x alone (inl t) = record { same = t.1; single = t.0.single; stands = t.0.stands }
 single_of l s r start o one x alone (inr part) = absurd (by_place t.one)
   where
-    t : IsDouble l (item_of s) r start o one
-    t = as_double l (item_of s) r start o one x part
+    t : IsDouble l s r start o one
+    t = as_double l s r start o one x part
 
     by_place : (r ≡ one) ⊎ (r ≡ t.second) → ⊥
     by_place (inl e) =
@@ -97,25 +96,25 @@ single_of l s r start o one x alone (inr part) = absurd (by_place t.one)
     by_place (inr e) = alone.free (subst (λ (q : InputRelocation). IsThreadCall l s q) (sym e) (second_calls l s one t.second start o x t.sequence))
 
 -- and its type is one that only calls and jumps have
-pub record IsFirst (l : Layout) (s : InputSection) (r : InputRelocation) : Type 0 where
+pub record IsFirst (l : Layout) (s : Item) (r : InputRelocation) : Type 0 where
   pub type : is_first r.number ≡ true
   pub alone : IsAlone l s r
 
 -- of a number of such types
-pub of_type : (l : Layout) (s : InputSection) (r : InputRelocation) (ns : List ℕ) → list_all is_first ns ≡ true → list_all (λ n. not (is_thread n)) ns ≡ true → Contains ns r.number → (IsThreadCall l s r → ⊥) → IsFirst l s r
+pub of_type : (l : Layout) (s : Item) (r : InputRelocation) (ns : List ℕ) → list_all is_first ns ≡ true → list_all (λ n. not (is_thread n)) ns ≡ true → Contains ns r.number → (IsThreadCall l s r → ⊥) → IsFirst l s r
 of_type l s r ns firsts others c free = record {
   type = listed_passes is_first ns r.number firsts c;
   alone = record { asks = not-true (is_thread r.number) (listed_passes (λ (n : ℕ). not (is_thread n)) ns r.number others c); free = free };
 }
 
-pub of_branch : (l : Layout) (s : InputSection) (r : InputRelocation) (k opcode : ℕ) → (IsThreadCall l s r → ⊥) → IsBranch s r k opcode → IsFirst l s r
+pub of_branch : (l : Layout) (s : Item) (r : InputRelocation) (k opcode : ℕ) → (IsThreadCall l s r → ⊥) → IsBranch s r k opcode → IsFirst l s r
 of_branch l s r k opcode free branch = of_type l s r branch_types refl refl branch.number free
 
-pub of_address : (l : Layout) (s : InputSection) (r : InputRelocation) → Contains address_types r.number → (IsThreadCall l s r → ⊥) → IsFirst l s r
+pub of_address : (l : Layout) (s : Item) (r : InputRelocation) → Contains address_types r.number → (IsThreadCall l s r → ⊥) → IsFirst l s r
 of_address l s r c free = of_type l s r address_types refl refl c free
 
 -- in a section of such types no relocation asks for a thread address
-pub of_section : (l : Layout) (s : InputSection) (r : InputRelocation) → HasFirstTypes s → IsReference (item_of s) r → IsFirst l s r
+pub of_section : (l : Layout) (s : Item) (r : InputRelocation) → HasFirstTypes s → IsReference s r → IsFirst l s r
 of_section l s r types ref = of_type l s r first_types refl refl (types.each r ref.listed) (λ c. none c)
   where
     none : IsThreadCall l s r → ⊥
@@ -129,15 +128,15 @@ abbrev pub IsCallOrJump : Instruction → Type 0
 IsCallOrJump o = (o ≡ direct 0xe8 Call) ⊎ (o ≡ direct 0xe9 Jump)
 
 -- the instruction of such a reference is one of the two
-which_of : (l : Layout) (s : InputSection) (r : InputRelocation) (start : ℕ) (o : Instruction) → l.machine ≡ machine.X86_64 → IsFirst l s r → IsInstruction l (item_of s) r start o → IsCallOrJump o
+which_of : (l : Layout) (s : Item) (r : InputRelocation) (start : ℕ) (o : Instruction) → l.machine ≡ machine.X86_64 → IsFirst l s r → IsInstruction l s r start o → IsCallOrJump o
 which_of l s r start o x f t = by_instruction IsCallOrJump o r.number (inl refl) (inr refl) (subst (λ (m : Machine). Contains (instructions_of m) o) x t.known) t.number f.type
 
-pub record IsDirect (l : Layout) (s : InputSection) (r : InputRelocation) (start : ℕ) (o : Instruction) (one : InputRelocation) : Type 0 where
+pub record IsDirect (l : Layout) (s : Item) (r : InputRelocation) (start : ℕ) (o : Instruction) (one : InputRelocation) : Type 0 where
   pub same : one ≡ r
-  pub stands : IsInstruction l (item_of s) r start o
+  pub stands : IsInstruction l s r start o
   pub which : IsCallOrJump o
 
-pub template_direct : (l : Layout) (s : InputSection) (r : InputRelocation) (start : ℕ) (o : Instruction) (one : InputRelocation) → l.machine ≡ machine.X86_64 → IsFirst l s r → IsTemplate l (item_of s) r start o one → IsDirect l s r start o one
+pub template_direct : (l : Layout) (s : Item) (r : InputRelocation) (start : ℕ) (o : Instruction) (one : InputRelocation) → l.machine ≡ machine.X86_64 → IsFirst l s r → IsTemplate l s r start o one → IsDirect l s r start o one
 template_direct l s r start o one x f t = let q = single_of l s r start o one x f.alone t in record { same = q.same; stands = q.stands; which = which_of l s r start o x f q.stands }
 
 -- ---- the input's bytes
@@ -147,7 +146,7 @@ starts opcode cs [] h = cc
 starts opcode cs (b ∷ bs) h = eqb-true b opcode (and_parts (b == opcode) (stands cs bs) h).0
 
 -- such an instruction's bytes are those of a call or a jump
-pub is_branch : (l : Layout) (s : InputSection) (r : InputRelocation) (start opcode : ℕ) (deed : Deed) → l.machine ≡ machine.X86_64 → IsInstruction l (item_of s) r start (direct opcode deed) → IsBranch s r start opcode
+pub is_branch : (l : Layout) (s : Item) (r : InputRelocation) (start opcode : ℕ) (deed : Deed) → l.machine ≡ machine.X86_64 → IsInstruction l s r start (direct opcode deed) → IsBranch s r start opcode
 is_branch l s r start opcode deed x t =
     let behind = t.field in
     let inside = t.inside in
@@ -181,10 +180,10 @@ only_first opcode k deed own = by_side k own.beside own.inside
     by_side k (inl a) b = omega (arith, a)
     by_side k (inr a) b = absurd (omega (arith, a, b))
 
-pub old_length : (s : InputSection) (r : InputRelocation) (k opcode : ℕ) → IsBranch s r k opcode → length (slice_range s.bytes k (k + 5)) ≡ 5
+pub old_length : (s : Item) (r : InputRelocation) (k opcode : ℕ) → IsBranch s r k opcode → length (slice_range s.bytes k (k + 5)) ≡ 5
 old_length s r k opcode branch = let behind = branch.behind in let inside = branch.inside in length-range s.bytes k 5 (omega (arith, behind, inside))
 
-branch_instruction : (l : Layout) (s : InputSection) (r : InputRelocation) (k opcode : ℕ) (deed : Deed) → Contains (instructions_of machine.X86_64) (direct opcode deed) → l.machine ≡ machine.X86_64 → IsBranch s r k opcode → IsInstruction l (item_of s) r k (direct opcode deed)
+branch_instruction : (l : Layout) (s : Item) (r : InputRelocation) (k opcode : ℕ) (deed : Deed) → Contains (instructions_of machine.X86_64) (direct opcode deed) → l.machine ≡ machine.X86_64 → IsBranch s r k opcode → IsInstruction l s r k (direct opcode deed)
 branch_instruction l s r k opcode deed known x branch =
     let behind = branch.behind in
     let ends = branch.inside in
@@ -197,14 +196,14 @@ branch_instruction l s r k opcode deed known x branch =
       stands = stands_from opcode (slice_range s.bytes k (k + 5)) (old_length s r k opcode branch) (first_byte s.bytes k ∙ branch.begins);
       words = refl;
       counts = tt;
-      alone = λ j own. subst (λ (n : ℕ). InNoField l (item_of s) n) (let z = only_first opcode j deed own in let e : k ≡ k + j = omega (arith, z) in e) (in_no_field l s k x branch.free);
+      alone = λ j own. subst (λ (n : ℕ). InNoField l s n) (let z = only_first opcode j deed own in let e : k ≡ k + j = omega (arith, z) in e) (in_no_field l s k x branch.free);
     }
 
 short : (o : Instruction) → IsCallOrJump o → size_of o ≤ 5
 short o (inl e) = subst (λ (p : Instruction). size_of p ≤ 5) (sym e) (omega arith)
 short o (inr e) = subst (λ (p : Instruction). size_of p ≤ 5) (sym e) (omega arith)
 
-pub branch_template : (l : Layout) (s : InputSection) (r : InputRelocation) (k opcode : ℕ) (deed : Deed) → Contains (instructions_of machine.X86_64) (direct opcode deed) → l.machine ≡ machine.X86_64 → IsFirst l s r → IsBranch s r k opcode → IsTemplate l (item_of s) r k (direct opcode deed) r
+pub branch_template : (l : Layout) (s : Item) (r : InputRelocation) (k opcode : ℕ) (deed : Deed) → Contains (instructions_of machine.X86_64) (direct opcode deed) → l.machine ≡ machine.X86_64 → IsFirst l s r → IsBranch s r k opcode → IsTemplate l s r k (direct opcode deed) r
 branch_template l s r k opcode deed known x f branch = inl (
   record {
     single = refl;

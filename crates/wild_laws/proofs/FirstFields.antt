@@ -5,7 +5,6 @@ use Rattle.wild_records.specs.Abi.Relocation.{r_x86_64_64, r_x86_64_pc32, r_x86_
 use Rattle.wild_types.specs.declared.kind.Machine.{Machine}
 use Rattle.wild_types.specs.declared.kind.Machine.TheVariants as machine
 use Rattle.wild_types.specs.declared.input.InputRelocation.{InputRelocation}
-use Rattle.wild_types.specs.declared.input.InputSection.{InputSection}
 use Rattle.wild_types.specs.declared.layout.Layout.{Layout}
 use Rattle.wild_reloc.specs.Formula.{SymbolAddress, Distance, Formula, formula, Full, Plain, Signed, Unsigned, Either}
 use Rattle.wild_reloc.specs.FormulaX86_64.{x86_64_formula}
@@ -13,7 +12,7 @@ use Rattle.wild_loader.specs.declared.memory.Memory.{Memory}
 use Rattle.wild_loader.specs.declared.world.World.{World}
 use Rattle.wild_loader.specs.declared.instruction.Deed.TheVariants.{Call, Jump}
 use Rattle.wild_meaning.specs.Sequence.{Instruction}
-use Rattle.wild_types.specs.Item.{item_of}
+use Rattle.wild_types.specs.Item.{Item}
 use Rattle.wild_meaning.specs.Field.{formula_of}
 use Rattle.wild_meaning.specs.Template.{IsInstruction}
 use Rattle.wild_meaning.specs.Reference.{HoldsPlain, ReferenceHolds}
@@ -83,7 +82,7 @@ writes_address n c = at n c.0 c.1 c.2
 
 -- ---- fields
 
-plain_formula : (l : Layout) (w : World) (m : Memory) (s : InputSection) (r : InputRelocation) → l.machine ≡ machine.X86_64 → WritesAddress r.number → HoldsPlain l w m (item_of s) r → HasFormula l w m s r
+plain_formula : (l : Layout) (w : World) (m : Memory) (s : Item) (r : InputRelocation) → l.machine ≡ machine.X86_64 → WritesAddress r.number → HoldsPlain l w m s r → HasFormula l w m s r
 plain_formula l w m s r x known p =
     let formula = subst (λ (k : Machine). formula_of k r.number ≡ Some p.formula) x p.known in
     let d = demanded_of l w m s r p.formula.value p.value x (known p.formula formula) p.gives in
@@ -98,10 +97,10 @@ plain_formula l w m s r x known p =
     }
 
 -- a reference with an instruction is in a call or a jump
-branch_field : (l : Layout) (s : InputSection) (r : InputRelocation) (start : ℕ) (o : Instruction) → l.machine ≡ machine.X86_64 → IsInstruction l (item_of s) r start o → IsCallOrJump o → IsBranchField s r
-branch_field l s r start o x t (inl e) = (start, inl (is_branch l s r start 0xe8 Call x (subst (λ (p : Instruction). IsInstruction l (item_of s) r start p) e t)))
-branch_field l s r start o x t (inr e) = (start, inr (is_branch l s r start 0xe9 Jump x (subst (λ (p : Instruction). IsInstruction l (item_of s) r start p) e t)))
+branch_field : (l : Layout) (s : Item) (r : InputRelocation) (start : ℕ) (o : Instruction) → l.machine ≡ machine.X86_64 → IsInstruction l s r start o → IsCallOrJump o → IsBranchField s r
+branch_field l s r start o x t (inl e) = (start, inl (is_branch l s r start 0xe8 Call x (subst (λ (p : Instruction). IsInstruction l s r start p) e t)))
+branch_field l s r start o x t (inr e) = (start, inr (is_branch l s r start 0xe9 Jump x (subst (λ (p : Instruction). IsInstruction l s r start p) e t)))
 
-pub has_formula : (l : Layout) (w : World) (m : Memory) (s : InputSection) (r : InputRelocation) → l.machine ≡ machine.X86_64 → Contains address_types r.number → IsFirst l s r → (IsBranchField s r → ⊥) → ReferenceHolds l w m (item_of s) r → HasFormula l w m s r
+pub has_formula : (l : Layout) (w : World) (m : Memory) (s : Item) (r : InputRelocation) → l.machine ≡ machine.X86_64 → Contains address_types r.number → IsFirst l s r → (IsBranchField s r → ⊥) → ReferenceHolds l w m s r → HasFormula l w m s r
 has_formula l w m s r x type f none (inl p) = plain_formula l w m s r x (writes_address r.number type) p
 has_formula l w m s r x type f none (inr q) = let d = template_direct l s r q.start q.instruction q.first x f q.template in absurd (none (branch_field l s r q.start q.instruction x d.stands d.which))

@@ -3,7 +3,6 @@ use Rattle.std.proofs.Common.{◌≡◌, ℕ, ◌+◌, ◌-◌, ◌%◌, ◌^◌
 use Rattle.std.specs.Prelude.{Some}
 use Rattle.wild_types.specs.declared.kind.Machine.TheVariants as machine
 use Rattle.wild_types.specs.declared.input.InputRelocation.{InputRelocation}
-use Rattle.wild_types.specs.declared.input.InputSection.{InputSection}
 use Rattle.wild_types.specs.declared.layout.Layout.{Layout}
 use Rattle.wild_types.specs.Flags.{ifunc}
 use Rattle.wild_reloc.specs.Formula.{Value, SymbolAddress, Distance}
@@ -11,7 +10,7 @@ use Rattle.wild_loader.specs.declared.memory.Memory.{Memory}
 use Rattle.wild_loader.specs.declared.world.World.{World}
 use Rattle.wild_meaning.specs.Value.{HasFlag, HasOwnValue, IsReplaceable, moved}
 use Rattle.wild_meaning.specs.Denotes.{HasStub, Denotes}
-use Rattle.wild_types.specs.Item.{item_of}
+use Rattle.wild_types.specs.Item.{Item}
 use Rattle.wild_meaning.specs.Item.{place_at}
 use Rattle.wild_meaning.specs.Formula.{IsTarget, Gives}
 use Rattle.wild_meaning.proofs.SymbolLemmas.{target_reached, referent_stands}
@@ -44,18 +43,18 @@ names_addresses = record {
 
 -- ---- formulas
 
-pub record IsDemanded (l : Layout) (w : World) (m : Memory) (s : InputSection) (r : InputRelocation) (v : Value) (x : ℕ) : Type 0 where
+pub record IsDemanded (l : Layout) (w : World) (m : Memory) (s : Item) (r : InputRelocation) (v : Value) (x : ℕ) : Type 0 where
   pub target : ℕ
   pub denoted : IsTarget l w m r.symbol target
-  pub demanded : Demands v target r.addend (place_at w (item_of s) r.offset) x
+  pub demanded : Demands v target r.addend (place_at w s r.offset) x
 
 -- the value is an address or a distance
 abbrev pub IsKnown : Value → Type 0
 IsKnown v = (v ≡ SymbolAddress) ⊎ (v ≡ Distance)
 
-pub demanded_of : (l : Layout) (w : World) (m : Memory) (s : InputSection) (r : InputRelocation) (v : Value) (x : ℕ) → l.machine ≡ machine.X86_64 → IsKnown v → Gives v l w m (item_of s) r x → IsDemanded l w m s r v x
-demanded_of l w m s r SymbolAddress x x86 k g = record { target = g.symbol; denoted = referent_stands SymbolAddress l w m (item_of s) r g.symbol x86 g.denoted; demanded = g.sum }
-demanded_of l w m s r Distance x x86 k g = record { target = g.1.symbol; denoted = referent_stands Distance l w m (item_of s) r g.1.symbol x86 g.1.denoted; demanded = g.2 ∙ ap (λ (n : ℕ). (n + (2 ^ 64 - place_at w (item_of s) r.offset)) % 2 ^ 64) g.1.sum }
+pub demanded_of : (l : Layout) (w : World) (m : Memory) (s : Item) (r : InputRelocation) (v : Value) (x : ℕ) → l.machine ≡ machine.X86_64 → IsKnown v → Gives v l w m s r x → IsDemanded l w m s r v x
+demanded_of l w m s r SymbolAddress x x86 k g = record { target = g.symbol; denoted = referent_stands SymbolAddress l w m s r g.symbol x86 g.denoted; demanded = g.sum }
+demanded_of l w m s r Distance x x86 k g = record { target = g.1.symbol; denoted = referent_stands Distance l w m s r g.1.symbol x86 g.1.denoted; demanded = g.2 ∙ ap (λ (n : ℕ). (n + (2 ^ 64 - place_at w s r.offset)) % 2 ^ 64) g.1.sum }
 demanded_of l w m s r other x x86 k g =
     elim k [
       | inl e ↦ cc

@@ -6,7 +6,6 @@ use Rattle.wild_words.proofs.Basics.{length-range, range_byte, listed_passes}
 use Rattle.wild_types.specs.declared.kind.Machine.{Machine}
 use Rattle.wild_types.specs.declared.kind.Machine.TheVariants as machine
 use Rattle.wild_types.specs.declared.input.InputRelocation.{InputRelocation}
-use Rattle.wild_types.specs.declared.input.InputSection.{InputSection}
 use Rattle.wild_types.specs.declared.layout.Layout.{Layout}
 use Rattle.wild_loader.specs.declared.memory.Memory.{Memory}
 use Rattle.wild_loader.specs.declared.world.World.{World}
@@ -17,7 +16,7 @@ use Rattle.wild_loader.specs.declared.instruction.Deed.TheVariants.{Call, Jump}
 use Rattle.wild_loader.specs.Instruction.{exact, field, stands, as_value}
 use Rattle.wild_loader.specs.InstructionX86_64.{meaning_x86_64, effect_x86_64}
 use Rattle.wild_meaning.specs.Sequence.{Instruction, TargetInSlot, size_of, IsOwnByte, instructions_of}
-use Rattle.wild_types.specs.Item.{item_of}
+use Rattle.wild_types.specs.Item.{Item}
 use Rattle.wild_meaning.specs.Item.{place_at}
 use Rattle.wild_meaning.specs.Field.{InNoField}
 use Rattle.wild_meaning.specs.Template.{AddsNothing, effect_of, demand_of, reads, IsInstruction, IsTemplate, DoesDemanded}
@@ -60,14 +59,14 @@ second_byte opcode cs (a ∷ b ∷ bs) h =
 
 -- ---- the input's code
 
-alone_of : (l : Layout) (s : InputSection) (r : InputRelocation) (k opcode : ℕ) → (IsThreadCall l s r → ⊥) → IsSlotBranch s r k opcode → IsAlone l s r
+alone_of : (l : Layout) (s : Item) (r : InputRelocation) (k opcode : ℕ) → (IsThreadCall l s r → ⊥) → IsSlotBranch s r k opcode → IsAlone l s r
 alone_of l s r k opcode free branch = record {
   asks = not-true (is_thread r.number) (listed_passes (λ (n : ℕ). not (is_thread n)) slot_types r.number refl branch.number);
   free = free;
 }
 
 -- the reference's instruction is a call or a jump through a slot
-which_of : (l : Layout) (s : InputSection) (r : InputRelocation) (k opcode start : ℕ) (o : Instruction) → l.machine ≡ machine.X86_64 → IsSlotBranch s r k opcode → o.partners ≡ [] → IsInstruction l (item_of s) r start o → IsThrough o
+which_of : (l : Layout) (s : Item) (r : InputRelocation) (k opcode start : ℕ) (o : Instruction) → l.machine ≡ machine.X86_64 → IsSlotBranch s r k opcode → o.partners ≡ [] → IsInstruction l s r start o → IsThrough o
 which_of l s r k opcode start o x branch single t =
     is_through o r.number (slice_range s.bytes start (start + size_of o)) (subst (λ (m : Machine). Contains (instructions_of m) o) x t.known) single t.number
     (listed_passes is_slot slot_types r.number refl branch.number)
@@ -79,7 +78,7 @@ which_of l s r k opcode start o x branch single t =
     range_byte s.bytes start (size_of o) (o.field - 2) (omega (arith, low, high)) ∙ ap (λ (j : ℕ). slice_index s.bytes j) at ∙ branch.first)
 
 -- it begins where the opcode does, and has that opcode
-at_start : (l : Layout) (s : InputSection) (r : InputRelocation) (k opcode start other : ℕ) (deed : Deed) → IsSlotBranch s r k opcode → IsInstruction l (item_of s) r start (through other deed) → (start ≡ k) × (other ≡ opcode)
+at_start : (l : Layout) (s : Item) (r : InputRelocation) (k opcode start other : ℕ) (deed : Deed) → IsSlotBranch s r k opcode → IsInstruction l s r start (through other deed) → (start ≡ k) × (other ≡ opcode)
 at_start l s r k opcode start other deed branch t =
     let here = branch.behind in
     let there = t.field in
@@ -87,25 +86,25 @@ at_start l s r k opcode start other deed branch t =
     let byte = second_byte other field (slice_range s.bytes start (start + 6)) t.stands in
     (at, sym byte ∙ range_byte s.bytes start 6 1 (omega arith) ∙ ap (λ (j : ℕ). slice_index s.bytes (j + 1)) at ∙ branch.second)
 
-old_length : (s : InputSection) (r : InputRelocation) (k opcode : ℕ) → IsSlotBranch s r k opcode → length (slice_range s.bytes k (k + 6)) ≡ 6
+old_length : (s : Item) (r : InputRelocation) (k opcode : ℕ) → IsSlotBranch s r k opcode → length (slice_range s.bytes k (k + 6)) ≡ 6
 old_length s r k opcode branch = let behind = branch.behind in let inside = branch.inside in length-range s.bytes k 6 (omega (arith, behind, inside))
 
-old_first : (s : InputSection) (r : InputRelocation) (k opcode : ℕ) → IsSlotBranch s r k opcode → get_or (slice_range s.bytes k (k + 6)) 0 0 ≡ 0xff
+old_first : (s : Item) (r : InputRelocation) (k opcode : ℕ) → IsSlotBranch s r k opcode → get_or (slice_range s.bytes k (k + 6)) 0 0 ≡ 0xff
 old_first s r k opcode branch = let z : k + 0 ≡ k = omega arith in range_byte s.bytes k 6 0 (omega arith) ∙ ap (λ (j : ℕ). slice_index s.bytes j) z ∙ branch.first
 
-old_second : (s : InputSection) (r : InputRelocation) (k opcode : ℕ) → IsSlotBranch s r k opcode → get_or (slice_range s.bytes k (k + 6)) 1 0 ≡ opcode
+old_second : (s : Item) (r : InputRelocation) (k opcode : ℕ) → IsSlotBranch s r k opcode → get_or (slice_range s.bytes k (k + 6)) 1 0 ≡ opcode
 old_second s r k opcode branch = range_byte s.bytes k 6 1 (omega arith) ∙ branch.second
 
-own_byte : (l : Layout) (s : InputSection) (k opcode j : ℕ) (deed : Deed) → InNoField l (item_of s) k → InNoField l (item_of s) (k + 1) → IsOwnByte (through opcode deed) j → InNoField l (item_of s) (k + j)
+own_byte : (l : Layout) (s : Item) (k opcode j : ℕ) (deed : Deed) → InNoField l s k → InNoField l s (k + 1) → IsOwnByte (through opcode deed) j → InNoField l s (k + j)
 own_byte l s k opcode j deed first second own = by_side j own.beside own.inside
   where
-    by_side : (j : ℕ) → (j < 2) ⊎ (6 ≤ j) → j < 6 → InNoField l (item_of s) (k + j)
-    by_side zero a b = (let z : k ≡ k + 0 = omega arith in subst (λ (n : ℕ). InNoField l (item_of s) n) z first)
+    by_side : (j : ℕ) → (j < 2) ⊎ (6 ≤ j) → j < 6 → InNoField l s (k + j)
+    by_side zero a b = (let z : k ≡ k + 0 = omega arith in subst (λ (n : ℕ). InNoField l s n) z first)
     by_side (suc zero) a b = second
     by_side (suc (suc j)) (inl a) b = absurd (omega (arith, a))
     by_side (suc (suc j)) (inr a) b = absurd (omega (arith, a, b))
 
-slot_instruction : (l : Layout) (s : InputSection) (r : InputRelocation) (k opcode : ℕ) (deed : Deed) → Contains (instructions_of machine.X86_64) (through opcode deed) → l.machine ≡ machine.X86_64 → IsSlotBranch s r k opcode → IsInstruction l (item_of s) r k (through opcode deed)
+slot_instruction : (l : Layout) (s : Item) (r : InputRelocation) (k opcode : ℕ) (deed : Deed) → Contains (instructions_of machine.X86_64) (through opcode deed) → l.machine ≡ machine.X86_64 → IsSlotBranch s r k opcode → IsInstruction l s r k (through opcode deed)
 slot_instruction l s r k opcode deed known x branch =
     let behind = branch.behind in
     let ends = branch.inside in
@@ -125,7 +124,7 @@ short : (o : Instruction) → IsThrough o → size_of o ≤ 6
 short o (inl e) = subst (λ (p : Instruction). size_of p ≤ 6) (sym e) (omega arith)
 short o (inr e) = subst (λ (p : Instruction). size_of p ≤ 6) (sym e) (omega arith)
 
-slot_template : (l : Layout) (s : InputSection) (r : InputRelocation) (k opcode : ℕ) (deed : Deed) → Contains (instructions_of machine.X86_64) (through opcode deed) → l.machine ≡ machine.X86_64 → (IsThreadCall l s r → ⊥) → IsSlotBranch s r k opcode → IsTemplate l (item_of s) r k (through opcode deed) r
+slot_template : (l : Layout) (s : Item) (r : InputRelocation) (k opcode : ℕ) (deed : Deed) → Contains (instructions_of machine.X86_64) (through opcode deed) → l.machine ≡ machine.X86_64 → (IsThreadCall l s r → ⊥) → IsSlotBranch s r k opcode → IsTemplate l s r k (through opcode deed) r
 slot_template l s r k opcode deed known x free branch = inl (
   record {
     single = refl;
@@ -159,9 +158,9 @@ does opcode deed each = λ a v bs n h i. six
     bs n h i
 
 -- code that does what such an instruction demands goes to what comes to the symbol
-goes : (l : Layout) (w : World) (m : Memory) (s : InputSection) (r : InputRelocation) (k opcode : ℕ) (deed : Deed) → DoesDeed opcode deed → l.machine ≡ machine.X86_64 → IsSlotBranch s r k opcode → DoesDemanded (reads w m) l w m (item_of s) r k (through opcode deed) → SlotBranchReaches l w m s r k deed
+goes : (l : Layout) (w : World) (m : Memory) (s : Item) (r : InputRelocation) (k opcode : ℕ) (deed : Deed) → DoesDeed opcode deed → l.machine ≡ machine.X86_64 → IsSlotBranch s r k opcode → DoesDemanded (reads w m) l w m s r k (through opcode deed) → SlotBranchReaches l w m s r k deed
 goes l w m s r k opcode deed does x branch d =
-    let a = place_at w (item_of s) k in
+    let a = place_at w s k in
     let old : demand_of machine.X86_64 d.value a (slice_range s.bytes k (k + 6)) ≡ Some d.code.effect = subst (λ (mach : Machine). demand_of mach d.value a (slice_range s.bytes k (k + 6)) ≡ Some d.code.effect) x d.code.demanded in
     let is = does a d.value (slice_range s.bytes k (k + 6)) (old_length s r k opcode branch) (old_first s r k opcode branch) (old_second s r k opcode branch) in
     let loaded : effect_of machine.X86_64 (reads w m) a d.code.bytes ≡ Some d.code.effect = subst (λ (mach : Machine). effect_of mach (reads w m) a d.code.bytes ≡ Some d.code.effect) x d.code.does in
@@ -176,41 +175,41 @@ goes l w m s r k opcode deed does x branch d =
 
 -- ---- references that hold
 
-abbrev Does : Layout → World → Memory → InputSection → InputRelocation → ℕ → ℕ → Deed → Type 0
-Does l w m s r k opcode deed = DoesDemanded (reads w m) l w m (item_of s) r k (through opcode deed)
+abbrev Does : Layout → World → Memory → Item → InputRelocation → ℕ → ℕ → Deed → Type 0
+Does l w m s r k opcode deed = DoesDemanded (reads w m) l w m s r k (through opcode deed)
 
 -- of an instruction that is that one
-here : (l : Layout) (w : World) (m : Memory) (s : InputSection) (r one : InputRelocation) (k start opcode : ℕ) (o : Instruction) (deed : Deed) → IsSlotBranch s r k opcode → IsInstruction l (item_of s) r start o → o ≡ through opcode deed → one ≡ r → DoesDemanded (reads w m) l w m (item_of s) one start o → Does l w m s r k opcode deed
+here : (l : Layout) (w : World) (m : Memory) (s : Item) (r one : InputRelocation) (k start opcode : ℕ) (o : Instruction) (deed : Deed) → IsSlotBranch s r k opcode → IsInstruction l s r start o → o ≡ through opcode deed → one ≡ r → DoesDemanded (reads w m) l w m s one start o → Does l w m s r k opcode deed
 here l w m s r one k start opcode o deed branch t e same d =
-    let at = at_start l s r k opcode start opcode deed branch (subst (λ (p : Instruction). IsInstruction l (item_of s) r start p) e t) in
-    subst (λ (j : ℕ). DoesDemanded (reads w m) l w m (item_of s) r j (through opcode deed)) at.0 (subst (λ (q : InputRelocation). DoesDemanded (reads w m) l w m (item_of s) q start (through opcode deed)) same (subst (λ (p : Instruction). DoesDemanded (reads w m) l w m (item_of s) one start p) e d))
+    let at = at_start l s r k opcode start opcode deed branch (subst (λ (p : Instruction). IsInstruction l s r start p) e t) in
+    subst (λ (j : ℕ). DoesDemanded (reads w m) l w m s r j (through opcode deed)) at.0 (subst (λ (q : InputRelocation). DoesDemanded (reads w m) l w m s q start (through opcode deed)) same (subst (λ (p : Instruction). DoesDemanded (reads w m) l w m s one start p) e d))
 
 -- and of none with the other opcode
-other : (l : Layout) (s : InputSection) (r : InputRelocation) (k start a b : ℕ) (o : Instruction) (deed : Deed) → (b == a) ≡ false → IsSlotBranch s r k a → IsInstruction l (item_of s) r start o → o ≡ through b deed → ⊥
-other l s r k start a b o deed apart branch t e = eqb-false b a apart (at_start l s r k a start b deed branch (subst (λ (p : Instruction). IsInstruction l (item_of s) r start p) e t)).1
+other : (l : Layout) (s : Item) (r : InputRelocation) (k start a b : ℕ) (o : Instruction) (deed : Deed) → (b == a) ≡ false → IsSlotBranch s r k a → IsInstruction l s r start o → o ≡ through b deed → ⊥
+other l s r k start a b o deed apart branch t e = eqb-false b a apart (at_start l s r k a start b deed branch (subst (λ (p : Instruction). IsInstruction l s r start p) e t)).1
 
-call_by : (l : Layout) (w : World) (m : Memory) (s : InputSection) (r one : InputRelocation) (k start : ℕ) (o : Instruction) → IsSlotBranch s r k 0x15 → IsInstruction l (item_of s) r start o → IsThrough o → one ≡ r → DoesDemanded (reads w m) l w m (item_of s) one start o → Does l w m s r k 0x15 Call
+call_by : (l : Layout) (w : World) (m : Memory) (s : Item) (r one : InputRelocation) (k start : ℕ) (o : Instruction) → IsSlotBranch s r k 0x15 → IsInstruction l s r start o → IsThrough o → one ≡ r → DoesDemanded (reads w m) l w m s one start o → Does l w m s r k 0x15 Call
 call_by l w m s r one k start o branch t (inl e) same d = here l w m s r one k start 0x15 o Call branch t e same d
 call_by l w m s r one k start o branch t (inr e) same d = absurd (other l s r k start 0x15 0x25 o Jump refl branch t e)
 
-jump_by : (l : Layout) (w : World) (m : Memory) (s : InputSection) (r one : InputRelocation) (k start : ℕ) (o : Instruction) → IsSlotBranch s r k 0x25 → IsInstruction l (item_of s) r start o → IsThrough o → one ≡ r → DoesDemanded (reads w m) l w m (item_of s) one start o → Does l w m s r k 0x25 Jump
+jump_by : (l : Layout) (w : World) (m : Memory) (s : Item) (r one : InputRelocation) (k start : ℕ) (o : Instruction) → IsSlotBranch s r k 0x25 → IsInstruction l s r start o → IsThrough o → one ≡ r → DoesDemanded (reads w m) l w m s one start o → Does l w m s r k 0x25 Jump
 jump_by l w m s r one k start o branch t (inl e) same d = absurd (other l s r k start 0x25 0x15 o Call refl branch t e)
 jump_by l w m s r one k start o branch t (inr e) same d = here l w m s r one k start 0x25 o Jump branch t e same d
 
-call_does_it : (l : Layout) (w : World) (m : Memory) (s : InputSection) (r : InputRelocation) (k : ℕ) → l.machine ≡ machine.X86_64 → (IsThreadCall l s r → ⊥) → IsSlotBranch s r k 0x15 → ReferenceHolds l w m (item_of s) r → Does l w m s r k 0x15 Call
+call_does_it : (l : Layout) (w : World) (m : Memory) (s : Item) (r : InputRelocation) (k : ℕ) → l.machine ≡ machine.X86_64 → (IsThreadCall l s r → ⊥) → IsSlotBranch s r k 0x15 → ReferenceHolds l w m s r → Does l w m s r k 0x15 Call
 call_does_it l w m s r k x free branch (inl p) = p.does k (through 0x15 Call) r (slot_template l s r k 0x15 Call (2, omega arith, refl) x free branch)
 call_does_it l w m s r k x free branch (inr q) =
     let d = single_of l s r q.start q.instruction q.first x (alone_of l s r k 0x15 free branch) q.template in
-    call_by l w m s r q.first k q.start q.instruction branch d.stands (which_of l s r k 0x15 q.start q.instruction x branch d.single d.stands) d.same (does_so l w m (item_of s) q.first q.start q.instruction q.does)
+    call_by l w m s r q.first k q.start q.instruction branch d.stands (which_of l s r k 0x15 q.start q.instruction x branch d.single d.stands) d.same (does_so l w m s q.first q.start q.instruction q.does)
 
-jump_does_it : (l : Layout) (w : World) (m : Memory) (s : InputSection) (r : InputRelocation) (k : ℕ) → l.machine ≡ machine.X86_64 → (IsThreadCall l s r → ⊥) → IsSlotBranch s r k 0x25 → ReferenceHolds l w m (item_of s) r → Does l w m s r k 0x25 Jump
+jump_does_it : (l : Layout) (w : World) (m : Memory) (s : Item) (r : InputRelocation) (k : ℕ) → l.machine ≡ machine.X86_64 → (IsThreadCall l s r → ⊥) → IsSlotBranch s r k 0x25 → ReferenceHolds l w m s r → Does l w m s r k 0x25 Jump
 jump_does_it l w m s r k x free branch (inl p) = p.does k (through 0x25 Jump) r (slot_template l s r k 0x25 Jump (3, omega arith, refl) x free branch)
 jump_does_it l w m s r k x free branch (inr q) =
     let d = single_of l s r q.start q.instruction q.first x (alone_of l s r k 0x25 free branch) q.template in
-    jump_by l w m s r q.first k q.start q.instruction branch d.stands (which_of l s r k 0x25 q.start q.instruction x branch d.single d.stands) d.same (does_so l w m (item_of s) q.first q.start q.instruction q.does)
+    jump_by l w m s r q.first k q.start q.instruction branch d.stands (which_of l s r k 0x25 q.start q.instruction x branch d.single d.stands) d.same (does_so l w m s q.first q.start q.instruction q.does)
 
-pub slot_call_goes : (l : Layout) (w : World) (m : Memory) (s : InputSection) (r : InputRelocation) (k : ℕ) → l.machine ≡ machine.X86_64 → (IsThreadCall l s r → ⊥) → IsSlotBranch s r k 0x15 → ReferenceHolds l w m (item_of s) r → SlotBranchReaches l w m s r k Call
+pub slot_call_goes : (l : Layout) (w : World) (m : Memory) (s : Item) (r : InputRelocation) (k : ℕ) → l.machine ≡ machine.X86_64 → (IsThreadCall l s r → ⊥) → IsSlotBranch s r k 0x15 → ReferenceHolds l w m s r → SlotBranchReaches l w m s r k Call
 slot_call_goes l w m s r k x free branch holds = goes l w m s r k 0x15 Call (does 0x15 Call call_bytes) x branch (call_does_it l w m s r k x free branch holds)
 
-pub slot_jump_goes : (l : Layout) (w : World) (m : Memory) (s : InputSection) (r : InputRelocation) (k : ℕ) → l.machine ≡ machine.X86_64 → (IsThreadCall l s r → ⊥) → IsSlotBranch s r k 0x25 → ReferenceHolds l w m (item_of s) r → SlotBranchReaches l w m s r k Jump
+pub slot_jump_goes : (l : Layout) (w : World) (m : Memory) (s : Item) (r : InputRelocation) (k : ℕ) → l.machine ≡ machine.X86_64 → (IsThreadCall l s r → ⊥) → IsSlotBranch s r k 0x25 → ReferenceHolds l w m s r → SlotBranchReaches l w m s r k Jump
 slot_jump_goes l w m s r k x free branch holds = goes l w m s r k 0x25 Jump (does 0x25 Jump jump_bytes) x branch (jump_does_it l w m s r k x free branch holds)

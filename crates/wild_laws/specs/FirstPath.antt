@@ -28,7 +28,7 @@ use Rattle.wild_loader.specs.declared.instruction.Deed.TheVariants.{Call, Jump}
 use Rattle.wild_loader.specs.InstructionX86_64.{effect_x86_64}
 use Rattle.wild_meaning.specs.Sequence.{Instruction}
 use Rattle.wild_meaning.specs.Template.{reads, IsTemplate, DoesDemanded}
-use Rattle.wild_types.specs.Item.{item_of}
+use Rattle.wild_types.specs.Item.{Item, item_of}
 use Rattle.wild_meaning.specs.Reference.{IsAsked, IsLinkedAlone}
 use Rattle.wild_meaning.specs.Linked.{IsLinked}
 use Rattle.wild_laws.specs.FirstTypes.{IsLoadedSection, IsRelocated, address_types, HasFirstTypes, address_at, InNoField, IsBranch, IsBranchField, IsSlotBranch, IsThreadCall}
@@ -38,7 +38,7 @@ abbrev pub past_field : InputRelocation → ℕ → ℕ
 past_field r a = (a + cast_unsigned w64 r.addend + 4) % 2 ^ 64
 
 -- the five loaded bytes call, or go to, what stands for the symbol, with what the addend has past the field
-pub record BranchReaches (l : Layout) (w : World) (m : Memory) (s : InputSection) (r : InputRelocation) (k : ℕ) (deed : Deed) : Type 0 where
+pub record BranchReaches (l : Layout) (w : World) (m : Memory) (s : Item) (r : InputRelocation) (k : ℕ) (deed : Deed) : Type 0 where
   pub target : ℕ
   pub stands : IsTarget l w m r.symbol target
   pub bytes : List ℕ
@@ -47,7 +47,7 @@ pub record BranchReaches (l : Layout) (w : World) (m : Memory) (s : InputSection
   pub goes : effect_x86_64 (reads w m) (address_at w s k) bytes ≡ Some (record { deed = deed; width = 64; value = past_field r target })
 
 -- the six loaded bytes call, or go to, what comes to the symbol
-pub record SlotBranchReaches (l : Layout) (w : World) (m : Memory) (s : InputSection) (r : InputRelocation) (k : ℕ) (deed : Deed) : Type 0 where
+pub record SlotBranchReaches (l : Layout) (w : World) (m : Memory) (s : Item) (r : InputRelocation) (k : ℕ) (deed : Deed) : Type 0 where
   pub target : ℕ
   pub comes : IsGoal l w m r.symbol target
   pub bytes : List ℕ
@@ -71,7 +71,7 @@ pub record HasField (m : Memory) (form : Form) (p x : ℕ) : Type 0 where
   pub reads : Reads form bytes x
 
 -- the field is the formula of the reference's relocation type
-pub record HasFormula (l : Layout) (w : World) (m : Memory) (s : InputSection) (r : InputRelocation) : Type 0 where
+pub record HasFormula (l : Layout) (w : World) (m : Memory) (s : Item) (r : InputRelocation) : Type 0 where
   pub formula : Formula
   pub known : x86_64_formula r.number ≡ Some formula
   pub target : ℕ
@@ -81,35 +81,35 @@ pub record HasFormula (l : Layout) (w : World) (m : Memory) (s : InputSection) (
   pub field : HasField m formula.form (address_at w s r.offset) value
 
 -- the reference is asked in the world, and whichever module has the relocation's symbol, it is not to the output's own alone
-abbrev pub IsFollowed : Layout → World → InputSection → InputRelocation → Type 0
-IsFollowed l w s r = IsAsked l w (item_of s) r × (IsLinkedAlone l (item_of s) r → ⊥)
+abbrev pub IsFollowed : Layout → World → Item → InputRelocation → Type 0
+IsFollowed l w s r = IsAsked l w s r × (IsLinkedAlone l s r → ⊥)
 
--- each reference of the section is asked, one to the output's own symbol alone at base 0
-abbrev pub EachIsAsked : Layout → World → InputSection → Type 0
-EachIsAsked l w s = (r : InputRelocation) → IsRelocated s r → IsAsked l w (item_of s) r × (IsLinkedAlone l (item_of s) r → w.base ≡ 0)
+-- each reference of the item is asked, one to the output's own symbol alone at base 0
+abbrev pub EachIsAsked : Layout → World → Item → Type 0
+EachIsAsked l w s = (r : InputRelocation) → IsRelocated s r → IsAsked l w s r × (IsLinkedAlone l s r → w.base ≡ 0)
 
 -- the field reads as the judge's formula of the relocation's type, whichever that is
-pub record HasValueOf (l : Layout) (w : World) (m : Memory) (s : InputSection) (r : InputRelocation) (f : Formula) : Type 0 where
+pub record HasValueOf (l : Layout) (w : World) (m : Memory) (s : Item) (r : InputRelocation) (f : Formula) : Type 0 where
   pub value : ℕ
-  pub gives : Gives f.value l w m (item_of s) r value
+  pub gives : Gives f.value l w m s r value
   pub field : HasField m f.form (address_at w s r.offset) value
 
 -- an instruction of the input has the reference
-pub record HasInstruction (l : Layout) (s : InputSection) (r : InputRelocation) : Type 0 where
+pub record HasInstruction (l : Layout) (s : Item) (r : InputRelocation) : Type 0 where
   pub start : ℕ
   pub instruction : Instruction
   pub first : InputRelocation
-  pub template : IsTemplate l (item_of s) r start instruction first
+  pub template : IsTemplate l s r start instruction first
 
 -- the loaded code does what such an instruction demands
-pub record DoesInstruction (l : Layout) (w : World) (m : Memory) (s : InputSection) (r : InputRelocation) : Type 0 where
+pub record DoesInstruction (l : Layout) (w : World) (m : Memory) (s : Item) (r : InputRelocation) : Type 0 where
   pub of : HasInstruction l s r
-  pub does : DoesDemanded (reads w m) l w m (item_of s) of.first of.start of.instruction
+  pub does : DoesDemanded (reads w m) l w m s of.first of.start of.instruction
 
 -- each address and each distance in no call and no jump has its field as the formula, each call and each jump reaches its symbol, but
 -- for a call that gives a thread address; of every other type too a reference in no instruction has its field as the formula, and in
 -- one the code does what that demands; and where no other instruction has a relocation every byte in no field is the input's
-pub record HoldsByFields (l : Layout) (w : World) (m : Memory) (s : InputSection) : Type 0 where
+pub record HoldsByFields (l : Layout) (w : World) (m : Memory) (s : Item) : Type 0 where
   pub references : (r : InputRelocation) → IsRelocated s r → IsFollowed l w s r → Contains address_types r.number → (IsBranchField s r → ⊥) → (IsThreadCall l s r → ⊥) → HasFormula l w m s r
   pub calls : (r : InputRelocation) (k : ℕ) → IsRelocated s r → IsFollowed l w s r → (IsThreadCall l s r → ⊥) → IsBranch s r k 0xe8 → BranchReaches l w m s r k Call
   pub jumps : (r : InputRelocation) (k : ℕ) → IsRelocated s r → IsFollowed l w s r → (IsThreadCall l s r → ⊥) → IsBranch s r k 0xe9 → BranchReaches l w m s r k Jump
@@ -121,7 +121,7 @@ pub record HoldsByFields (l : Layout) (w : World) (m : Memory) (s : InputSection
 
 -- an image that meets the meaning of all layouts in a world, at whatever base, meets this one
 abbrev pub MeaningGivesFields : Type 0
-MeaningGivesFields = (l : Layout) (w : World) (image : List ℕ) → l.machine ≡ machine.X86_64 → (linked : IsLinked l w image) → (s : InputSection) → IsLoadedSection l s → HoldsByFields l w linked.memory s
+MeaningGivesFields = (l : Layout) (w : World) (image : List ℕ) → l.machine ≡ machine.X86_64 → (linked : IsLinked l w image) → (s : InputSection) (k : IsLoadedSection l s) → HoldsByFields l w linked.memory (item_of l k.file s)
 
 -- ---- symbols
 

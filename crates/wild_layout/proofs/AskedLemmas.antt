@@ -1,12 +1,13 @@
 -- How the rows of rewrites are asked: the relocation behind one, and names, only where a row of its type asks for them.
 --   none_before       behind another type none is taken along
 --   common_choice ..  no row stands at a distance, or without a symbol
---   asked_choice      else the rows are asked, with the next relocation in sight
+--   asked_choice      else the rows of x86-64 are asked, with the next relocation in sight
 --   alone_choice      or, where no row of the type takes another along, with no name and no other relocation
-use Rattle.std.proofs.Common.{◌≡◌, ℕ, suc, ◌+◌, inl, inr, Bool, true, false, List, [], ◌∷◌, refl, sym, ap, ◌∙◌, arith, subst}
+--   around_choice     those of AArch64 are asked of the relocations of its sequence
+use Rattle.std.proofs.Common.{◌≡◌, ℕ, suc, ◌+◌, inl, inr, Bool, true, false, List, [], ◌∷◌, refl, sym, ap, ◌∙◌, arith, subst, eq-eqb}
 use Rattle.std.specs.Prelude.{Option, Some, None, is_some, Ok, not, ◌||◌, ◌==◌, slice_get}
 use Rattle.std.specs.List.{list_all}
-use Rattle.std.proofs.lemmas.Bool.{cases_Bool, eqb-true, both_ways}
+use Rattle.std.proofs.lemmas.Bool.{cases_Bool, eqb-true, not-true, both_ways}
 use Rattle.wild_words.proofs.Basics.{implied, listed_passes}
 use Rattle.wild_records.specs.Abi.Relocation.{r_x86_64_pc32}
 use Rattle.wild_types.specs.declared.kind.Machine.{Machine}
@@ -19,10 +20,13 @@ use Rattle.wild_relax.specs.First.{checked}
 use Rattle.wild_relax.specs.RowSequences.{has_its_sequence}
 use Rattle.wild_relax.specs.declared.row.Partner.{Partner}
 use Rattle.wild_relax.specs.Rows.{rows_x86_64, applies, unknown_sequence, standing_x86_64, chosen_x86_64}
+use Rattle.wild_relax.specs.declared.reference.RelocationInfo.{RelocationInfo}
+use Rattle.wild_relax.specs.Question.{Question, relocation_of}
+use Rattle.wild_relax.specs.RowsAArch64.{rows_aarch64, branch_aarch64}
 use Rattle.wild_relax.specs.Relaxation.{chosen_of}
-use Rattle.wild_relax.proofs.RoomLemmas.{applied, standing_first}
-use Rattle.wild_layout.specs.Choice.{nameless, asked_of, infos_of, question_of, choice_by, choice_at, choice, takes_next, is_partner, may_take_next, may_be_partner}
-use Rattle.wild_layout.proofs.ChoiceLemmas.{choice_row, chosen_listed, partner_is_taken}
+use Rattle.wild_relax.proofs.RoomLemmas.{applied, standing_first, branch_is}
+use Rattle.wild_layout.specs.Choice.{nameless, asked_of, infos_of, question_of, choice_by, question_around, choice_around_by, choice_on, choice_at, choice, takes_next, is_partner, may_take_next, may_be_partner}
+use Rattle.wild_layout.proofs.ChoiceLemmas.{choice_row, choice_is, relocation_around, chosen_listed, partner_is_taken}
 
 -- ---- rows that write a whole sequence
 
@@ -42,7 +46,7 @@ none_before l s i h =
       | inl t ↦
           (let p = partner_is_taken l s i t in
           let q = p.3 in
-          let c = choice_row l s q.relocation (slice_get s.relocations (p.0 + 1)) p.2 q.is in
+          let c = choice_row l s q.relocation (slice_get s.relocations (p.0 + 1)) p.2 q.machine q.is in
           let n = subst (λ (x : ℕ). may_take_next x ≡ true) (sym c.number) (implied _ _ (chosen_listed l s q.relocation (slice_get s.relocations (p.0 + 1)) p.2 c is_marked each_is_marked) q.takes) in
           absurd (there s.relocations p.0 q.relocation q.listed n (subst (λ (k : ℕ). may_be_partner s.relocations k ≡ false) p.1 h)))
     ]
@@ -55,21 +59,59 @@ none_before l s i h =
 
 -- ---- relocations without a row
 
-pub no_choice : (l : Layout) (s : Item) (r : InputRelocation) (next : Option InputRelocation) (o : Option ℕ) → r.number ≡ r_x86_64_pc32 → choice_by l s r next o ≡ Ok None
+-- a distance of x86-64
+abbrev is_other : Row → Bool
+is_other row = not (row.number == r_x86_64_pc32)
+
+each_is_other : list_all is_other rows_aarch64 ≡ true
+unfolding rows_aarch64
+each_is_other = refl
+
+none_of_that : (q : Question) → (relocation_of q).number ≡ r_x86_64_pc32 → branch_aarch64 q ≡ None
+none_of_that q h = by_row (branch_aarch64 q) refl
+  where
+    by_row : (o : Option Row) → branch_aarch64 q ≡ o → o ≡ None
+    by_row None is = refl
+    by_row (Some row) is =
+        let k = branch_is q row is in
+        let e : row.number ≡ r_x86_64_pc32 = sym (applied q row k.here).number ∙ h in
+        absurd (both_ways (row.number == r_x86_64_pc32) (not-true _ (listed_passes is_other rows_aarch64 row each_is_other k.listed)) (eq-eqb row.number r_x86_64_pc32 e))
+
+no_choice_by : (l : Layout) (s : Item) (r : InputRelocation) (next : Option InputRelocation) (o : Option ℕ) → r.number ≡ r_x86_64_pc32 → choice_by l s r next o ≡ Ok None
 unfolding choice_by
-no_choice l s r next None number = refl
-no_choice l s r next (Some i) number = rw number refl
+no_choice_by l s r next None number = refl
+no_choice_by l s r next (Some i) number = rw number refl
+
+no_choice_around : (l : Layout) (s : Item) (i : ℕ) (r : InputRelocation) (o : Option ℕ) → slice_get s.relocations i ≡ Some r → r.number ≡ r_x86_64_pc32 → choice_around_by l s i r o ≡ Ok None
+unfolding choice_around_by
+no_choice_around l s i r None listed number = refl
+no_choice_around l s i r (Some n) listed number =
+    let q = question_around l s i r n in
+    ap (λ (o : Option Row). Ok o) (none_of_that q (ap (λ (x : RelocationInfo). x.number) (relocation_around l s i r n listed) ∙ number))
+
+pub no_choice : (l : Layout) (s : Item) (i : ℕ) (r : InputRelocation) → slice_get s.relocations i ≡ Some r → r.number ≡ r_x86_64_pc32 → choice_on l.machine l s i r ≡ Ok None
+no_choice l s i r listed number = by_machine l.machine
+  where
+    by_machine : (m : Machine) → choice_on m l s i r ≡ Ok None
+    by_machine machine.X86_64 = no_choice_by l s r (slice_get s.relocations (i + 1)) r.symbol number
+    by_machine machine.AArch64 = no_choice_around l s i r r.symbol listed number
 
 -- ---- what is asked
 
+at_relocation : (l : Layout) (s : Item) (i : ℕ) (r : InputRelocation) → slice_get s.relocations i ≡ Some r → choice l s i ≡ choice_on l.machine l s i r
+at_relocation l s i r listed = ap (choice_at l s i) listed
+
 -- without a symbol, or of a distance, nothing stands
 pub nameless_choice : (l : Layout) (s : Item) (i : ℕ) (r : InputRelocation) → slice_get s.relocations i ≡ Some r → r.symbol ≡ None → choice l s i ≡ Ok None
-unfolding choice_by
-nameless_choice l s i r listed none = rw (listed, none) refl
+unfolding choice_by choice_around_by
+nameless_choice l s i r listed none = at_relocation l s i r listed ∙ by_machine l.machine
+  where
+    by_machine : (m : Machine) → choice_on m l s i r ≡ Ok None
+    by_machine machine.X86_64 = rw none refl
+    by_machine machine.AArch64 = rw none refl
 
-pub common_choice : (l : Layout) (s : Item) (i : ℕ) (r : InputRelocation) (n : ℕ) → slice_get s.relocations i ≡ Some r → r.symbol ≡ Some n → r.number ≡ r_x86_64_pc32 → choice l s i ≡ Ok None
-unfolding choice_by
-common_choice l s i r n listed named number = rw (listed, named, number) refl
+pub common_choice : (l : Layout) (s : Item) (i : ℕ) (r : InputRelocation) → slice_get s.relocations i ≡ Some r → r.number ≡ r_x86_64_pc32 → choice l s i ≡ Ok None
+common_choice l s i r listed number = at_relocation l s i r listed ∙ no_choice l s i r listed number
 
 other_number : (n k : ℕ) → (n ≡ k → ⊥) → (n == k) ≡ false
 other_number n k h =
@@ -79,29 +121,34 @@ other_number n k h =
     ]
 
 -- else the rows are asked, with the next relocation in sight
-asked_by : (l : Layout) (s : Item) (r : InputRelocation) (next : Option InputRelocation) (n : ℕ) → (r.number == r_x86_64_pc32) ≡ false → choice_by l s r next (Some n) ≡ chosen_of l.machine (question_of l s r n next)
+asked_by : (l : Layout) (s : Item) (r : InputRelocation) (next : Option InputRelocation) (n : ℕ) → (r.number == r_x86_64_pc32) ≡ false → choice_by l s r next (Some n) ≡ chosen_x86_64 (question_of l s r n next)
 unfolding choice_by
 asked_by l s r next n f = rw f refl
 
-at_relocation : (l : Layout) (s : Item) (o next : Option InputRelocation) (r : InputRelocation) → o ≡ Some r → choice_at l s o next ≡ choice_by l s r next r.symbol
-at_relocation l s o next r e = ap (λ (x : Option InputRelocation). choice_at l s x next) e
+on_machine : (l : Layout) (m : Machine) (q : Question) → l.machine ≡ m → chosen_of m q ≡ chosen_of l.machine q
+on_machine l m q is = ap (λ (k : Machine). chosen_of k q) (sym is)
 
-named_choice : (l : Layout) (s : Item) (i : ℕ) (r : InputRelocation) (n : ℕ) → slice_get s.relocations i ≡ Some r → r.symbol ≡ Some n → (r.number ≡ r_x86_64_pc32 → ⊥) → choice l s i ≡ chosen_of l.machine (question_of l s r n (slice_get s.relocations (i + 1)))
-named_choice l s i r n listed named other =
+named_choice : (l : Layout) (s : Item) (i : ℕ) (r : InputRelocation) (n : ℕ) → l.machine ≡ machine.X86_64 → slice_get s.relocations i ≡ Some r → r.symbol ≡ Some n → (r.number ≡ r_x86_64_pc32 → ⊥) → choice l s i ≡ chosen_x86_64 (question_of l s r n (slice_get s.relocations (i + 1)))
+named_choice l s i r n x86 listed named other =
     let next = slice_get s.relocations (i + 1) in
-    at_relocation l s (slice_get s.relocations i) next r listed
+    choice_is l s i r x86 listed
     ∙ ap (choice_by l s r next) named
     ∙ asked_by l s r next n (other_number r.number r_x86_64_pc32 other)
 
-pub asked_choice : (l : Layout) (s : Item) (i : ℕ) (r : InputRelocation) (n : ℕ) → slice_get s.relocations i ≡ Some r → r.symbol ≡ Some n → (r.number ≡ r_x86_64_pc32 → ⊥) → choice l s i ≡ chosen_of l.machine (asked_of l s n (infos_of l (slice_get s.relocations i) (slice_get s.relocations (i + 1))))
-asked_choice l s i r n listed named other =
-    named_choice l s i r n listed named other
-    ∙ ap (λ (o : Option InputRelocation). chosen_of l.machine (asked_of l s n (infos_of l o (slice_get s.relocations (i + 1))))) (sym listed)
+pub asked_choice : (l : Layout) (s : Item) (i : ℕ) (r : InputRelocation) (n : ℕ) → l.machine ≡ machine.X86_64 → slice_get s.relocations i ≡ Some r → r.symbol ≡ Some n → (r.number ≡ r_x86_64_pc32 → ⊥) → choice l s i ≡ chosen_of l.machine (asked_of l s n (infos_of l (slice_get s.relocations i) (slice_get s.relocations (i + 1))) 0)
+asked_choice l s i r n x86 listed named other =
+    named_choice l s i r n x86 listed named other
+    ∙ ap (λ (o : Option InputRelocation). chosen_x86_64 (asked_of l s n (infos_of l o (slice_get s.relocations (i + 1))) 0)) (sym listed)
+    ∙ on_machine l machine.X86_64 (asked_of l s n (infos_of l (slice_get s.relocations i) (slice_get s.relocations (i + 1))) 0) x86
+
+pub around_choice : (l : Layout) (s : Item) (i : ℕ) (r : InputRelocation) (n : ℕ) → l.machine ≡ machine.AArch64 → slice_get s.relocations i ≡ Some r → r.symbol ≡ Some n → choice l s i ≡ chosen_of l.machine (question_around l s i r n)
+unfolding choice_around_by
+around_choice l s i r n on listed named = at_relocation l s i r listed ∙ ap (λ (m : Machine). choice_on m l s i r) on ∙ ap (choice_around_by l s i r) named ∙ on_machine l machine.AArch64 (question_around l s i r n) on
 
 -- ---- rows that ask for no name and no other relocation
 
 -- what stands does not hang on them
-same_standing : (l : Layout) (s : Item) (r : InputRelocation) (n : ℕ) (next : Option InputRelocation) → standing_x86_64 (asked_of l s n (nameless r ∷ [])) ≡ standing_x86_64 (question_of l s r n next)
+same_standing : (l : Layout) (s : Item) (r : InputRelocation) (n : ℕ) (next : Option InputRelocation) → standing_x86_64 (asked_of l s n (nameless r ∷ []) 0) ≡ standing_x86_64 (question_of l s r n next)
 unfolding standing_x86_64 applies rows_x86_64
 same_standing l s r n next = refl
 
@@ -117,7 +164,7 @@ no_distance : (o : Option Partner) → not (is_some o) ≡ true → o ≡ None
 no_distance None h = refl
 no_distance (Some d) h = cc
 
-same_sequence : (l : Layout) (s : Item) (r : InputRelocation) (n : ℕ) (next : Option InputRelocation) (row : Row) → row.partner ≡ None → has_its_sequence (asked_of l s n (nameless r ∷ [])) row ≡ has_its_sequence (question_of l s r n next) row
+same_sequence : (l : Layout) (s : Item) (r : InputRelocation) (n : ℕ) (next : Option InputRelocation) (row : Row) → row.partner ≡ None → has_its_sequence (asked_of l s n (nameless r ∷ []) 0) row ≡ has_its_sequence (question_of l s r n next) row
 unfolding has_its_sequence
 same_sequence l s r n next row e = rw e refl
 
@@ -125,28 +172,24 @@ other_one : (a b : Bool) → (a || b) ≡ true → a ≡ false → b ≡ true
 other_one true b h e = cc
 other_one false b h e = h
 
-same_chosen : (l : Layout) (s : Item) (r : InputRelocation) (n : ℕ) (next : Option InputRelocation) → may_take_next r.number ≡ false → chosen_x86_64 (asked_of l s n (nameless r ∷ [])) ≡ chosen_x86_64 (question_of l s r n next)
+same_chosen : (l : Layout) (s : Item) (r : InputRelocation) (n : ℕ) (next : Option InputRelocation) → may_take_next r.number ≡ false → chosen_x86_64 (asked_of l s n (nameless r ∷ []) 0) ≡ chosen_x86_64 (question_of l s r n next)
 unfolding chosen_x86_64
 same_chosen l s r n next h =
     let same = same_standing l s r n next in
-    by l s r n next (standing_x86_64 (asked_of l s n (nameless r ∷ []))) (standing_x86_64 (question_of l s r n next)) refl same h
+    by l s r n next (standing_x86_64 (asked_of l s n (nameless r ∷ []) 0)) (standing_x86_64 (question_of l s r n next)) refl same h
   where
-    by : (l : Layout) (s : Item) (r : InputRelocation) (n : ℕ) (next : Option InputRelocation) (a b : Option Row) → standing_x86_64 (asked_of l s n (nameless r ∷ [])) ≡ a → a ≡ b → may_take_next r.number ≡ false
-        → checked (has_its_sequence (asked_of l s n (nameless r ∷ []))) (unknown_sequence (asked_of l s n (nameless r ∷ []))) a ≡ checked (has_its_sequence (question_of l s r n next)) (unknown_sequence (question_of l s r n next)) b
+    by : (l : Layout) (s : Item) (r : InputRelocation) (n : ℕ) (next : Option InputRelocation) (a b : Option Row) → standing_x86_64 (asked_of l s n (nameless r ∷ []) 0) ≡ a → a ≡ b → may_take_next r.number ≡ false
+        → checked (has_its_sequence (asked_of l s n (nameless r ∷ []) 0)) (unknown_sequence (asked_of l s n (nameless r ∷ []) 0)) a ≡ checked (has_its_sequence (question_of l s r n next)) (unknown_sequence (question_of l s r n next)) b
     by l s r n next None None is e h = refl
     by l s r n next None (Some b) is e h = cc
     by l s r n next (Some a) None is e h = cc
     by l s r n next (Some a) (Some b) is e h =
         let same : a ≡ b = cc in
-        let first = standing_first (asked_of l s n (nameless r ∷ [])) a is in
-        let number : may_take_next a.number ≡ false = subst (λ (x : ℕ). may_take_next x ≡ false) (applied (asked_of l s n (nameless r ∷ [])) a first.here).number h in
+        let first = standing_first (asked_of l s n (nameless r ∷ []) 0) a is in
+        let number : may_take_next a.number ≡ false = subst (λ (x : ℕ). may_take_next x ≡ false) (applied (asked_of l s n (nameless r ∷ []) 0) a first.here).number h in
         let alone = no_distance a.partner (other_one _ _ (listed_passes is_by_itself rows_x86_64 a each_by_itself first.listed) number) in
         let sequence = same_sequence l s r n next a alone in
-        subst (λ (x : Row). checked (has_its_sequence (asked_of l s n (nameless r ∷ []))) (unknown_sequence (asked_of l s n (nameless r ∷ []))) (Some a) ≡ checked (has_its_sequence (question_of l s r n next)) (unknown_sequence (question_of l s r n next)) (Some x)) same (rw sequence refl)
+        subst (λ (x : Row). checked (has_its_sequence (asked_of l s n (nameless r ∷ []) 0)) (unknown_sequence (asked_of l s n (nameless r ∷ []) 0)) (Some a) ≡ checked (has_its_sequence (question_of l s r n next)) (unknown_sequence (question_of l s r n next)) (Some x)) same (rw sequence refl)
 
-pub alone_choice : (l : Layout) (s : Item) (i : ℕ) (r : InputRelocation) (n : ℕ) → slice_get s.relocations i ≡ Some r → r.symbol ≡ Some n → (r.number ≡ r_x86_64_pc32 → ⊥) → may_take_next r.number ≡ false → choice l s i ≡ chosen_of l.machine (asked_of l s n (nameless r ∷ []))
-alone_choice l s i r n listed named other h = named_choice l s i r n listed named other ∙ sym (by l s r n (slice_get s.relocations (i + 1)) l.machine h)
-  where
-    by : (l : Layout) (s : Item) (r : InputRelocation) (n : ℕ) (next : Option InputRelocation) (m : Machine) → may_take_next r.number ≡ false → chosen_of m (asked_of l s n (nameless r ∷ [])) ≡ chosen_of m (question_of l s r n next)
-    by l s r n next machine.X86_64 h = same_chosen l s r n next h
-    by l s r n next machine.AArch64 h = refl
+pub alone_choice : (l : Layout) (s : Item) (i : ℕ) (r : InputRelocation) (n : ℕ) → l.machine ≡ machine.X86_64 → slice_get s.relocations i ≡ Some r → r.symbol ≡ Some n → (r.number ≡ r_x86_64_pc32 → ⊥) → may_take_next r.number ≡ false → choice l s i ≡ chosen_of l.machine (asked_of l s n (nameless r ∷ []) 0)
+alone_choice l s i r n x86 listed named other h = named_choice l s i r n x86 listed named other ∙ sym (same_chosen l s r n (slice_get s.relocations (i + 1)) h) ∙ on_machine l machine.X86_64 (asked_of l s n (nameless r ∷ []) 0) x86

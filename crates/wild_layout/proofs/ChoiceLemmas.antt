@@ -1,11 +1,14 @@
 -- What the row of a rewrite says of the relocation that it stands at, and which relocations have none.
---   IsChosen l s r next row   the row stands at relocation r, with its whole pattern in the section
+--   IsChosen l s r next row   the row of x86-64 stands at relocation r, with its whole pattern in the section
 --   choice_row                a row that is chosen is that
+--   IsChosenAArch64 l s i r row   the row of AArch64 stands at relocation i
+--   choice_row_aarch64        a row that is chosen is that
+--   choice_is                 what is chosen of a relocation, on x86-64
 --   IsSequence l s j row      relocation j's row writes a whole sequence, with the relocation behind it
 --   partner_is_taken          a relocation that is taken along is behind such a one
 --   loads k                   a loader may fill a field of that kind
 --   no_row, no_partner        a relocation of such a kind has no row, and is taken along by none
-use Rattle.std.proofs.Common.{◌≡◌, ℕ, zero, suc, ◌+◌, ◌-◌, ◌≤◌, ◌<◌, ◌⊎◌, inl, inr, Bool, true, false, List, [], ◌∷◌, length, get_or, refl, sym, arith, subst}
+use Rattle.std.proofs.Common.{◌≡◌, ℕ, zero, suc, ◌+◌, ◌-◌, ◌≤◌, ◌<◌, ◌⊎◌, inl, inr, Bool, true, false, List, [], ◌∷◌, length, get_or, refl, sym, ap, ◌∙◌, arith, subst}
 use Rattle.std.specs.Prelude.{Option, Some, None, is_some, Result, Ok, Err, ◌||◌, ◌==◌, not, if◌then◌else◌, cond, Contains, nat_le, slice_get}
 use Rattle.std.specs.List.{list_all, filter}
 use Rattle.std.proofs.lemmas.Bool.{cases_Bool, eqb-true, leb-true, or_cases, and_parts}
@@ -13,6 +16,7 @@ use Rattle.wild_words.specs.Words.{place}
 use Rattle.wild_words.proofs.Basics.{not_both, implied, or_other, listed_passes}
 use Rattle.wild_records.specs.Abi.Relocation as abi
 use Rattle.wild_reloc.specs.TableX86_64.{x86_64_row}
+use Rattle.wild_reloc.specs.TableAArch64.{static_row, thread_row, aarch64_row}
 use Rattle.wild_reloc.specs.declared.info.RelocationKind.{RelocationKind}
 use Rattle.wild_reloc.specs.declared.info.RelocationKind.TheVariants as kinds
 use Rattle.wild_reloc.specs.declared.info.RelocationKindInfo.{RelocationKindInfo}
@@ -28,19 +32,20 @@ use Rattle.wild_relax.specs.declared.pattern.GeneralForm.{GeneralForm}
 use Rattle.wild_relax.specs.declared.pattern.GeneralForm.TheVariants as general
 use Rattle.wild_relax.specs.declared.row.Row.{Row}
 use Rattle.wild_relax.specs.declared.row.Partner.{Partner}
-use Rattle.wild_relax.specs.Question.{Question, relocation_of}
+use Rattle.wild_relax.specs.Question.{Question, entry_at, relocation_of}
 use Rattle.wild_relax.specs.Pattern.{field_of}
 use Rattle.wild_relax.specs.First.{checked}
 use Rattle.wild_relax.specs.RowSequences.{form_by, call_form, is_call_number, is_partner_at, has_its_sequence}
-use Rattle.wild_relax.specs.Rows.{rows_x86_64, unknown_sequence, standing_x86_64, chosen_x86_64}
+use Rattle.wild_relax.specs.Rows.{rows_x86_64, applies, unknown_sequence, standing_x86_64, chosen_x86_64}
 use Rattle.wild_relax.specs.RowSequences as rows
 use Rattle.wild_relax.specs.RewriteX86_64.{rewrite_of}
 use Rattle.wild_relax.specs.Linked.{pattern_of, pattern_size, keeps_bytes, fits_in, template_of}
-use Rattle.wild_relax.specs.Relaxation.{chosen_of}
+use Rattle.wild_relax.specs.RowsAArch64.{rows_aarch64, is_branch, branch_aarch64}
+use Rattle.wild_relax.specs.SequenceAArch64.{words_before}
 use Rattle.wild_relax.proofs.TemplateLemmas as template-lemmas
 use Rattle.wild_relax.proofs.SectionLemmas.{chosen_at, changing_fits}
-use Rattle.wild_relax.proofs.RoomLemmas.{applied, partner_asked, standing_first, chosen_is}
-use Rattle.wild_layout.specs.Choice.{info_of, question_of, choice_by, choice_of, choice_at, takes_next, is_partner}
+use Rattle.wild_relax.proofs.RoomLemmas.{applied, partner_asked, standing_first, chosen_is, branch_is}
+use Rattle.wild_layout.specs.Choice.{info_of, nameless, question_of, choice_by, choice_of, info_at, infos_from, first_of, question_around, choice_around_by, choice_around, choice_on, choice_at, choice, takes_next, is_partner}
 
 -- ---- the row that is chosen
 
@@ -56,34 +61,96 @@ pub record IsChosen (l : Layout) (s : Item) (r : InputRelocation) (next : Option
   pub before : field_of (pattern_of row) ≤ r.offset
   pub inside : r.offset - field_of (pattern_of row) + pattern_size row ≤ length s.bytes
 
-pub choice_row : (l : Layout) (s : Item) (r : InputRelocation) (next : Option InputRelocation) (row : Row) → choice_of l s r next ≡ Ok (Some row) → IsChosen l s r next row
+pub choice_row : (l : Layout) (s : Item) (r : InputRelocation) (next : Option InputRelocation) (row : Row) → l.machine ≡ machine.X86_64 → choice_of l s r next ≡ Ok (Some row) → IsChosen l s r next row
 unfolding choice_by
-choice_row l s r next row h = by_symbol l s r next row r.symbol h refl h
+choice_row l s r next row x86 h = by_symbol l s r next row r.symbol x86 h refl h
   where
-    by_machine : (l : Layout) (s : Item) (r : InputRelocation) (next : Option InputRelocation) (row : Row) (i : ℕ) (m : Machine) → choice_of l s r next ≡ Ok (Some row) → l.machine ≡ m → r.symbol ≡ Some i → (r.number == abi.r_x86_64_pc32) ≡ false → chosen_of m (question_of l s r i next) ≡ Ok (Some row) → IsChosen l s r next row
-    by_machine l s r next row i machine.AArch64 all is named other e = cc
-    by_machine l s r next row i machine.X86_64 all is named other e =
+    by_number : (l : Layout) (s : Item) (r : InputRelocation) (next : Option InputRelocation) (row : Row) (i : ℕ) (b : Bool) → l.machine ≡ machine.X86_64 → choice_of l s r next ≡ Ok (Some row) → r.symbol ≡ Some i → (r.number == abi.r_x86_64_pc32) ≡ b → (if b then Ok None else chosen_x86_64 (question_of l s r i next)) ≡ Ok (Some row) → IsChosen l s r next row
+    by_number l s r next row i true x86 all named is e = cc
+    by_number l s r next row i false x86 all named is e =
         let t = chosen_is (question_of l s r i next) row e in
         let at = chosen_at (question_of l s r i next) row e in
         record {
           choice = all;
-          machine = is;
+          machine = x86;
           symbol = i;
           named = named;
-          other = other;
+          other = is;
           chosen = e;
           number = (applied (question_of l s r i next) row t.here).number;
           before = at.before;
           inside = at.inside;
         }
 
-    by_number : (l : Layout) (s : Item) (r : InputRelocation) (next : Option InputRelocation) (row : Row) (i : ℕ) (b : Bool) → choice_of l s r next ≡ Ok (Some row) → r.symbol ≡ Some i → (r.number == abi.r_x86_64_pc32) ≡ b → (if b then Ok None else chosen_of l.machine (question_of l s r i next)) ≡ Ok (Some row) → IsChosen l s r next row
-    by_number l s r next row i true all named is e = cc
-    by_number l s r next row i false all named is e = by_machine l s r next row i l.machine all refl named is e
+    by_symbol : (l : Layout) (s : Item) (r : InputRelocation) (next : Option InputRelocation) (row : Row) (o : Option ℕ) → l.machine ≡ machine.X86_64 → choice_of l s r next ≡ Ok (Some row) → r.symbol ≡ o → choice_by l s r next o ≡ Ok (Some row) → IsChosen l s r next row
+    by_symbol l s r next row None x86 all named e = cc
+    by_symbol l s r next row (Some i) x86 all named e = by_number l s r next row i (r.number == abi.r_x86_64_pc32) x86 all named refl e
 
-    by_symbol : (l : Layout) (s : Item) (r : InputRelocation) (next : Option InputRelocation) (row : Row) (o : Option ℕ) → choice_of l s r next ≡ Ok (Some row) → r.symbol ≡ o → choice_by l s r next o ≡ Ok (Some row) → IsChosen l s r next row
-    by_symbol l s r next row None all named e = cc
-    by_symbol l s r next row (Some i) all named e = by_number l s r next row i (r.number == abi.r_x86_64_pc32) all named refl e
+-- on x86-64 it is the choice of the relocation and the one behind it
+pub choice_is : (l : Layout) (s : Item) (i : ℕ) (r : InputRelocation) → l.machine ≡ machine.X86_64 → slice_get s.relocations i ≡ Some r → choice l s i ≡ choice_of l s r (slice_get s.relocations (i + 1))
+choice_is l s i r x86 listed = rw (listed, x86) refl
+
+-- ---- the row of AArch64
+
+-- which is one of branches
+pub record IsChosenAArch64 (l : Layout) (s : Item) (i : ℕ) (r : InputRelocation) (row : Row) : Type 0 where
+  pub machine : l.machine ≡ machine.AArch64
+  pub symbol : ℕ
+  pub named : r.symbol ≡ Some symbol
+  pub listed : Contains rows_aarch64 row
+  pub branch : is_branch row ≡ true
+  pub here : applies (question_around l s i r symbol) row ≡ true
+  pub number : r.number ≡ row.number
+
+few_before : (n : ℕ) → words_before n ≤ 3
+few_before n = by (n == abi.r_aarch64_tlsdesc_ld64_lo12 || n == abi.r_aarch64_tlsie_ld64_gottprel_lo12_nc || n == abi.r_aarch64_add_abs_lo12_nc) (n == abi.r_aarch64_tlsdesc_add_lo12) (n == abi.r_aarch64_tlsdesc_call)
+  where
+    by : (a b c : Bool) → (if a then 1 else if b then 2 else if c then 3 else 0) ≤ 3
+    by true b c = omega arith
+    by false true c = omega arith
+    by false false true = omega arith
+    by false false false = omega arith
+
+back_and_forth : (i w : ℕ) → i - w + (i - (i - w)) ≡ i
+back_and_forth i w = omega arith
+
+not_far : (i w : ℕ) → w ≤ 3 → i - (i - w) ≤ 3
+not_far i w few = omega (arith, few)
+
+info_there : (rs : List InputRelocation) (i k : ℕ) (r : InputRelocation) → i ≡ k → slice_get rs k ≡ Some r → info_at rs i ≡ nameless r
+info_there rs i k r e h = let there : slice_get rs i ≡ Some r = subst (λ (n : ℕ). slice_get rs n ≡ Some r) (sym e) h in rw there refl
+
+among : (rs : List InputRelocation) (first d i : ℕ) (r : InputRelocation) → first + d ≡ i → d ≤ 3 → slice_get rs i ≡ Some r → entry_at (infos_from rs first) d ≡ nameless r
+among rs first zero i r e few h = info_there rs first i r (omega (arith, e)) h
+among rs first (suc zero) i r e few h = info_there rs (first + 1) i r (omega (arith, e)) h
+among rs first (suc (suc zero)) i r e few h = info_there rs (first + 2) i r (omega (arith, e)) h
+among rs first (suc (suc (suc zero))) i r e few h = info_there rs (first + 3) i r (omega (arith, e)) h
+among rs first (suc (suc (suc (suc d)))) i r e few h = absurd (omega (arith, few))
+
+-- the rows are asked of the relocation itself
+pub relocation_around : (l : Layout) (s : Item) (i : ℕ) (r : InputRelocation) (symbol : ℕ) → slice_get s.relocations i ≡ Some r → relocation_of (question_around l s i r symbol) ≡ nameless r
+relocation_around l s i r symbol listed = among s.relocations (first_of r i) (i - first_of r i) i r (back_and_forth i (words_before r.number)) (not_far i (words_before r.number) (few_before r.number)) listed
+
+pub choice_row_aarch64 : (l : Layout) (s : Item) (i : ℕ) (r : InputRelocation) (row : Row) → l.machine ≡ machine.AArch64 → slice_get s.relocations i ≡ Some r → choice_around l s i r ≡ Ok (Some row) → IsChosenAArch64 l s i r row
+unfolding choice_around_by
+choice_row_aarch64 l s i r row on at h = by_symbol r.symbol refl h
+  where
+    by_symbol : (o : Option ℕ) → r.symbol ≡ o → choice_around_by l s i r o ≡ Ok (Some row) → IsChosenAArch64 l s i r row
+    by_symbol None named e = cc
+    by_symbol (Some symbol) named e =
+        let q = question_around l s i r symbol in
+        let first : branch_aarch64 q ≡ Some row = cc in
+        let k = branch_is q row first in
+        let number : (relocation_of q).number ≡ row.number = (applied q row k.here).number in
+        record {
+          machine = on;
+          symbol = symbol;
+          named = named;
+          listed = k.listed;
+          branch = k.branch;
+          here = k.here;
+          number = sym (ap (λ (x : RelocationInfo). x.number) (relocation_around l s i r symbol at)) ∙ number;
+        }
 
 -- what each row of the table has
 pub is_listed : (l : Layout) (s : Item) (r : InputRelocation) (next : Option InputRelocation) (row : Row) → IsChosen l s r next row → Contains rows_x86_64 row
@@ -146,23 +213,38 @@ length-template row v old lies long = template-lemmas.length-template row v old 
 
 -- relocation j's row writes a whole sequence
 pub record IsSequence (l : Layout) (s : Item) (j : ℕ) (row : Row) : Type 0 where
+  pub machine : l.machine ≡ machine.X86_64
   pub relocation : InputRelocation
   pub listed : slice_get s.relocations j ≡ Some relocation
   pub is : choice_of l s relocation (slice_get s.relocations (j + 1)) ≡ Ok (Some row)
   pub takes : takes_next (Ok (Some row)) ≡ true
 
+-- no row of AArch64 does
+each_is_alone : list_all (λ (row : Row). not (takes_next (Ok (Some row)))) rows_aarch64 ≡ true
+unfolding rows_aarch64
+each_is_alone = refl
+
 pub partner_is_taken : (l : Layout) (s : Item) (i : ℕ) → is_partner l s i ≡ true → (j : ℕ) × (i ≡ j + 1) × (row : Row) × IsSequence l s j row
 partner_is_taken l s zero h = cc
 partner_is_taken l s (suc j) h = let t = by_relocation l s j (slice_get s.relocations j) refl h in (j, omega arith, t.0, t.1)
   where
-    by_choice : (l : Layout) (s : Item) (j : ℕ) (r : InputRelocation) (c : Result (Option Row) UnknownSequence) → slice_get s.relocations j ≡ Some r → choice_of l s r (slice_get s.relocations (j + 1)) ≡ c → takes_next c ≡ true → (row : Row) × IsSequence l s j row
-    by_choice l s j r (Ok None) e is h = cc
-    by_choice l s j r (Ok (Some row)) e is h = (row, record { relocation = r; listed = e; is = is; takes = h })
-    by_choice l s j r (Err f) e is h = cc
+    by_choice : (l : Layout) (s : Item) (j : ℕ) (r : InputRelocation) (c : Result (Option Row) UnknownSequence) → l.machine ≡ machine.X86_64 → slice_get s.relocations j ≡ Some r → choice_of l s r (slice_get s.relocations (j + 1)) ≡ c → takes_next c ≡ true → (row : Row) × IsSequence l s j row
+    by_choice l s j r (Ok None) x86 e is h = cc
+    by_choice l s j r (Ok (Some row)) x86 e is h = (row, record { machine = x86; relocation = r; listed = e; is = is; takes = h })
+    by_choice l s j r (Err f) x86 e is h = cc
 
-    by_relocation : (l : Layout) (s : Item) (j : ℕ) (o : Option InputRelocation) → slice_get s.relocations j ≡ o → takes_next (choice_at l s o (slice_get s.relocations (j + 1))) ≡ true → (row : Row) × IsSequence l s j row
+    by_word : (l : Layout) (s : Item) (j : ℕ) (r : InputRelocation) (c : Result (Option Row) UnknownSequence) → l.machine ≡ machine.AArch64 → slice_get s.relocations j ≡ Some r → choice_around l s j r ≡ c → takes_next c ≡ true → ⊥
+    by_word l s j r (Ok None) on e is h = cc
+    by_word l s j r (Ok (Some row)) on e is h = not_both _ (listed_passes (λ (x : Row). not (takes_next (Ok (Some x)))) rows_aarch64 row each_is_alone (choice_row_aarch64 l s j r row on e is).listed) h
+    by_word l s j r (Err f) on e is h = cc
+
+    by_machine : (l : Layout) (s : Item) (j : ℕ) (r : InputRelocation) (m : Machine) → l.machine ≡ m → slice_get s.relocations j ≡ Some r → takes_next (choice_on m l s j r) ≡ true → (row : Row) × IsSequence l s j row
+    by_machine l s j r machine.X86_64 on e h = by_choice l s j r (choice_of l s r (slice_get s.relocations (j + 1))) on e refl h
+    by_machine l s j r machine.AArch64 on e h = absurd (by_word l s j r (choice_around l s j r) on e refl h)
+
+    by_relocation : (l : Layout) (s : Item) (j : ℕ) (o : Option InputRelocation) → slice_get s.relocations j ≡ o → takes_next (choice_at l s j o) ≡ true → (row : Row) × IsSequence l s j row
     by_relocation l s j None e h = cc
-    by_relocation l s j (Some r) e h = by_choice l s j r (choice_of l s r (slice_get s.relocations (j + 1))) e refl h
+    by_relocation l s j (Some r) e h = by_machine l s j r l.machine refl e h
 
 -- such a row asks for its call
 abbrev asks_for_its_call : Row → Bool
@@ -231,6 +313,11 @@ unfolding row_of
 loads_here machine.AArch64 n row is known h = cc
 loads_here machine.X86_64 n row is known h = subst (λ (o : Option RelocationKindInfo). loads_at o ≡ true) (sym known) h
 
+loads_there : (m : Machine) (n : ℕ) (row : RelocationKindInfo) → m ≡ machine.AArch64 → row_of m n ≡ Some row → loads row.kind ≡ true → loads_at (aarch64_row n) ≡ true
+unfolding row_of
+loads_there machine.X86_64 n row is known h = cc
+loads_there machine.AArch64 n row is known h = subst (λ (o : Option RelocationKindInfo). loads_at o ≡ true) (sym known) h
+
 none_stands : (q : Question) → loads_at (x86_64_row (relocation_of q).number) ≡ true → chosen_x86_64 q ≡ Ok None
 unfolding chosen_x86_64
 none_stands q h = by_standing q (standing_x86_64 q) refl h
@@ -242,21 +329,45 @@ none_stands q h = by_standing q (standing_x86_64 q) refl h
         let stays = listed_passes (λ (x : Row). not (loads_at (x86_64_row x.number))) rows_x86_64 row each_stays first.listed in
         absurd (not_both _ stays (subst (λ (n : ℕ). loads_at (x86_64_row n) ≡ true) (applied q row first.here).number h))
 
-pub no_row : (l : Layout) (s : Item) (r : InputRelocation) (next : Option InputRelocation) (row : RelocationKindInfo) → row_of l.machine r.number ≡ Some row → loads row.kind ≡ true → choice_of l s r next ≡ Ok None
-unfolding choice_by
-no_row l s r next row known h = by_symbol l s r next row r.symbol known h
-  where
-    by_machine : (l : Layout) (s : Item) (r : InputRelocation) (next : Option InputRelocation) (row : RelocationKindInfo) (i : ℕ) (m : Machine) → row_of m r.number ≡ Some row → loads row.kind ≡ true → chosen_of m (question_of l s r i next) ≡ Ok None
-    by_machine l s r next row i machine.AArch64 known h = refl
-    by_machine l s r next row i machine.X86_64 known h = none_stands (question_of l s r i next) (loads_here machine.X86_64 r.number row refl known h)
+-- nor on AArch64
+abbrev stays_or_changes : Row → Bool
+stays_or_changes row = not (is_branch row) || not (loads_at (aarch64_row row.number))
 
-    by_symbol : (l : Layout) (s : Item) (r : InputRelocation) (next : Option InputRelocation) (row : RelocationKindInfo) (o : Option ℕ) → row_of l.machine r.number ≡ Some row → loads row.kind ≡ true → choice_by l s r next o ≡ Ok None
-    by_symbol l s r next row None known h = refl
-    by_symbol l s r next row (Some i) known h =
+each_word_stays : list_all stays_or_changes rows_aarch64 ≡ true
+unfolding static_row thread_row rows_aarch64
+each_word_stays = refl
+
+none_around : (q : Question) → loads_at (aarch64_row (relocation_of q).number) ≡ true → branch_aarch64 q ≡ None
+none_around q h = by_row (branch_aarch64 q) refl
+  where
+    by_row : (o : Option Row) → branch_aarch64 q ≡ o → o ≡ None
+    by_row None is = refl
+    by_row (Some row) is =
+        let k = branch_is q row is in
+        let stays = implied _ _ (listed_passes stays_or_changes rows_aarch64 row each_word_stays k.listed) k.branch in
+        absurd (not_both _ stays (subst (λ (n : ℕ). loads_at (aarch64_row n) ≡ true) (applied q row k.here).number h))
+
+pub no_row : (l : Layout) (s : Item) (i : ℕ) (r : InputRelocation) (row : RelocationKindInfo) → slice_get s.relocations i ≡ Some r → row_of l.machine r.number ≡ Some row → loads row.kind ≡ true → choice_on l.machine l s i r ≡ Ok None
+unfolding choice_by choice_around_by
+no_row l s i r row listed known h = by_machine l.machine known
+  where
+    by_x86_64 : (next : Option InputRelocation) (o : Option ℕ) → loads_at (x86_64_row r.number) ≡ true → choice_by l s r next o ≡ Ok None
+    by_x86_64 next None loads = refl
+    by_x86_64 next (Some n) loads =
         elim (cases_Bool (r.number == abi.r_x86_64_pc32)) [
           | inl t ↦ rw t refl
-          | inr f ↦ rw f (by_machine l s r next row i l.machine known h)
+          | inr f ↦ rw f (none_stands (question_of l s r n next) loads)
         ]
+
+    by_aarch64 : (o : Option ℕ) → loads_at (aarch64_row r.number) ≡ true → choice_around_by l s i r o ≡ Ok None
+    by_aarch64 None loads = refl
+    by_aarch64 (Some n) loads =
+        let q = question_around l s i r n in
+        ap (λ (x : Option Row). Ok x) (none_around q (subst (λ (x : RelocationInfo). loads_at (aarch64_row x.number) ≡ true) (sym (relocation_around l s i r n listed)) loads))
+
+    by_machine : (m : Machine) → row_of m r.number ≡ Some row → choice_on m l s i r ≡ Ok None
+    by_machine machine.X86_64 is = by_x86_64 (slice_get s.relocations (i + 1)) r.symbol (loads_here machine.X86_64 r.number row refl is h)
+    by_machine machine.AArch64 is = by_aarch64 r.symbol (loads_there machine.AArch64 r.number row refl is h)
 
 pub no_partner : (l : Layout) (s : Item) (i : ℕ) (r : InputRelocation) (row : RelocationKindInfo) → slice_get s.relocations i ≡ Some r → row_of l.machine r.number ≡ Some row → loads row.kind ≡ true → is_partner l s i ≡ false
 no_partner l s i r row listed known h =
@@ -268,7 +379,7 @@ no_partner l s i r row listed known h =
     taken : (l : Layout) (s : Item) (j : ℕ) (w : Row) (r : InputRelocation) (row : RelocationKindInfo) → IsSequence l s j w → slice_get s.relocations (j + 1) ≡ Some r → row_of l.machine r.number ≡ Some row → loads row.kind ≡ true → ⊥
     taken l s j w r row q listed known h =
         let is = subst (λ (o : Option InputRelocation). choice_of l s q.relocation o ≡ Ok (Some w)) listed q.is in
-        let c = choice_row l s q.relocation (Some r) w is in
+        let c = choice_row l s q.relocation (Some r) w q.machine is in
         let stays = call_stays (call_form w) r.number (partner_number l s q.relocation r w c q.takes) in
         let goes = loads_here l.machine r.number row c.machine known h in
         cc

@@ -280,7 +280,7 @@ pub record IsLeft (l : Layout) (s : Item) (r : InputRelocation) (z : RelocationS
   pub is : treatment l s.flags r ≡ treated
   pub left : is_left_to_entry treated ≡ true
   pub made : decide_by l s r treated ≡ Ok (Left z number symbol addend)
-  pub entry : left_entry l s r ≡ entry_for (place_of s.address r) number symbol addend
+  pub entry : left_entry l s.address s.flags r ≡ entry_for (place_of s.address r) number symbol addend
 
 -- of an address in 8 bytes
 left_field : (l : Layout) (s : Item) (r : InputRelocation) (row : RelocationKindInfo) (i : ℕ) → row_of l.machine r.number ≡ Some row → IsLeftBy s.flags r.symbol row i → HasField l r (ByteSize Eight)
@@ -345,10 +345,10 @@ treated_left l s r (treatments.Symbolic i) z n symbol addend is h =
       is = is;
       left = refl;
       made = h;
-      entry = ap (left_by l s r) is ∙ same p.type_is p.index p.more;
+      entry = ap (left_by l s.address r) is ∙ same p.type_is p.index p.more;
     }
   where
-    same : type_of l.machine Absolute ≡ n → index_of l i ≡ Some symbol → added r ≡ addend → left_by l s r (treatments.Symbolic i) ≡ entry_for (place_of s.address r) n symbol addend
+    same : type_of l.machine Absolute ≡ n → index_of l i ≡ Some symbol → added r ≡ addend → left_by l s.address r (treatments.Symbolic i) ≡ entry_for (place_of s.address r) n symbol addend
     same e f g = rw (e, f, g) refl
 treated_left l s r (treatments.Indirect i) z n symbol addend is h =
     let k = known_indirect l s.flags r i is in
@@ -360,10 +360,10 @@ treated_left l s r (treatments.Indirect i) z n symbol addend is h =
       is = is;
       left = refl;
       made = h;
-      entry = ap (left_by l s r) is ∙ same p.1 p.2 p.3;
+      entry = ap (left_by l s.address r) is ∙ same p.1 p.2 p.3;
     }
   where
-    same : type_of l.machine Irelative ≡ n → 0 ≡ symbol → decided_address l i ≡ Ok addend → left_by l s r (treatments.Indirect i) ≡ entry_for (place_of s.address r) n symbol addend
+    same : type_of l.machine Irelative ≡ n → 0 ≡ symbol → decided_address l i ≡ Ok addend → left_by l s.address r (treatments.Indirect i) ≡ entry_for (place_of s.address r) n symbol addend
     same e f g = rw (e, sym f, g) refl
 treated_left l s r (treatments.Extent row i) z n symbol addend is h =
     let k = known_extent l s.flags r row i is in
@@ -375,10 +375,10 @@ treated_left l s r (treatments.Extent row i) z n symbol addend is h =
       is = is;
       left = refl;
       made = h;
-      entry = ap (left_by l s r) is ∙ same p.type_is p.index p.more;
+      entry = ap (left_by l s.address r) is ∙ same p.type_is p.index p.more;
     }
   where
-    same : r.number ≡ n → index_of l i ≡ Some symbol → added r ≡ addend → left_by l s r (treatments.Extent row i) ≡ entry_for (place_of s.address r) n symbol addend
+    same : r.number ≡ n → index_of l i ≡ Some symbol → added r ≡ addend → left_by l s.address r (treatments.Extent row i) ≡ entry_for (place_of s.address r) n symbol addend
     same e f g = rw (e, f, g) refl
 treated_left l s r treatments.Recompile z n symbol addend is h = cc
 treated_left l s r treatments.Unsupported z n symbol addend is h = cc

@@ -4,6 +4,7 @@
 --   decide_nothing, decide_moved, decide_left    decisions that are so in any case
 --   IsWrittenBy l s r row v         v is the value of the kind that the row writes
 --   IsKept l s r next z v           a row writes a value into the field, and keeps the bytes around it
+--   IsWrittenInPlace l s r row v, IsKeptAArch64 l s i r z v    the same of a row of AArch64: a distance of code
 --   decide_field                    a field is written by itself or by such a row
 --   IsRewritten l s r next row v    a row writes the whole instruction
 --   decide_rewritten                it is decided so
@@ -14,13 +15,14 @@
 use Rattle.std.proofs.Common.{◌≡◌, ℕ, ℤ, ◌+◌, ◌%◌, ◌^◌, ◌⊎◌, inl, inr, Bool, true, false, refl, sym, ap, ◌∙◌, arith, subst}
 use Rattle.std.specs.Prelude.{⊤, List, [], ◌∷◌, Contains, Option, Some, None, Result, Ok, Err, ◌==◌, ◌&&◌, ◌||◌, not, if◌then◌else◌, slice_get}
 use Rattle.std.specs.List.{list_all, filter}
-use Rattle.std.proofs.lemmas.Bool.{cases_Bool, not-true}
+use Rattle.std.proofs.lemmas.Bool.{cases_Bool, not-true, eqb-true, and_parts}
 use Rattle.wild_words.proofs.Basics.{not_both, implied, listed_passes}
 use Rattle.wild_records.specs.Abi.Relocation as abi
 use Rattle.wild_reloc.specs.Expression.{taken_of}
 use Rattle.wild_reloc.specs.Field.{allows}
 use Rattle.wild_reloc.specs.Table.{plain}
 use Rattle.wild_reloc.specs.TableX86_64.{x86_64_row}
+use Rattle.wild_reloc.specs.TableAArch64.{static_row}
 use Rattle.wild_reloc.specs.declared.range.Sign.TheVariants.{Signed}
 use Rattle.wild_reloc.specs.declared.info.Width.TheVariants.{Zero, Four, Eight}
 use Rattle.wild_reloc.specs.declared.info.RelocationKind.{RelocationKind}
@@ -51,18 +53,30 @@ use Rattle.wild_relax.specs.Rows.{rows_x86_64}
 use Rattle.wild_relax.specs.RowSequences.{call_form, is_call_number}
 use Rattle.wild_relax.specs.declared.row.Written.{Written}
 use Rattle.wild_relax.specs.declared.row.Written.TheVariants as written
-use Rattle.wild_relax.specs.RewriteX86_64.{is_aarch64, info_by, info_written, rewrite_of}
-use Rattle.wild_relax.proofs.RewriteLemmas.{written_row, listed_type}
+use Rattle.wild_relax.specs.declared.row.Made.{Made}
+use Rattle.wild_relax.specs.declared.row.Made.TheVariants as ways
+use Rattle.wild_relax.specs.declared.row.Distance.{Distance}
+use Rattle.wild_relax.specs.declared.row.Distance.TheVariants as distances
+use Rattle.wild_relax.specs.declared.row.Goal.{Goal}
+use Rattle.wild_relax.specs.declared.row.Goal.TheVariants as goals
+use Rattle.wild_relax.specs.declared.pattern.LocalForm.TheVariants as local
+use Rattle.wild_relax.specs.declared.row.ValueTest.{ValueTest}
+use Rattle.wild_relax.specs.declared.row.ValueTest.TheVariants as value
+use Rattle.wild_relax.specs.declared.row.SymbolTest.{SymbolTest}
+use Rattle.wild_relax.specs.declared.row.SymbolTest.TheVariants as symbol
+use Rattle.wild_relax.specs.RowsAArch64.{rows_aarch64, is_branch}
+use Rattle.wild_relax.specs.RewriteX86_64.{distance_type, change_of, number_written, or_nothing, is_aarch64, type_row, info_by, info_written, rewrite_of}
+use Rattle.wild_relax.proofs.RewriteLemmas.{typed, written_row, listed_type}
 use Rattle.wild_relax.specs.Linked.{keeps_bytes}
 use Rattle.wild_layout.specs.declared.decision.Decision.{Decision}
 use Rattle.wild_layout.specs.declared.decision.Decision.TheVariants.{Nothing, Field, Moved, Left, Rewritten, Partner}
 use Rattle.wild_types.specs.Lookups.{place_of}
 use Rattle.wild_layout.specs.SlotValues.{address_of, index_of, decided_address}
 use Rattle.wild_layout.specs.Values.{term_of, value_by, value_less, value_in, term_at}
-use Rattle.wild_layout.specs.Choice.{choice_of, takes_next, is_partner}
+use Rattle.wild_layout.specs.Choice.{choice_of, choice_on, takes_next, is_partner}
 use Rattle.wild_layout.specs.Decide.{field, field_for, moved_to, added, left_to, chosen_to, decide_by, decided, field_at, place_to, value_to, term_to, rewritten_to, refused_with, decide_with, decide_at, decide}
 use Rattle.wild_slot.proofs.TreatmentLemmas.{HasValue, known_moved, known_symbolic, known_indirect, known_extent}
-use Rattle.wild_layout.proofs.ChoiceLemmas.{IsChosen, choice_row, is_listed, kept_listed, of_two, IsSequence, partner_is_taken, partner_number, loads, no_row, no_partner}
+use Rattle.wild_layout.proofs.ChoiceLemmas.{IsChosen, choice_row, IsChosenAArch64, choice_row_aarch64, is_listed, kept_listed, of_two, IsSequence, partner_is_taken, partner_number, loads, no_row, no_partner}
 use Rattle.wild_layout.proofs.DecideLemmas.{HasField, sized_left}
 
 -- ---- which decisions come from where
@@ -217,13 +231,119 @@ row_makes l s r row d x86 type h = by_term l s r row d x86 type (term_to l r (in
         let v = value_in l (info_written row) a ((rewrite_of row).addend r.addend) (place_to s r row) in
         by_test l s r row d a v (allows (info_written row) v) x86 type given refl refl h
 
--- ---- the three ways
+-- ---- what a row of AArch64 writes that keeps the bytes
+
+-- the distance is that of a stub, or of what stands for one (aaelf64, "Call and Jump relocations"; PLT32)
+abbrev pub goes_far : Distance → Bool
+goes_far distances.Jump26 = true
+goes_far distances.Call26 = true
+goes_far distances.Plt32 = true
+goes_far other = false
+
+-- it writes a distance of code, of the relocation's own type: to the symbol where that is the output's own
+pub record IsDistance (row : Row) : Type 0 where
+  pub distance : Distance
+  pub goal : Goal
+  pub written : row.written ≡ written.Code distance goal
+  pub number : row.number ≡ distance_type distance
+  pub far : goes_far distance ≡ true
+  pub own : goal ≡ goals.Symbol → (row.value ≡ value.Own) × (row.symbol ≡ symbol.Plain)
+
+abbrev goes_well : Written → ValueTest → SymbolTest → Bool
+goes_well (written.Code d goals.Symbol) value.Own symbol.Plain = goes_far d
+goes_well (written.Code d goals.Stub) v s = goes_far d
+goes_well other v s = false
+
+abbrev changes_or_goes : Row → Bool
+changes_or_goes row = not (is_branch row) || goes_well row.written row.value row.symbol && row.number == number_written row.written
+
+each_goes : list_all changes_or_goes rows_aarch64 ≡ true
+unfolding rows_aarch64
+each_goes = refl
+
+pub distance_of : (row : Row) → Contains rows_aarch64 row → is_branch row ≡ true → IsDistance row
+distance_of row c k =
+    let both = and_parts _ _ (implied _ _ (listed_passes changes_or_goes rows_aarch64 row each_goes c) k) in
+    by_fields row.written row.value row.symbol refl refl refl both.0 (eqb-true _ _ both.1)
+  where
+    by_fields : (w : Written) (v : ValueTest) (s : SymbolTest) → row.written ≡ w → row.value ≡ v → row.symbol ≡ s → goes_well w v s ≡ true → row.number ≡ number_written row.written → IsDistance row
+    by_fields (written.Code d goals.Symbol) value.Own symbol.Plain is own plain h e = record { distance = d; goal = goals.Symbol; written = is; number = e ∙ ap number_written is; far = h; own = λ g. (own, plain) }
+    by_fields (written.Code d goals.Stub) v s is own plain h e = record { distance = d; goal = goals.Stub; written = is; number = e ∙ ap number_written is; far = h; own = λ g. cc }
+    by_fields w v s is own plain h e = cc
+
+-- its place, its addend and its value are the relocation's
+kept_made : (m : Made) → ((change_of m).size == 0) ≡ true → m ≡ ways.Kept
+kept_made ways.Kept h = refl
+kept_made ways.Lea h = cc
+kept_made ways.Load h = cc
+kept_made (ways.Immediate p o) h = cc
+kept_made ways.MovImmediate h = cc
+kept_made ways.DirectCall h = cc
+kept_made ways.DirectJump h = cc
+kept_made ways.Nop h = cc
+kept_made ways.LocalExec h = cc
+kept_made ways.LocalExecLarge h = cc
+kept_made ways.InitialExec h = cc
+kept_made (ways.ThreadPointer local.Regular) h = cc
+kept_made (ways.ThreadPointer local.Large) h = cc
+kept_made (ways.ThreadPointer local.NoPlt) h = cc
+kept_made (ways.Code w) h = cc
+
+same_place : (s : Item) (r : InputRelocation) (row : Row) → keeps_bytes row ≡ true → place_to s r row ≡ place_of s.address r
+same_place s r row k = let e = kept_made row.made k in rw e (omega arith)
+
+same_addend : (row : Row) (a : ℤ) → keeps_bytes row ≡ true → (rewrite_of row).addend a ≡ a
+same_addend row a k = let e = kept_made row.made k in rw e refl
+
+needs_term : (l : Layout) (r : InputRelocation) (d : Distance) (goal : Goal) (p : ℕ) → term_to l r (info_by (written.Code d goal)) p ≡ term_at l r (info_by (written.Code d goal)) p
+needs_term l r d goals.Symbol p = refl
+needs_term l r d goals.Stub p = refl
+
+-- v is what the row's type makes of the symbol, and the field takes it
+pub record IsWrittenInPlace (l : Layout) (s : Item) (r : InputRelocation) (row : Row) (v : ℕ) : Type 0 where
+  pub term : ℕ
+  pub given : term_at l r (info_written row) (place_of s.address r) ≡ Ok term
+  pub value : value_in l (info_written row) term r.addend (place_of s.address r) ≡ v
+  pub allowed : allows (info_written row) v ≡ true
+
+record IsMadeInPlace (l : Layout) (s : Item) (r : InputRelocation) (row : Row) (d : Decision) : Type 0 where
+  value : ℕ
+  by : IsWrittenInPlace l s r row value
+  is : Field (info_written row).size value ≡ d
+
+made_in_place : (l : Layout) (s : Item) (r : InputRelocation) (row : Row) (d : Decision) → IsDistance row → keeps_bytes row ≡ true → rewritten_to l s r row ≡ Ok d → IsMadeInPlace l s r row d
+made_in_place l s r row d goes k h = by_term (term_at l r (info_written row) (place_of s.address r)) refl (subst (λ (t : Result ℕ Fault). value_to l s r row t ≡ Ok d) asked h)
+  where
+    asked : term_to l r (info_written row) (place_to s r row) ≡ term_at l r (info_written row) (place_of s.address r)
+    asked =
+        ap (term_to l r (info_written row)) (same_place s r row k)
+        ∙ subst (λ (w : Written). term_to l r (info_by w) (place_of s.address r) ≡ term_at l r (info_by w) (place_of s.address r)) (sym goes.written) (needs_term l r goes.distance goes.goal (place_of s.address r))
+
+    by_test : (a v : ℕ) (b : Bool) → term_at l r (info_written row) (place_of s.address r) ≡ Ok a → value_in l (info_written row) a r.addend (place_of s.address r) ≡ v → allows (info_written row) v ≡ b → (if b then Ok (if keeps_bytes row then Field (info_written row).size v else Rewritten row v) else Err (faults.OutOfRange v)) ≡ Ok d → IsMadeInPlace l s r row d
+    by_test a v false given value allowed e = cc
+    by_test a v true given value allowed e =
+        let same : Ok (Field (info_written row).size v) ≡ Ok d = rw k at e in
+        let is : Field (info_written row).size v ≡ d = cc in
+        record { value = v; by = record { term = a; given = given; value = value; allowed = allowed }; is = is }
+
+    by_term : (t : Result ℕ Fault) → term_at l r (info_written row) (place_of s.address r) ≡ t → value_to l s r row t ≡ Ok d → IsMadeInPlace l s r row d
+    by_term (Err f) given e = cc
+    by_term (Ok a) given e =
+        let v = value_in l (info_written row) a ((rewrite_of row).addend r.addend) (place_to s r row) in
+        let value : value_in l (info_written row) a r.addend (place_of s.address r) ≡ v = ap (λ (x : ℤ). value_in l (info_written row) a x (place_of s.address r)) (sym (same_addend row r.addend k)) ∙ ap (value_in l (info_written row) a ((rewrite_of row).addend r.addend)) (sym (same_place s r row k)) in
+        by_test a v (allows (info_written row) v) given value refl e
+
+-- ---- the four ways
 
 -- no row stands at relocation i, and it is not taken along: d is decided of it alone
 pub record IsOwn (l : Layout) (s : Item) (i : ℕ) (r : InputRelocation) (d : Decision) : Type 0 where
   pub made : decided l s r ≡ Ok d
-  pub choice : choice_of l s r (slice_get s.relocations (i + 1)) ≡ Ok None
+  pub choice : choice_on l.machine l s i r ≡ Ok None
   pub alone : is_partner l s i ≡ false
+
+-- on x86-64 so it is of the relocation and the one behind it
+pub own_choice : (l : Layout) (s : Item) (i : ℕ) (r : InputRelocation) (d : Decision) → IsOwn l s i r d → l.machine ≡ machine.X86_64 → choice_of l s r (slice_get s.relocations (i + 1)) ≡ Ok None
+own_choice l s i r d own x86 = subst (λ (m : Machine). choice_on m l s i r ≡ Ok None) x86 own.choice
 
 -- a sequence that is not there has no decision
 pub refused : (l : Layout) (s : Item) (r : InputRelocation) (e : UnknownSequence) (d : Decision) → refused_with l s r e ≡ Ok d → ⊥
@@ -233,19 +353,23 @@ refused l s r e d h = by_term l s r e d (term_to l r e.written (place_of s.addre
     by_term l s r e d (Err f) is h = cc (rw is at h)
     by_term l s r e d (Ok a) is h = cc (rw is at h)
 
-decide_cases : {P : Type 0} (l : Layout) (s : Item) (i : ℕ) (r : InputRelocation) (d : Decision) → slice_get s.relocations i ≡ Some r → decide l s i ≡ Ok d → (IsOwn l s i r d → P) → ((row : Row) → IsChosen l s r (slice_get s.relocations (i + 1)) row → IsMade l s r row d → P) → (is_partner l s i ≡ true → Partner ≡ d → P) → P
+decide_cases : {P : Type 0} (l : Layout) (s : Item) (i : ℕ) (r : InputRelocation) (d : Decision) → slice_get s.relocations i ≡ Some r → decide l s i ≡ Ok d → (IsOwn l s i r d → P) → ((row : Row) → IsChosen l s r (slice_get s.relocations (i + 1)) row → IsMade l s r row d → P) → ((row : Row) → IsChosenAArch64 l s i r row → IsMadeInPlace l s r row d → P)
+    → (is_partner l s i ≡ true → Partner ≡ d → P) → P
 unfolding decide
-decide_cases {P} l s i r d listed h own made taken = by_partner l s i r d (is_partner l s i) refl listed h own made taken
+decide_cases {P} l s i r d listed h own made placed taken = by_partner (is_partner l s i) refl h
   where
-    by_choice : {P : Type 0} (l : Layout) (s : Item) (i : ℕ) (r : InputRelocation) (d : Decision) (c : Result (Option Row) UnknownSequence) → is_partner l s i ≡ false → choice_of l s r (slice_get s.relocations (i + 1)) ≡ c → decide_with l s r c ≡ Ok d → (IsOwn l s i r d → P) → ((row : Row) → IsChosen l s r (slice_get s.relocations (i + 1)) row → IsMade l s r row d → P) → P
-    by_choice l s i r d (Ok None) alone is h own made = own (record { made = h; choice = is; alone = alone })
-    by_choice l s i r d (Ok (Some row)) alone is h own made = (let c = choice_row l s r (slice_get s.relocations (i + 1)) row is in made row c (row_makes l s r row d c.machine (listed_type row (is_listed l s r (slice_get s.relocations (i + 1)) row c)) h))
-    by_choice l s i r d (Err e) alone is h own made = absurd (refused l s r e d h)
+    by_machine : (m : Machine) (row : Row) → l.machine ≡ m → choice_on m l s i r ≡ Ok (Some row) → rewritten_to l s r row ≡ Ok d → P
+    by_machine machine.X86_64 row on is e = (let c = choice_row l s r (slice_get s.relocations (i + 1)) row on is in made row c (row_makes l s r row d on (listed_type row (is_listed l s r (slice_get s.relocations (i + 1)) row c)) e))
+    by_machine machine.AArch64 row on is e = (let c = choice_row_aarch64 l s i r row on listed is in placed row c (made_in_place l s r row d (distance_of row c.listed c.branch) (and_parts _ _ c.branch).0 e))
 
-    by_partner : {P : Type 0} (l : Layout) (s : Item) (i : ℕ) (r : InputRelocation) (d : Decision) (b : Bool) → is_partner l s i ≡ b → slice_get s.relocations i ≡ Some r → (if b then Ok Partner else decide_at l s (slice_get s.relocations i) (slice_get s.relocations (i + 1))) ≡ Ok d → (IsOwn l s i r d → P) → ((row : Row) → IsChosen l s r (slice_get s.relocations (i + 1)) row → IsMade l s r row d → P) → (is_partner l s i ≡ true → Partner ≡ d → P) → P
-    by_partner l s i r d true is listed h own made taken = taken is cc
-    by_partner l s i r d false is listed h own made taken =
-        by_choice l s i r d (choice_of l s r (slice_get s.relocations (i + 1))) is refl (subst (λ (o : Option InputRelocation). decide_at l s o (slice_get s.relocations (i + 1)) ≡ Ok d) listed h) own made
+    by_choice : (c : Result (Option Row) UnknownSequence) → is_partner l s i ≡ false → choice_on l.machine l s i r ≡ c → decide_with l s r c ≡ Ok d → P
+    by_choice (Ok None) alone is e = own (record { made = e; choice = is; alone = alone })
+    by_choice (Ok (Some row)) alone is e = by_machine l.machine row refl is e
+    by_choice (Err u) alone is e = absurd (refused l s r u d e)
+
+    by_partner : (b : Bool) → is_partner l s i ≡ b → (if b then Ok Partner else decide_at l s i (slice_get s.relocations i)) ≡ Ok d → P
+    by_partner true is e = taken is cc
+    by_partner false is e = by_choice (choice_on l.machine l s i r) is refl (subst (λ (o : Option InputRelocation). decide_at l s i o ≡ Ok d) listed e)
 
 -- ---- decisions of a relocation alone
 
@@ -254,6 +378,7 @@ own_alone l s i r d listed h no_row no_call =
     decide_cases l s i r d listed h
     (λ own. own)
     (λ row c m. absurd (no_row (of_row (keeps_bytes row) m.by.info.size row m.value d m.is)))
+    (λ row c m. absurd (no_row (subst IsOfRow m.is tt)))
     (λ t e. absurd (no_call e))
 
 pub decide_nothing : (l : Layout) (s : Item) (i : ℕ) (r : InputRelocation) → slice_get s.relocations i ≡ Some r → decide l s i ≡ Ok Nothing → IsOwn l s i r Nothing
@@ -340,9 +465,41 @@ made_kept l s r next z v row c (inr e) =
     let P : Row → Type 0 = λ x. IsChosen l s r next x → (m : IsWrittenBy l s r x v) → m.info.size ≡ z → IsKept l s r next z v in
     subst P (sym e) (kept_offset l s r next z v) c
 
+-- the same on AArch64: a distance of code into a field of the relocation's own type
+pub record IsKeptAArch64 (l : Layout) (s : Item) (i : ℕ) (r : InputRelocation) (z : RelocationSize) (v : ℕ) : Type 0 where
+  pub row : Row
+  pub chosen : IsChosenAArch64 l s i r row
+  pub goes : IsDistance row
+  pub written : IsWrittenInPlace l s r row v
+  pub size : (info_written row).size ≡ z
+  pub field : HasField l r z
+
+pub distance_has_value : (d : Distance) (goal : Goal) → HasValue (or_nothing (type_row (written.Code d goal))).kind
+unfolding static_row
+distance_has_value distances.Jump26 goal = refl
+distance_has_value distances.Call26 goal = refl
+distance_has_value distances.CondBr19 goal = refl
+distance_has_value distances.TstBr14 goal = refl
+distance_has_value distances.Plt32 goal = refl
+
+-- the row of its type
+pub distance_row : (d : Distance) (goal : Goal) → row_of machine.AArch64 (distance_type d) ≡ Some (or_nothing (type_row (written.Code d goal)))
+unfolding row_of
+distance_row d goal = typed (written.Code d goal)
+
+distance_field : (l : Layout) (s : Item) (i : ℕ) (r : InputRelocation) (row : Row) → IsChosenAArch64 l s i r row → IsDistance row → HasField l r (info_written row).size
+distance_field l s i r row c goes =
+    let old = or_nothing (type_row (written.Code goes.distance goes.goal)) in
+    record {
+      row = old;
+      known = ap (λ (m : Machine). row_of m r.number) c.machine ∙ ap (row_of machine.AArch64) (c.number ∙ goes.number) ∙ distance_row goes.distance goes.goal;
+      kind = distance_has_value goes.distance goes.goal;
+      size = ap (λ (w : Written). (info_by w).size) (sym goes.written);
+    }
+
 -- a field that is written into what the input has there
-pub decide_field : (l : Layout) (s : Item) (i : ℕ) (r : InputRelocation) (z : RelocationSize) (v : ℕ) → slice_get s.relocations i ≡ Some r → decide l s i ≡ Ok (Field z v) → IsOwn l s i r (Field z v) ⊎ IsKept l s r (slice_get s.relocations (i + 1)) z v
-decide_field l s i r z v listed h = decide_cases l s i r (Field z v) listed h (λ own. inl own) (λ row c m. inr (by_row l s r (slice_get s.relocations (i + 1)) row z v c m)) (λ t e. cc)
+pub decide_field : (l : Layout) (s : Item) (i : ℕ) (r : InputRelocation) (z : RelocationSize) (v : ℕ) → slice_get s.relocations i ≡ Some r → decide l s i ≡ Ok (Field z v) → IsOwn l s i r (Field z v) ⊎ (IsKept l s r (slice_get s.relocations (i + 1)) z v ⊎ IsKeptAArch64 l s i r z v)
+decide_field l s i r z v listed h = decide_cases l s i r (Field z v) listed h (λ own. inl own) (λ row c m. inr (inl (by_row l s r (slice_get s.relocations (i + 1)) row z v c m))) (λ row c m. inr (inr (by_distance row c m))) (λ t e. cc)
   where
     by_test : (b : Bool) (row : Row) (size z : RelocationSize) (w v : ℕ) → (if b then Field size w else Rewritten row w) ≡ Field z v → (b ≡ true) × (size ≡ z) × (w ≡ v)
     by_test true row size z w v h =
@@ -357,6 +514,13 @@ decide_field l s i r z v listed h = decide_cases l s i r (Field z v) listed h (�
         let keeps = kept_rows row (is_listed l s r next row c) t.0 (other_number r.number row.number c.number c.other) in
         subst (λ (x : ℕ). IsKept l s r next z x) t.2 (made_kept l s r next z m.value row c keeps m.by t.1)
 
+    by_distance : (row : Row) → IsChosenAArch64 l s i r row → IsMadeInPlace l s r row (Field z v) → IsKeptAArch64 l s i r z v
+    by_distance row c m =
+        let size : (info_written row).size ≡ z = (let e = m.is in cc) in
+        let value : m.value ≡ v = (let e = m.is in cc) in
+        let goes = distance_of row c.listed c.branch in
+        record { row = row; chosen = c; goes = goes; written = subst (IsWrittenInPlace l s r row) value m.by; size = size; field = subst (HasField l r) size (distance_field l s i r row c goes) }
+
 -- ---- instructions
 
 -- a row writes all of its pattern, with v in the field
@@ -366,7 +530,7 @@ pub record IsRewritten (l : Layout) (s : Item) (r : InputRelocation) (next : Opt
   pub written : IsWrittenBy l s r row v
 
 pub decide_rewritten : (l : Layout) (s : Item) (i : ℕ) (r : InputRelocation) (row : Row) (v : ℕ) → slice_get s.relocations i ≡ Some r → decide l s i ≡ Ok (Rewritten row v) → IsRewritten l s r (slice_get s.relocations (i + 1)) row v
-decide_rewritten l s i r row v listed h = decide_cases l s i r (Rewritten row v) listed h (λ own. absurd (decided_keeps l s r (Rewritten row v) own.made)) (λ w c m. by_row l s r (slice_get s.relocations (i + 1)) w row v c m) (λ t e. cc)
+decide_rewritten l s i r row v listed h = decide_cases l s i r (Rewritten row v) listed h (λ own. absurd (decided_keeps l s r (Rewritten row v) own.made)) (λ w c m. by_row l s r (slice_get s.relocations (i + 1)) w row v c m) (λ w c m. (let e = m.is in cc)) (λ t e. cc)
   where
     by_test : (b : Bool) (w row : Row) (size : RelocationSize) (x v : ℕ) → (if b then Field size x else Rewritten w x) ≡ Rewritten row v → (b ≡ false) × (w ≡ row) × (x ≡ v)
     by_test true w row size x v h = cc
@@ -384,7 +548,7 @@ decide_rewritten l s i r row v listed h = decide_cases l s i r (Rewritten row v)
 -- ---- relocations that are taken along
 
 pub decide_partner : (l : Layout) (s : Item) (i : ℕ) (r : InputRelocation) → slice_get s.relocations i ≡ Some r → decide l s i ≡ Ok Partner → (j : ℕ) × (i ≡ j + 1) × (row : Row) × IsSequence l s j row
-decide_partner l s i r listed h = decide_cases l s i r Partner listed h (λ own. absurd (decided_keeps l s r Partner own.made)) (λ row c m. absurd (of_row (keeps_bytes row) m.by.info.size row m.value Partner m.is)) (λ t e. partner_is_taken l s i t)
+decide_partner l s i r listed h = decide_cases l s i r Partner listed h (λ own. absurd (decided_keeps l s r Partner own.made)) (λ row c m. absurd (of_row (keeps_bytes row) m.by.info.size row m.value Partner m.is)) (λ row c m. (let e = m.is in cc)) (λ t e. partner_is_taken l s i t)
 
 -- the relocation of such a row is no call
 abbrev is_no_call : GeneralForm → Row → Bool
@@ -409,8 +573,8 @@ sequence_is_alone l s j row q =
   where
     taken : (l : Layout) (s : Item) (k : ℕ) (w : Row) (r : InputRelocation) (next : Option InputRelocation) (row : Row) → IsSequence l s k w → slice_get s.relocations (k + 1) ≡ Some r → choice_of l s r next ≡ Ok (Some row) → takes_next (Ok (Some row)) ≡ true → ⊥
     taken l s k w r next row p listed is takes =
-        let before = choice_row l s p.relocation (Some r) w (subst (λ (o : Option InputRelocation). choice_of l s p.relocation o ≡ Ok (Some w)) listed p.is) in
-        let c = choice_row l s r next row is in
+        let before = choice_row l s p.relocation (Some r) w p.machine (subst (λ (o : Option InputRelocation). choice_of l s p.relocation o ≡ Ok (Some w)) listed p.is) in
+        let c = choice_row l s r next row p.machine is in
         let n = partner_number l s p.relocation r w before p.takes in
         sequence_is_no_call row (call_form w) (is_listed l s r next row c) takes (subst (λ (x : ℕ). is_call_number (call_form w) x ≡ true) c.number n)
 
@@ -428,8 +592,9 @@ sequence_changes row listed t = not-true (keeps_bytes row) (implied _ _ (listed_
 pub sequence_is_rewritten : (l : Layout) (s : Item) (j : ℕ) (row : Row) (d : Decision) → IsSequence l s j row → decide l s j ≡ Ok d → (v : ℕ) × (d ≡ Rewritten row v)
 sequence_is_rewritten l s j row d q h =
     decide_cases l s j q.relocation d q.listed h
-    (λ own. absurd (no_other (choice_of l s q.relocation (slice_get s.relocations (j + 1))) row own.choice q.is))
+    (λ own. absurd (no_other (choice_of l s q.relocation (slice_get s.relocations (j + 1))) row (subst (λ (m : Machine). choice_on m l s j q.relocation ≡ Ok None) q.machine own.choice) q.is))
     (λ w c m. by_row l s q.relocation (slice_get s.relocations (j + 1)) w row d c q.is q.takes m)
+    (λ w c m. (let both : machine.AArch64 ≡ machine.X86_64 = sym c.machine ∙ q.machine in cc))
     (λ t e. absurd (no_both (is_partner l s j) t (sequence_is_alone l s j row q)))
   where
     no_other : (c : Result (Option Row) UnknownSequence) (row : Row) → c ≡ Ok None → c ≡ Ok (Some row) → ⊥
@@ -455,13 +620,13 @@ sequence_is_rewritten l s j row d q h =
 -- ---- relocations that are decided of by themselves
 
 -- no row stands there, and none takes it along
-pub decide_alone : (l : Layout) (s : Item) (i : ℕ) (r : InputRelocation) → slice_get s.relocations i ≡ Some r → is_partner l s i ≡ false → choice_of l s r (slice_get s.relocations (i + 1)) ≡ Ok None → decide l s i ≡ decided l s r
+pub decide_alone : (l : Layout) (s : Item) (i : ℕ) (r : InputRelocation) → slice_get s.relocations i ≡ Some r → is_partner l s i ≡ false → choice_on l.machine l s i r ≡ Ok None → decide l s i ≡ decided l s r
 unfolding decide
 decide_alone l s i r listed alone none = rw (alone, listed, none) refl
 
 -- a field that a loader may fill is of no row's kind, and of no call's
 pub decide_loads : (l : Layout) (s : Item) (i : ℕ) (r : InputRelocation) (row : RelocationKindInfo) → slice_get s.relocations i ≡ Some r → row_of l.machine r.number ≡ Some row → loads row.kind ≡ true → decide l s i ≡ decided l s r
-decide_loads l s i r row listed known h = decide_alone l s i r listed (no_partner l s i r row listed known h) (no_row l s r (slice_get s.relocations (i + 1)) row known h)
+decide_loads l s i r row listed known h = decide_alone l s i r listed (no_partner l s i r row listed known h) (no_row l s i r row listed known h)
 
 pub decide_base_relative : (l : Layout) (s : Item) (i : ℕ) (r : InputRelocation) → slice_get s.relocations i ≡ Some r → treatment l s.flags r ≡ treatments.BaseRelative → decide l s i ≡ decided l s r
 decide_base_relative l s i r listed is = let k = known_moved l s.flags r is in decide_loads l s i r k.0 listed k.1 (ap loads k.2.kind)

@@ -12,12 +12,15 @@ use Rattle.wild_types.specs.declared.symbol.Symbol.{Symbol}
 use Rattle.wild_types.specs.declared.file.File.{File}
 use Rattle.wild_types.specs.declared.file.Group.{Group}
 use Rattle.wild_types.specs.declared.layout.Layout.{Layout}
+use Rattle.wild_types.specs.declared.layout.Thunk.{Thunk}
 use Rattle.wild_types.specs.FileSymbols.{copies_of, own_symbols}
+use Rattle.wild_types.specs.FileThunks.{thunks_of}
 use Rattle.wild_slot.specs.SymbolWords.{slots_of}
 use Rattle.wild_clauses.specs.WellFormed.{first_clause}
 use Rattle.wild_layout.specs.SymbolValues.{raw_address}
 use Rattle.wild_layout.specs.SlotValues.{index_of}
-use Rattle.wild_layout.specs.Faults.{flat_map_from, clause_errors, overlap_errors, section_errors, at_file, slot_refusal, symbol_errors, slot_errors, copy_fault, fault_errors, copy_errors, file_errors, listed_errors, table_errors, group_errors, errors, part_errors}
+use Rattle.wild_layout.specs.Thunks.{thunk_fault}
+use Rattle.wild_layout.specs.Faults.{flat_map_from, clause_errors, overlap_errors, section_errors, at_file, slot_refusal, symbol_errors, slot_errors, copy_fault, fault_errors, copy_errors, thunk_error, thunk_errors, entry_errors, file_errors, listed_errors, table_errors, group_errors, errors, part_errors}
 use Rattle.wild_layout.specs.Geometry.{IsLaidOut, LayoutsAreLaidOut}
 
 pub clause_holds : (r : Result (Unit {0}) Clause) → clause_errors r ≡ [] → r ≡ Ok tt
@@ -53,19 +56,22 @@ no_refusal : (at : At) (i : ℕ) (o : Option SlotFault) → slot_refusal at i o 
 no_refusal at i None h = refl
 no_refusal at i (Some f) h = cc
 
--- the faults of a file's sections, those of its copies, and those of its slots
-pub sections_of_file : (l : Layout) (g k : ℕ) (f : File) → file_errors l g k f ≡ [] → flat_map_from (section_errors l g k) 0 f.sections ≡ []
+-- the faults of a file's sections, those of its copies and slots, and those of its thunks
+pub sections_of_file : (l : Layout) (g k : ℕ) (f : File) → file_errors l g k f ≡ [] → flat_map_from (section_errors l g k f) 0 f.sections ≡ []
 unfolding file_errors
-sections_of_file l g k f h = first_empty (flat_map_from (section_errors l g k) 0 f.sections) (flat_map (copy_errors l g k) (copies_of f) ++ slot_errors l g k f) h
+sections_of_file l g k f h = first_empty (flat_map_from (section_errors l g k f) 0 f.sections) (entry_errors l g k f ++ thunk_errors l g k f) h
 
-behind_sections : (l : Layout) (g k : ℕ) (f : File) → file_errors l g k f ≡ [] → flat_map (copy_errors l g k) (copies_of f) ++ slot_errors l g k f ≡ []
+behind_sections : (l : Layout) (g k : ℕ) (f : File) → file_errors l g k f ≡ [] → entry_errors l g k f ++ thunk_errors l g k f ≡ []
 unfolding file_errors
-behind_sections l g k f h = rest_empty (flat_map_from (section_errors l g k) 0 f.sections) (flat_map (copy_errors l g k) (copies_of f) ++ slot_errors l g k f) h
+behind_sections l g k f h = rest_empty (flat_map_from (section_errors l g k f) 0 f.sections) (entry_errors l g k f ++ thunk_errors l g k f) h
+
+entries_of_file : (l : Layout) (g k : ℕ) (f : File) → file_errors l g k f ≡ [] → entry_errors l g k f ≡ []
+entries_of_file l g k f h = first_empty (entry_errors l g k f) (thunk_errors l g k f) (behind_sections l g k f h)
 
 pub slots_of_file : (l : Layout) (g k : ℕ) (f : File) → file_errors l g k f ≡ [] → All (HasWholeSlots l) (own_symbols l f)
 unfolding slot_errors
 slots_of_file l g k f h =
-    All-from_none (HasWholeSlots l) (symbol_errors l g k) f.first_symbol (own_symbols l f) (λ i s e. no_refusal (at_file g k) i (slots_of l s).fault e) (rest_empty (flat_map (copy_errors l g k) (copies_of f)) (slot_errors l g k f) (behind_sections l g k f h))
+    All-from_none (HasWholeSlots l) (symbol_errors l g k) f.first_symbol (own_symbols l f) (λ i s e. no_refusal (at_file g k) i (slots_of l s).fault e) (rest_empty (flat_map (copy_errors l g k) (copies_of f)) (slot_errors l g k f) (entries_of_file l g k f h))
 
 -- the faults of the files of a group
 pub files_of_group : (l : Layout) (i : ℕ) (g : Group) → group_errors l i g ≡ [] → flat_map_from (file_errors l i) 0 g.files ≡ []
@@ -92,10 +98,24 @@ no_fault at (Some f) h = cc
 
 pub copies_of_file : (l : Layout) (g k : ℕ) (f : File) → file_errors l g k f ≡ [] → All (CanBeCopied l) (copies_of f)
 copies_of_file l g k f h =
-    All-from_nothing (CanBeCopied l) (copy_errors l g k) (copies_of f) (λ i e. no_fault (at_file g k) (copy_fault i (index_of l i) (raw_address l (Some i))) e) (first_empty (flat_map (copy_errors l g k) (copies_of f)) (slot_errors l g k f) (behind_sections l g k f h))
+    All-from_nothing (CanBeCopied l) (copy_errors l g k) (copies_of f) (λ i e. no_fault (at_file g k) (copy_fault i (index_of l i) (raw_address l (Some i))) e) (first_empty (flat_map (copy_errors l g k) (copies_of f)) (slot_errors l g k f) (entries_of_file l g k f h))
 
 pub copies_of_groups : (l : Layout) → flat_map_from (group_errors l) 0 l.groups ≡ [] → All (λ (g : Group). All (λ (f : File). All (CanBeCopied l) (copies_of f)) g.files) l.groups
 copies_of_groups l h = of_files l (λ (f : File). All (CanBeCopied l) (copies_of f)) (λ i k f n. copies_of_file l i k f n) h
+
+-- ---- thunks
+
+-- the thunk has a target that it reaches
+abbrev pub CanGoOn : Layout → Thunk → Type 0
+CanGoOn l t = thunk_fault l t ≡ None
+
+pub thunks_of_file : (l : Layout) (g k : ℕ) (f : File) → file_errors l g k f ≡ [] → All (CanGoOn l) (thunks_of l f)
+unfolding thunk_errors
+thunks_of_file l g k f h =
+    All-from_nothing (CanGoOn l) (thunk_error l (at_file g k)) (thunks_of l f) (λ t e. no_fault (at_file g k) (thunk_fault l t) e) (rest_empty (entry_errors l g k f) (thunk_errors l g k f) (behind_sections l g k f h))
+
+pub thunks_of_groups : (l : Layout) → flat_map_from (group_errors l) 0 l.groups ≡ [] → All (λ (g : Group). All (λ (f : File). All (CanGoOn l) (thunks_of l f)) g.files) l.groups
+thunks_of_groups l h = of_files l (λ (f : File). All (CanGoOn l) (thunks_of l f)) (λ i k f n. thunks_of_file l i k f n) h
 
 -- no group has an error where the layout has none
 pub no_group_errors : (l : Layout) → errors l ≡ [] → flat_map_from (group_errors l) 0 l.groups ≡ []

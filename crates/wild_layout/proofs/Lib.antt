@@ -6,3 +6,4 @@ pub mod DecisionLemmas
 pub mod SitesApart
 pub mod SiteLemmas
 pub mod LayoutLemmas
+pub mod ThunkLemmas

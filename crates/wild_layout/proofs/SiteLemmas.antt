@@ -96,7 +96,8 @@ pub decide_field_has : (l : Layout) (s : Item) (i : ℕ) (r : InputRelocation) (
 decide_field_has l s i r z v listed is =
     elim (decide_field l s i r z v listed is) [
       | inl own ↦ field_has l s r z v (decided_field l s r z v own.made)
-      | inr kept ↦ kept.field
+      | inr (inl kept) ↦ kept.field
+      | inr (inr kept) ↦ kept.field
     ]
 
 -- a relocation writes nothing, or a field, or an instruction

@@ -1,14 +1,18 @@
 -- The rewrite of an instruction that stands at a relocation.
 --   info_of l r            what the rows of rewrites ask of a relocation by itself; `nameless` but for its symbol's name
---   asked_of ..            what they ask of the first of some relocations, which names symbol i
---   question_of ..         the same, with the relocation behind it
---   choice_of l s r next   the row that stands, or why it is refused
---   choice l s i           the same of relocation i of item s
+--   asked_of ..            what they ask of one of some relocations, which names symbol i
+--   question_of ..         of a relocation of x86-64, with the one behind it
+--   question_around ..     of one of AArch64, with those of its sequence
+--   choice_of l s r next   the row of x86-64 that stands, or why it is refused
+--   choice_around l s i r  that of AArch64, of relocation i
+--   choice l s i           by the machine
 --   is_partner l s i       relocation i is the call of the sequence before it, which is rewritten as a whole
 --   may_take_next n        rows of that relocation type write a whole sequence
 --   may_be_partner rs i    the relocation before is of such a type
-use Rattle.std.specs.Prelude.{ℕ, zero, suc, ◌+◌, ◌==◌, Bool, true, false, ◌||◌, if◌then◌else◌, List, [], ◌∷◌, ◌++◌, Option, Some, None, option_to_list, option_map, unwrap_or, Result, Ok, slice_get}
+use Rattle.std.specs.Prelude.{ℕ, zero, suc, ◌+◌, ◌-◌, ◌==◌, Bool, true, false, ◌||◌, if◌then◌else◌, List, [], ◌∷◌, ◌++◌, Option, Some, None, option_to_list, option_map, unwrap_or, Result, Ok, slice_get}
 use Rattle.wild_records.specs.Abi.Relocation.{r_x86_64_pc32, r_x86_64_tlsgd, r_x86_64_tlsld}
+use Rattle.wild_types.specs.declared.kind.Machine.{Machine}
+use Rattle.wild_types.specs.declared.kind.Machine.TheVariants as machine
 use Rattle.wild_types.specs.declared.input.InputRelocation.{InputRelocation}
 use Rattle.wild_types.specs.Item.{Item}
 use Rattle.wild_types.specs.declared.symbol.Symbol.{Symbol}
@@ -17,9 +21,11 @@ use Rattle.wild_slot.specs.Treatment.{flags_at}
 use Rattle.wild_relax.specs.declared.reference.RelocationInfo.{RelocationInfo}
 use Rattle.wild_relax.specs.declared.reference.UnknownSequence.{UnknownSequence}
 use Rattle.wild_relax.specs.declared.row.Row.{Row}
-use Rattle.wild_relax.specs.Question.{Question}
+use Rattle.wild_relax.specs.Question.{Question, no_relocation}
 use Rattle.wild_relax.specs.Rewrite.{is_skip}
 use Rattle.wild_relax.specs.RewriteX86_64.{rewrite_of}
+use Rattle.wild_relax.specs.Rows.{chosen_x86_64}
+use Rattle.wild_relax.specs.SequenceAArch64.{words_before}
 use Rattle.wild_relax.specs.Relaxation.{chosen_of}
 use Rattle.wild_types.specs.Addresses.{raw_value}
 
@@ -43,12 +49,12 @@ info_of l r = record { number = r.number; offset = r.offset; symbol = r.symbol; 
 abbrev pub nameless : InputRelocation → RelocationInfo
 nameless r = record { number = r.number; offset = r.offset; symbol = r.symbol; addend = r.addend; names_tls_get_addr = false }
 
--- what they ask of the first of these, which names symbol i: the flags are those of its definition, and the value is the address
+-- what they ask of one of these, which names symbol i: the flags are those of its definition, and the value is the address
 -- that the layout has
-abbrev pub asked_of : Layout → Item → ℕ → List RelocationInfo → Question
-asked_of l s i infos = record {
+abbrev pub asked_of : Layout → Item → ℕ → List RelocationInfo → ℕ → Question
+asked_of l s i infos at = record {
   relocations = infos;
-  at = 0;
+  at = at;
   bytes = s.bytes;
   flags = flags_at l i;
   kind = l.kind;
@@ -58,29 +64,61 @@ asked_of l s i infos = record {
   address = s.address;
 }
 
+-- ---- x86-64
+
 -- a relocation, if there is one, and the one behind it
 abbrev pub infos_of : Layout → Option InputRelocation → Option InputRelocation → List RelocationInfo
 infos_of l r next = option_to_list (option_map (info_of l) r) ++ option_to_list (option_map (info_of l) next)
 
 abbrev pub question_of : Layout → Item → InputRelocation → ℕ → Option InputRelocation → Question
-question_of l s r i next = asked_of l s i (infos_of l (Some r) next)
+question_of l s r i next = asked_of l s i (infos_of l (Some r) next) 0
 
 -- the row that stands, or why it is refused. S of an IFUNC is its stub in any case, so the row that says so for R_X86_64_PC32 has
 -- nothing to do here
 unfoldable pub choice_by : Layout → Item → InputRelocation → Option InputRelocation → Option ℕ → Result (Option Row) UnknownSequence
 choice_by l s r next None = Ok None
-choice_by l s r next (Some i) = if r.number == r_x86_64_pc32 then Ok None else chosen_of l.machine (question_of l s r i next)
+choice_by l s r next (Some i) = if r.number == r_x86_64_pc32 then Ok None else chosen_x86_64 (question_of l s r i next)
 
 abbrev pub choice_of : Layout → Item → InputRelocation → Option InputRelocation → Result (Option Row) UnknownSequence
 choice_of l s r next = choice_by l s r next r.symbol
 
-abbrev pub choice_at : Layout → Item → Option InputRelocation → Option InputRelocation → Result (Option Row) UnknownSequence
-choice_at l s None next = Ok None
-choice_at l s (Some r) next = choice_of l s r next
+-- ---- AArch64
+
+-- relocation i; without one, a relocation that does nothing
+abbrev pub info_at : List InputRelocation → ℕ → RelocationInfo
+info_at rs i = unwrap_or (option_map nameless (slice_get rs i)) no_relocation
+
+-- those from relocation i on that a sequence may have: the same for each relocation of it
+abbrev pub infos_from : List InputRelocation → ℕ → List RelocationInfo
+infos_from rs i = info_at rs i ∷ info_at rs (i + 1) ∷ info_at rs (i + 2) ∷ info_at rs (i + 3) ∷ []
+
+-- the relocation with which a sequence begins that relocation i is of, by its type
+abbrev pub first_of : InputRelocation → ℕ → ℕ
+first_of r i = i - words_before r.number
+
+abbrev pub question_around : Layout → Item → ℕ → InputRelocation → ℕ → Question
+question_around l s i r symbol = asked_of l s symbol (infos_from s.relocations (first_of r i)) (i - first_of r i)
+
+unfoldable pub choice_around_by : Layout → Item → ℕ → InputRelocation → Option ℕ → Result (Option Row) UnknownSequence
+choice_around_by l s i r None = Ok None
+choice_around_by l s i r (Some symbol) = chosen_of machine.AArch64 (question_around l s i r symbol)
+
+abbrev pub choice_around : Layout → Item → ℕ → InputRelocation → Result (Option Row) UnknownSequence
+choice_around l s i r = choice_around_by l s i r r.symbol
+
+-- ---- by the machine
+
+abbrev pub choice_on : Machine → Layout → Item → ℕ → InputRelocation → Result (Option Row) UnknownSequence
+choice_on machine.X86_64 l s i r = choice_of l s r (slice_get s.relocations (i + 1))
+choice_on machine.AArch64 l s i r = choice_around l s i r
+
+abbrev pub choice_at : Layout → Item → ℕ → Option InputRelocation → Result (Option Row) UnknownSequence
+choice_at l s i None = Ok None
+choice_at l s i (Some r) = choice_on l.machine l s i r
 
 -- that of relocation i
 abbrev pub choice : Layout → Item → ℕ → Result (Option Row) UnknownSequence
-choice l s i = choice_at l s (slice_get s.relocations i) (slice_get s.relocations (i + 1))
+choice l s i = choice_at l s i (slice_get s.relocations i)
 
 -- ---- sequences
 
@@ -94,7 +132,7 @@ abbrev pub is_partner : Layout → Item → ℕ → Bool
 is_partner l s zero = false
 is_partner l s (suc i) = takes_next (choice l s i)
 
--- rows of that relocation type write a whole sequence
+-- rows of that relocation type write a whole sequence; on AArch64 each word has its own relocation
 abbrev pub may_take_next : ℕ → Bool
 may_take_next n = n == r_x86_64_tlsgd || n == r_x86_64_tlsld
 

@@ -36,7 +36,7 @@ use Rattle.wild_relax.specs.declared.reference.UnknownSequence.{UnknownSequence}
 use Rattle.wild_relax.specs.declared.row.Row.{Row}
 use Rattle.wild_relax.specs.RewriteX86_64.{rewrite_of, info_written}
 use Rattle.wild_relax.specs.Linked.{keeps_bytes}
-use Rattle.wild_layout.specs.Choice.{choice_of, is_partner}
+use Rattle.wild_layout.specs.Choice.{choice_on, is_partner}
 use Rattle.wild_layout.specs.SymbolValues.{sum, symbol_size}
 use Rattle.wild_layout.specs.SlotValues.{address_of, index_of, decided_address}
 use Rattle.wild_layout.specs.Values.{value_in, term_at}
@@ -134,10 +134,10 @@ decide_with l s r (Err e) = refused_with l s r e
 
 -- ---- relocations of an item
 
-abbrev pub decide_at : Layout → Item → Option InputRelocation → Option InputRelocation → Result Decision Fault
-decide_at l s None next = Ok Nothing
-decide_at l s (Some r) next = decide_with l s r (choice_of l s r next)
+abbrev pub decide_at : Layout → Item → ℕ → Option InputRelocation → Result Decision Fault
+decide_at l s i None = Ok Nothing
+decide_at l s i (Some r) = decide_with l s r (choice_on l.machine l s i r)
 
 -- what is decided of relocation i of an item: the call of a sequence that is rewritten is written with it
 unfoldable pub decide : Layout → Item → ℕ → Result Decision Fault
-decide l s i = if is_partner l s i then Ok Partner else decide_at l s (slice_get s.relocations i) (slice_get s.relocations (i + 1))
+decide l s i = if is_partner l s i then Ok Partner else decide_at l s i (slice_get s.relocations i)

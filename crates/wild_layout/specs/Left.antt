@@ -1,6 +1,6 @@
 -- The entries that name symbols and resolvers: those of fields that are left to a loader, and those of symbols that are copied
 -- into the output (x86-64 psABI, "Relocation Types"; aaelf64, "Dynamic relocations").
---   left_entry l s r       the entry of a relocation whose field is left to one; of what a symbol lacks it has 0
+--   left_entry l at flags r  the entry of a relocation, of bytes at an address, whose field is left to one; of what a symbol lacks it has 0
 --   section_generals l s   those of an input section, in the order of the relocations
 --   copy_entry l i         the entry by which a loader copies symbol i
 --   file_generals l f      those of a file: copies, and then fields
@@ -12,7 +12,6 @@ use Rattle.wild_reloc.specs.declared.dynamic.DynamicRelocationKind.TheVariants.{
 use Rattle.wild_types.specs.declared.input.InputRelocation.{InputRelocation}
 use Rattle.wild_types.specs.declared.input.InputSection.{InputSection}
 use Rattle.wild_types.specs.declared.file.File.{File}
-use Rattle.wild_types.specs.Item.{Item, item_of}
 use Rattle.wild_types.specs.declared.layout.Layout.{Layout}
 use Rattle.wild_slot.specs.declared.treatment.Treatment.{Treatment}
 use Rattle.wild_slot.specs.declared.treatment.Treatment.TheVariants.{Symbolic, Indirect, Extent}
@@ -34,19 +33,19 @@ entry_for place number symbol addend = record { offset = place; number = number 
 abbrev pub index_or_zero : Layout → ℕ → ℕ
 index_or_zero l i = unwrap_or (index_of l i) 0
 
-abbrev pub left_by : Layout → Item → InputRelocation → Treatment → Rela
-left_by l s r (Symbolic i) = entry_for (place_of s.address r) (type_of l.machine Absolute) (index_or_zero l i) (added r)
-left_by l s r (Indirect i) = entry_for (place_of s.address r) (type_of l.machine Irelative) 0 (or_zero (decided_address l i))
-left_by l s r (Extent row i) = entry_for (place_of s.address r) r.number (index_or_zero l i) (added r)
-left_by l s r other = entry_for (place_of s.address r) 0 0 0
+abbrev pub left_by : Layout → ℕ → InputRelocation → Treatment → Rela
+left_by l at r (Symbolic i) = entry_for (place_of at r) (type_of l.machine Absolute) (index_or_zero l i) (added r)
+left_by l at r (Indirect i) = entry_for (place_of at r) (type_of l.machine Irelative) 0 (or_zero (decided_address l i))
+left_by l at r (Extent row i) = entry_for (place_of at r) r.number (index_or_zero l i) (added r)
+left_by l at r other = entry_for (place_of at r) 0 0 0
 
--- the entry of a relocation
-abbrev pub left_entry : Layout → Item → InputRelocation → Rela
-left_entry l s r = left_by l s r (treatment l s.flags r)
+-- the entry of a relocation of bytes at an address, with the flags of their section
+abbrev pub left_entry : Layout → ℕ → ℕ → InputRelocation → Rela
+left_entry l at flags r = left_by l at r (treatment l flags r)
 
 -- those of an input section
 unfoldable pub section_generals : Layout → InputSection → List Rela
-section_generals l s = map (left_entry l (item_of s)) (left_relocations l s)
+section_generals l s = map (left_entry l s.address s.flags) (left_relocations l s)
 
 -- the entry by which a loader copies a symbol's bytes to its address
 abbrev pub copy_entry : Layout → ℕ → Rela

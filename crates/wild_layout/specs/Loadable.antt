@@ -1,4 +1,5 @@
 -- What segments load, and what a loader finds (gABI, "Program Header", "Dynamic Section").
+--   CarriesByte l g o a   a loaded segment carries the byte at an offset of the file to an address
 --   IsMapped l s     loaded segments carry the input section's bytes to their addresses
 --   IsPartMapped l p   they carry those of a part that a loader or the program reads
 --   HasSegment l p   the first segment of type PT_DYNAMIC is that of the part
@@ -22,6 +23,14 @@ use Rattle.wild_types.specs.Lookups.{allocated, image_size, is_filled}
 use Rattle.wild_types.specs.Lists.{total}
 use Rattle.wild_types.specs.Parts.{is_loaded_role, part_with, is_table_role, is_look_up_role, has_hashes, is_entry_role, entry_parts, bytes_in}
 use Rattle.wild_layout.specs.Image.{offset_in}
+
+-- the segment carries the byte at that offset of the file to that address
+pub record CarriesByte (l : Layout) (g : Segment) (offset address : ℕ) : Type 0 where
+  pub listed : Contains l.segments g
+  pub loaded : g.kind ≡ pt_load
+  pub from : g.address ≤ address
+  pub to : address < g.address + g.file_size
+  pub distance : offset ≡ g.offset + (address - g.address)
 
 -- the segment carries byte k of the section to its address
 pub record IsCarried (l : Layout) (s : InputSection) (k : ℕ) (h : Segment) : Type 0 where

@@ -15,7 +15,7 @@ use Rattle.wild_types.specs.FilePlaces.{given}
 use Rattle.wild_types.specs.Lists.{total}
 use Rattle.wild_types.specs.Parts.{has_role}
 use Rattle.wild_layout.specs.Content.{content}
-use Rattle.wild_layout.specs.Image.{offset_in, bytes}
+use Rattle.wild_layout.specs.Image.{offset_in}
 
 -- the relocation writes no field, or one that lies in n bytes
 abbrev pub FieldLies : Machine → ℕ → InputRelocation → Type 0
@@ -25,13 +25,17 @@ FieldLies m n r = (field_bytes m r.number ≡ 0) ⊎ (r.offset + field_bytes m r
 abbrev pub RangesApart : Part → Part → Type 0
 RangesApart p q = (p.offset + p.size ≤ q.offset) ⊎ (q.offset + q.size ≤ p.offset)
 
--- the part is raw, takes file bytes, and has room for the input section
-pub record StandsIn (l : Layout) (s : InputSection) (p : Part) : Type 0 where
-  pub listed : slice_get l.parts s.part ≡ Some p
+-- part k is raw, takes file bytes, and has room for n bytes at the address
+pub record HasRoom (l : Layout) (k at n : ℕ) (p : Part) : Type 0 where
+  pub listed : slice_get l.parts k ≡ Some p
   pub raw : p.role ≡ role.Raw
   pub takes : takes_file_bytes l p.section ≡ true
-  pub from : p.address ≤ s.address
-  pub to : s.address + s.size ≤ p.address + p.size
+  pub from : p.address ≤ at
+  pub to : at + n ≤ p.address + p.size
+
+-- it has room for the input section
+abbrev pub StandsIn : Layout → InputSection → Part → Type 0
+StandsIn l s p = HasRoom l s.part s.address s.size p
 
 -- an input section that owns bytes lies in its part, and those bytes in the image
 pub record OwnerLies (l : Layout) (s : InputSection) : Type 0 where

@@ -8,6 +8,7 @@ use Rattle.wild_words.specs.Words.{Stands}
 use Rattle.wild_types.specs.declared.part.Part.{Part}
 use Rattle.wild_types.specs.declared.section.Section.{Section}
 use Rattle.wild_types.specs.declared.input.InputSection.{InputSection}
+use Rattle.wild_types.specs.declared.file.File.{File}
 use Rattle.wild_types.specs.declared.layout.Layout.{Layout}
 use Rattle.wild_types.specs.Lookups.{without_data, section_of, section_of_part, takes_file_bytes, is_loaded, is_filled, is_read}
 use Rattle.wild_layout.specs.Sites.{sites, section_bytes}
@@ -51,16 +52,16 @@ blank_filled l s b f some =
 abbrev zeros : InputSection → List ℕ
 zeros s = replicate s.size 0
 
-zero_bytes : (l : Layout) (s : InputSection) → s.nobits ≡ true → section_bytes l s ≡ zeros s
+zero_bytes : (l : Layout) (f : File) (s : InputSection) → s.nobits ≡ true → section_bytes l f s ≡ zeros s
 unfolding section_bytes
-zero_bytes l s e = rw e refl
+zero_bytes l f s e = rw e refl
 
 blank_stored : (l : Layout) (s : InputSection) → IsLaidOut l → IsBlank l s → HasFileBytes l s.part → 1 ≤ s.size → IsStored l s
 blank_stored l s laid b f some =
     let filled = blank_filled l s b f some in
     record {
       filled = filled;
-      full = ap (λ (bs : List ℕ). length bs) (zero_bytes l s b.blank) ∙ length-replicate s.size 0;
+      full = λ f. ap (λ (bs : List ℕ). length bs) (zero_bytes l f s b.blank) ∙ length-replicate s.size 0;
       carried = each_at (IsMapped l) l s laid.mapped b.input filled (alloc_bit s.flags b.room);
     }
 
@@ -68,9 +69,10 @@ pub blanks_stored : BytesAreLoaded → BlanksAreStored
 blanks_stored law = λ l w s k legal laid b f lt.
     let stored = blank_stored l s laid b f (omega (arith, lt)) in
     let at = offset_in (slice_get l.parts s.part) s.address in
-    let st : Stands (bytes l) at (section_bytes l s) = piece_stands l (record { at = at; bytes = section_bytes l s }) laid (section_listed l s b.input stored.filled) in
+    let owner = b.input.file in
+    let st : Stands (bytes l) at (section_bytes l owner s) = piece_stands l (record { at = at; bytes = section_bytes l owner s }) laid (section_listed l s b.input stored.filled) in
     let n : length (zeros s) ≡ s.size = length-replicate s.size 0 in
-    let owned = subst (λ (bs : List ℕ). Stands (bytes l) at bs) (zero_bytes l s b.blank) st in
+    let owned = subst (λ (bs : List ℕ). Stands (bytes l) at bs) (zero_bytes l owner s b.blank) st in
     let c = stored.carried k lt in
     let held = byte_held l w s k c.0 (zeros s) law legal laid c.1 (byte_stands (bytes l) at k (zeros s) (omega (arith, lt, n)) owned) in
     let e : w.base + s.address + k ≡ w.base + (s.address + k) = omega arith in

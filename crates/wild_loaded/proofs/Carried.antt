@@ -1,5 +1,5 @@
 -- The bytes of kept sections in the memory of an image that no entry has changed.
-use Rattle.std.proofs.Common.{◌≡◌, ℕ, zero, suc, ◌+◌, ◌-◌, ◌^◌, ◌<◌, ◌≤◌, inl, inr, Bool, true, false, List, [], ◌∷◌, length, get_or, replicate, refl, sym, ap, ◌∙◌, arith, subst}
+use Rattle.std.proofs.Common.{◌≡◌, ℕ, zero, suc, ◌+◌, ◌-◌, ◌^◌, ◌<◌, ◌≤◌, inl, inr, Bool, true, false, List, [], ◌∷◌, length, get_or, replicate, refl, sym, arith, subst}
 use Rattle.std.specs.Prelude.{All, Contains, Some, slice_get, slice_index, if◌then◌else◌, ◌==◌, not}
 use Rattle.std.proofs.lemmas.Bool.{cases_Bool, eqb-true, and_parts}
 use Rattle.std.proofs.lemmas.List.Elements.{All-contains, Contains-append_left, Contains-append_right}
@@ -15,7 +15,7 @@ use Rattle.wild_types.specs.declared.file.Group.{Group}
 use Rattle.wild_types.specs.declared.layout.Layout.{Layout}
 use Rattle.wild_types.specs.Lookups.{image_size, is_filled, is_loaded, is_read}
 use Rattle.wild_layout.specs.Sites.{sites, section_bytes}
-use Rattle.wild_layout.specs.Image.{bytes, pieces, section_piece, file_pieces, table_pieces, owned_pieces, group_pieces, offset_in}
+use Rattle.wild_layout.specs.Image.{bytes, pieces, section_piece, section_pieces, thunk_pieces, file_pieces, table_pieces, owned_pieces, group_pieces, offset_in}
 use Rattle.wild_layout.specs.SectionPlaces.{SectionLies}
 use Rattle.wild_layout.specs.Loadable.{SegmentLoads, IsMapped, IsCarried}
 use Rattle.wild_layout.specs.Geometry.{IsLaidOut}
@@ -27,7 +27,7 @@ use Rattle.wild_loader.specs.declared.memory.Memory.{Memory}
 use Rattle.wild_loader.specs.Memory.{Holds, byte_in}
 use Rattle.wild_loader.specs.SegmentLaws.{BytesAreLoaded}
 use Rattle.wild_meaning.proofs.BitLemmas.{alloc_bit, kept_is_read}
-use Rattle.wild_geometry.specs.Loaded.{IsDecided}
+use Rattle.wild_geometry.proofs.Rooms.{lies_size}
 use Rattle.wild_loaded.specs.Memory.{IsStored, image_memory}
 use Rattle.wild_layout.proofs.SiteLemmas.{Contains-flat_map}
 use Rattle.wild_loaded.proofs.PartsHeld.{byte_stands, carries_section, byte_carried}
@@ -47,21 +47,22 @@ pub each_at : (P : InputSection → Type 0) (l : Layout) (s : InputSection) → 
 each_at P l s h k =
     All-contains P k.file.sections s (All-contains (λ (f : File). All P f.sections) k.group.files k.file (All-contains (λ (g : Group). All (λ (f : File). All P f.sections) g.files) l.groups k.group h k.grouped) k.filed) k.listed
 
-pub section_listed : (l : Layout) (s : InputSection) → IsInput l s → is_filled l s ≡ true → Contains (pieces l) (record { at = offset_in (slice_get l.parts s.part) s.address; bytes = section_bytes l s })
+pub section_listed : (l : Layout) (s : InputSection) (k : IsInput l s) → is_filled l s ≡ true → Contains (pieces l) (record { at = offset_in (slice_get l.parts s.part) s.address; bytes = section_bytes l k.file s })
 unfolding pieces
 section_listed l s k filled =
-    let piece : Piece = record { at = offset_in (slice_get l.parts s.part) s.address; bytes = section_bytes l s } in
-    let one : section_piece l s ≡ piece ∷ [] = rw filled refl in
-    let here : Contains (section_piece l s) piece = subst (λ (ps : List Piece). Contains ps piece) (sym one) (0, omega arith, refl) in
-    let in_file = Contains-flat_map (section_piece l) k.file.sections s piece k.listed here in
-    let in_group = Contains-flat_map (file_pieces l) k.group.files k.file piece k.filed in_file in
+    let piece : Piece = record { at = offset_in (slice_get l.parts s.part) s.address; bytes = section_bytes l k.file s } in
+    let one : section_piece l k.file s ≡ piece ∷ [] = rw filled refl in
+    let here : Contains (section_piece l k.file s) piece = subst (λ (ps : List Piece). Contains ps piece) (sym one) (0, omega arith, refl) in
+    let in_file = Contains-flat_map (section_piece l k.file) k.file.sections s piece k.listed here in
+    let owned = Contains-append_left (section_pieces l k.file) (thunk_pieces l k.file) piece in_file in
+    let in_group = Contains-flat_map (file_pieces l) k.group.files k.file piece k.filed owned in
     Contains-flat_map_from (group_pieces l) 0 l.groups k.group piece k.grouped (λ n. Contains-append_right (table_pieces l n k.group) (owned_pieces l k.group) piece in_group)
 
-pub data_bytes : (l : Layout) (s : InputSection) → s.nobits ≡ false → section_bytes l s ≡ overlay (sites l (item_of s)) s.bytes
+pub data_bytes : (l : Layout) (f : File) (s : InputSection) → s.nobits ≡ false → section_bytes l f s ≡ overlay (sites l (item_of l f s)) s.bytes
 unfolding section_bytes
-data_bytes l s n = by_bits (s.nobits) n
+data_bytes l f s n = by_bits (s.nobits) n
   where
-    by_bits : (b : Bool) → b ≡ false → (if b then replicate s.size 0 else overlay (sites l (item_of s)) s.bytes) ≡ overlay (sites l (item_of s)) s.bytes
+    by_bits : (b : Bool) → b ≡ false → (if b then replicate s.size 0 else overlay (sites l (item_of l f s)) s.bytes) ≡ overlay (sites l (item_of l f s)) s.bytes
     by_bits false h = refl
     by_bits true h = cc
 
@@ -90,8 +91,8 @@ pub kept_carried : (l : Layout) (s : InputSection) → IsLaidOut l → IsKeptSec
 kept_carried l s laid k t = each_at (IsMapped l) l s laid.mapped k.input t (alloc_bit s.flags k.room)
 
 -- and has them in the file
-pub stored_kept : (l : Layout) (s : InputSection) → IsLaidOut l → IsKeptSection l s → IsDecided l (item_of s) → 1 ≤ length s.bytes → IsStored l s
-stored_kept l s laid kept decisions some =
+pub stored_kept : (l : Layout) (s : InputSection) → IsLaidOut l → IsKeptSection l s → 1 ≤ length s.bytes → IsStored l s
+stored_kept l s laid kept some =
     let read = kept_is_read l s kept in
     let filled : is_filled l s ≡ true = elim (cases_Bool (is_filled l s)) [
       | inl t ↦ t
@@ -99,27 +100,28 @@ stored_kept l s laid kept decisions some =
     ] in
     record {
       filled = filled;
-      full = ap (λ (bs : List ℕ). length bs) (data_bytes l s kept.has_data) ∙ length-overlay (sites l (item_of s)) s.bytes decisions.apart ∙ (each_at (SectionLies l) l s laid.inputs kept.input).bytes read;
+      full = lies_size l s (each_at (SectionLies l) l s laid.inputs kept.input) filled;
       carried = kept_carried l s laid kept filled;
     }
 
 -- the bytes of a kept section are in memory at its address
-pub section_held : (l : Layout) (w : World) (s : InputSection) → BytesAreLoaded → IsLegal l w → IsLaidOut l → AreApart (length s.bytes) (sites l (item_of s)) → IsKeptSection l s → (lies : SectionLies l s) → Holds (image_memory l w) (w.base + s.address) (overlay (sites l (item_of s)) s.bytes)
-section_held l w s law legal laid apart k lies =
-    let len = length-overlay (sites l (item_of s)) s.bytes apart in
+pub section_held : (l : Layout) (w : World) (s : InputSection) → BytesAreLoaded → IsLegal l w → IsLaidOut l → (k : IsKeptSection l s) → AreApart (length s.bytes) (sites l (item_of l k.input.file s)) → (lies : SectionLies l s) → Holds (image_memory l w) (w.base + s.address) (overlay (sites l (item_of l k.input.file s)) s.bytes)
+section_held l w s law legal laid k apart lies =
+    let len = length-overlay (sites l (item_of l k.input.file s)) s.bytes apart in
     let read = kept_is_read l s k in
     elim (cases_Bool (is_filled l s)) [
       | inr f ↦ (let none = not_filled l s read k.has_data f in Holds-empty (image_memory l w) (w.base + s.address) _ (omega (arith, len, none)))
       | inl t ↦ carried l w s law legal laid k t len (lies.bytes read) (kept_carried l s laid k t)
     ]
   where
-    carried : (l : Layout) (w : World) (s : InputSection) → BytesAreLoaded → IsLegal l w → IsLaidOut l → IsKeptSection l s → is_filled l s ≡ true → length (overlay (sites l (item_of s)) s.bytes) ≡ length s.bytes → length s.bytes ≡ s.size → ((k : ℕ) → k < s.size → (h : Segment) × IsCarried l s k h) → Holds (image_memory l w) (w.base + s.address) (overlay (sites l (item_of s)) s.bytes)
+    carried : (l : Layout) (w : World) (s : InputSection) → BytesAreLoaded → IsLegal l w → IsLaidOut l → (kept : IsKeptSection l s) → is_filled l s ≡ true → length (overlay (sites l (item_of l kept.input.file s)) s.bytes) ≡ length s.bytes → length s.bytes ≡ s.size → ((k : ℕ) → k < s.size → (h : Segment) × IsCarried l s k h) → Holds (image_memory l w) (w.base + s.address) (overlay (sites l (item_of l kept.input.file s)) s.bytes)
     carried l w s law legal laid kept t len full c =
-        let st : Stands (bytes l) (offset_in (slice_get l.parts s.part) s.address) (section_bytes l s) = piece_stands l (record { at = offset_in (slice_get l.parts s.part) s.address; bytes = section_bytes l s }) laid (section_listed l s kept.input t) in
-        let st' = subst (λ (xs : List ℕ). Stands (bytes l) (offset_in (slice_get l.parts s.part) s.address) xs) (data_bytes l s kept.has_data) st in
+        let f = kept.input.file in
+        let st : Stands (bytes l) (offset_in (slice_get l.parts s.part) s.address) (section_bytes l f s) = piece_stands l (record { at = offset_in (slice_get l.parts s.part) s.address; bytes = section_bytes l f s }) laid (section_listed l s kept.input t) in
+        let st' = subst (λ (xs : List ℕ). Stands (bytes l) (offset_in (slice_get l.parts s.part) s.address) xs) (data_bytes l f s kept.has_data) st in
         λ k lt. (
         let h = c k (omega (arith, len, full, lt)) in
-        byte_held l w s k h.0 (overlay (sites l (item_of s)) s.bytes) law legal laid h.1 (byte_stands (bytes l) (offset_in (slice_get l.parts s.part) s.address) k (overlay (sites l (item_of s)) s.bytes) lt st')
+        byte_held l w s k h.0 (overlay (sites l (item_of l f s)) s.bytes) law legal laid h.1 (byte_stands (bytes l) (offset_in (slice_get l.parts s.part) s.address) k (overlay (sites l (item_of l f s)) s.bytes) lt st')
         )
 
 -- and do not wrap

@@ -12,7 +12,7 @@ use Rattle.wild_types.specs.declared.input.Slot.{Slot}
 use Rattle.wild_types.specs.declared.input.Slot.TheVariants as slot
 use Rattle.wild_types.specs.declared.input.InputRelocation.{InputRelocation}
 use Rattle.wild_types.specs.declared.input.InputSection.{InputSection}
-use Rattle.wild_types.specs.Item.{item_of}
+use Rattle.wild_types.specs.Item.{item_with, block_for}
 use Rattle.wild_types.specs.declared.file.File.{File}
 use Rattle.wild_types.specs.declared.layout.Layout.{Layout}
 use Rattle.wild_types.specs.Lookups.{is_loaded, is_read}
@@ -74,32 +74,32 @@ loaded_slot slot.Loaded h = tt
 loaded_slot other h = cc
 
 -- what is known of the relocation of a filling
-pub record IsFilledThere (l : Layout) (s : InputSection) (x : Filling) : Type 0 where
+pub record IsFilledThere (l : Layout) (block : ℕ) (s : InputSection) (x : Filling) : Type 0 where
   pub filling : IsFillingOf l s x
-  pub well : IsKeptWell l s
-  pub by : IsFilledBy l s filling.relocation x
-  pub has : HasDecision l (item_of s) filling.index filling.relocation by.decision
+  pub well : IsKeptWell l block s
+  pub by : IsFilledBy l block s filling.relocation x
+  pub has : HasDecision l (item_with block s) filling.index filling.relocation by.decision
   pub ends : filling.relocation.offset + x.width ≤ length s.bytes
 
-pub filled_there : (l : Layout) (s : InputSection) (x : Filling) → IsLaidOut l → EachDecided l → Contains (all_sections l) s → IsFillingOf l s x → IsFilledThere l s x
-filled_there l s x laid decided c k =
-    let input = input_of l s c in
+pub filled_there : (l : Layout) (s : InputSection) (x : Filling) → IsLaidOut l → EachDecided l → (input : IsInput l s) → IsFillingOf l s x → IsFilledThere l (block_for l input.file s) s x
+filled_there l s x laid decided input k =
+    let block = block_for l input.file s in
     let loaded = and_parts (is_loaded s.slot) (not s.nobits) k.reads in
     let d = (decided s input k.reads).each k.index k.within in
-    let same = filling_decided l s k.index k.relocation x k.listed k.given in
+    let same = filling_decided l block s k.index k.relocation x k.listed k.given in
     let made = sym same ∙ d.1 in
-    let by = filled_by l s k.relocation x d.0 made k.given in
+    let by = filled_by l block s k.relocation x d.0 made k.given in
     let kept : IsKeptSection l s = record { input = input; loaded = loaded_slot s.slot loaded.0; room = bit_alloc s.flags by.room; has_data = not-true s.nobits loaded.1 } in
     let well = kept_well l s laid decided kept in
     let lies = holds_at (FieldLies l.machine (length s.bytes)) s.relocations k.index k.relocation k.listed well.fields in
-    let ends = field_lies l (item_of s) k.relocation by.written.size by.field lies in
+    let ends = field_lies l (item_with block s) k.relocation by.written.size by.field lies in
     let width = by.width in
     record { filling = k; well = well; by = by; has = record { listed = k.listed; decided = same ∙ by.made }; ends = omega (arith, ends, width) }
 
 -- ---- all fillings
 
-pub lies_there : (l : Layout) (s : InputSection) (x : Filling) → IsFilledThere l s x → LiesIn (section_home l s) x
-lies_there l s x h =
+pub lies_there : (l : Layout) (block : ℕ) (s : InputSection) (x : Filling) → IsFilledThere l block s x → LiesIn (section_home l s) x
+lies_there l block s x h =
     let is = h.by.place in
     let ends = h.ends in
     let full = h.well.full in
@@ -107,8 +107,8 @@ lies_there l s x h =
     record { from = omega (arith, is, ends, full, small); to = omega (arith, is, ends, full, small) }
 
 -- where it stands in its section
-pub place_sum : (l : Layout) (s : InputSection) (x : Filling) → (h : IsFilledThere l s x) → x.entry.offset ≡ s.address + h.filling.relocation.offset
-place_sum l s x h =
+pub place_sum : (l : Layout) (block : ℕ) (s : InputSection) (x : Filling) → (h : IsFilledThere l block s x) → x.entry.offset ≡ s.address + h.filling.relocation.offset
+place_sum l block s x h =
     let is = h.by.place in
     let ends = h.ends in
     let full = h.well.full in
@@ -118,42 +118,42 @@ place_sum l s x h =
 -- ---- two fillings of a section
 
 -- two relocations at different numbers write apart
-pub sites_apart_at : (l : Layout) (s : InputSection) (i j : ℕ) (p q : Piece) → IsKeptWell l s → i < j → j < length s.relocations → site l (item_of s) i ≡ p ∷ [] → site l (item_of s) j ≡ q ∷ [] → Apart p q
-sites_apart_at l s i j p q well lt within si sj =
+pub sites_apart_at : (l : Layout) (block : ℕ) (s : InputSection) (i j : ℕ) (p q : Piece) → IsKeptWell l block s → i < j → j < length s.relocations → site l (item_with block s) i ≡ p ∷ [] → site l (item_with block s) j ≡ q ∷ [] → Apart p q
+sites_apart_at l block s i j p q well lt within si sj =
     let n = length s.relocations in
-    let across = AllPairs-from_flat_map Apart (site l (item_of s)) (range_with_len 0 n) well.decisions.apart.apart i j 0 lt (omega (arith, length-range_with_len 0 n, within)) in
+    let across = AllPairs-from_flat_map Apart (site l (item_with block s)) (range_with_len 0 n) well.decisions.apart.apart i j 0 lt (omega (arith, length-range_with_len 0 n, within)) in
     let ri = get_or-range_with_len 0 n i 0 (omega (arith, lt, within)) in
     let rj = get_or-range_with_len 0 n j 0 within in
     let ei : get_or (range_with_len 0 n) i 0 ≡ i = omega (arith, ri) in
     let ej : get_or (range_with_len 0 n) j 0 ≡ j = omega (arith, rj) in
-    let a = subst (λ (x : ℕ). Between Apart (site l (item_of s)) x (get_or (range_with_len 0 n) j 0)) ei across in
-    let b = subst (λ (y : ℕ). Between Apart (site l (item_of s)) i y) ej a in
-    let c = subst (λ (ps : List Piece). All (λ (x : Piece). All (Apart x) (site l (item_of s) j)) ps) si b in
+    let a = subst (λ (x : ℕ). Between Apart (site l (item_with block s)) x (get_or (range_with_len 0 n) j 0)) ei across in
+    let b = subst (λ (y : ℕ). Between Apart (site l (item_with block s)) i y) ej a in
+    let c = subst (λ (ps : List Piece). All (λ (x : Piece). All (Apart x) (site l (item_with block s) j)) ps) si b in
     let d = subst (λ (qs : List Piece). All (Apart p) qs) sj (c 0 p (omega arith)) in
     d 0 q (omega arith)
 
 -- what its relocation writes in the file
-abbrev pub filled_site : (l : Layout) (s : InputSection) (r : InputRelocation) (x : Filling) → IsFilledBy l s r x → Piece
-filled_site l s r x b = field_site (item_of s) r.offset b.written.size b.written.value
+abbrev pub filled_site : (l : Layout) (block : ℕ) (s : InputSection) (r : InputRelocation) (x : Filling) → IsFilledBy l block s r x → Piece
+filled_site l block s r x b = field_site (item_with block s) r.offset b.written.size b.written.value
 
-pub site_width : (l : Layout) (s : InputSection) (r : InputRelocation) (x : Filling) → (b : IsFilledBy l s r x) → length (filled_site l s r x b).bytes ≡ x.width
-site_width l s r x b = length-field_site (item_of s) r.offset b.written.size b.written.value ∙ sym b.width
+pub site_width : (l : Layout) (block : ℕ) (s : InputSection) (r : InputRelocation) (x : Filling) → (b : IsFilledBy l block s r x) → length (filled_site l block s r x b).bytes ≡ x.width
+site_width l block s r x b = length-field_site (item_with block s) r.offset b.written.size b.written.value ∙ sym b.width
 
-pub site_there : (l : Layout) (s : InputSection) (r : InputRelocation) (x : Filling) (i : ℕ) (b : IsFilledBy l s r x) → HasDecision l (item_of s) i r b.decision → site l (item_of s) i ≡ filled_site l s r x b ∷ []
-site_there l s r x i b h = site_written l (item_of s) i r b.decision b.written h.listed h.decided b.by
+pub site_there : (l : Layout) (block : ℕ) (s : InputSection) (r : InputRelocation) (x : Filling) (i : ℕ) (b : IsFilledBy l block s r x) → HasDecision l (item_with block s) i r b.decision → site l (item_with block s) i ≡ filled_site l block s r x b ∷ []
+site_there l block s r x i b h = site_written l (item_with block s) i r b.decision b.written h.listed h.decided b.by
 
 shifted : (a b n m at : ℕ) (x y : Filling) → n ≡ x.width → m ≡ y.width → x.entry.offset ≡ at + a → y.entry.offset ≡ at + b → (a + n ≤ b) ⊎ (b + m ≤ a) → AreBeside x y
 shifted a b n m at x y en em ex ey (inl h) = λ k lk j lj e. omega (arith, en, em, ex, ey, h, lk, lj, e)
 shifted a b n m at x y en em ex ey (inr h) = λ k lk j lj e. omega (arith, en, em, ex, ey, h, lk, lj, e)
 
-beside_there : (l : Layout) (s : InputSection) (x y : Filling) (hx : IsFilledThere l s x) (hy : IsFilledThere l s y) → hx.filling.index < hy.filling.index → AreBeside x y
-beside_there l s x y hx hy lt =
+beside_there : (l : Layout) (block : ℕ) (s : InputSection) (x y : Filling) (hx : IsFilledThere l block s x) (hy : IsFilledThere l block s y) → hx.filling.index < hy.filling.index → AreBeside x y
+beside_there l block s x y hx hy lt =
     let r = hx.filling.relocation in
     let q = hy.filling.relocation in
-    let p = filled_site l s r x hx.by in
-    let o = filled_site l s q y hy.by in
-    let apart = sites_apart_at l s hx.filling.index hy.filling.index p o hx.well lt hy.filling.within (site_there l s r x hx.filling.index hx.by hx.has) (site_there l s q y hy.filling.index hy.by hy.has) in
-    shifted r.offset q.offset (length p.bytes) (length o.bytes) s.address x y (site_width l s r x hx.by) (site_width l s q y hy.by) (place_sum l s x hx) (place_sum l s y hy) apart
+    let p = filled_site l block s r x hx.by in
+    let o = filled_site l block s q y hy.by in
+    let apart = sites_apart_at l block s hx.filling.index hy.filling.index p o hx.well lt hy.filling.within (site_there l block s r x hx.filling.index hx.by hx.has) (site_there l block s q y hy.filling.index hy.by hy.has) in
+    shifted r.offset q.offset (length p.bytes) (length o.bytes) s.address x y (site_width l block s r x hx.by) (site_width l block s q y hy.by) (place_sum l block s x hx) (place_sum l block s y hy) apart
 
 one_filling : (l : Layout) (s : InputSection) (r : InputRelocation) → AllPairs AreBeside (option_to_list (section_filling l s r))
 one_filling l s r = by_option (section_filling l s r)
@@ -166,23 +166,23 @@ one_filling l s r = by_option (section_filling l s r)
 filling_made : (l : Layout) (s : InputSection) (x : Filling) (i : ℕ) (d : InputRelocation) → is_read s ≡ true → i < length s.relocations → Contains (option_to_list (section_filling l s (get_or s.relocations i d))) x → IsFillingOf l s x
 filling_made l s x i d reads within c = record { reads = reads; index = i; relocation = get_or s.relocations i d; within = within; listed = slice_get-get_or s.relocations i d within; given = one_given (section_filling l s (get_or s.relocations i d)) x c }
 
-both_beside : (l : Layout) (s : InputSection) (x y : Filling) (i j : ℕ) (d : InputRelocation) → IsLaidOut l → EachDecided l → Contains (all_sections l) s → is_read s ≡ true → i < j → j < length s.relocations → Contains (option_to_list (section_filling l s (get_or s.relocations i d))) x → Contains (option_to_list (section_filling l s (get_or s.relocations j d))) y → AreBeside x y
+both_beside : (l : Layout) (s : InputSection) (x y : Filling) (i j : ℕ) (d : InputRelocation) → IsLaidOut l → EachDecided l → IsInput l s → is_read s ≡ true → i < j → j < length s.relocations → Contains (option_to_list (section_filling l s (get_or s.relocations i d))) x → Contains (option_to_list (section_filling l s (get_or s.relocations j d))) y → AreBeside x y
 unfolding filling_made filled_there
-both_beside l s x y i j d laid decided c reads lt within cx cy =
+both_beside l s x y i j d laid decided input reads lt within cx cy =
     let kx = filling_made l s x i d reads (omega (arith, lt, within)) cx in
     let ky = filling_made l s y j d reads within cy in
-    beside_there l s x y (filled_there l s x laid decided c kx) (filled_there l s y laid decided c ky) lt
+    beside_there l (block_for l input.file s) s x y (filled_there l s x laid decided input kx) (filled_there l s y laid decided input ky) lt
 
 -- the fillings of one section lie beside each other
-fillings_beside : (l : Layout) (s : InputSection) → IsLaidOut l → EachDecided l → Contains (all_sections l) s → AllPairs AreBeside (section_fillings l s)
-fillings_beside l s laid decided c = by_test (is_read s) refl
+fillings_beside : (l : Layout) (s : InputSection) → IsLaidOut l → EachDecided l → IsInput l s → AllPairs AreBeside (section_fillings l s)
+fillings_beside l s laid decided input = by_test (is_read s) refl
   where
     by_test : (b : Bool) → is_read s ≡ b → AllPairs AreBeside (if b then flat_map (λ (r : InputRelocation). option_to_list (section_filling l s r)) s.relocations else [])
     by_test false e = AllPairs-nil AreBeside
     by_test true e =
         AllPairs-flat_map AreBeside (λ (r : InputRelocation). option_to_list (section_filling l s r)) s.relocations
         (λ k d m. one_filling l s (get_or s.relocations k d))
-        (λ i j d lt m. All-each (λ (x : Filling). All (AreBeside x) (option_to_list (section_filling l s (get_or s.relocations j d)))) (option_to_list (section_filling l s (get_or s.relocations i d))) (λ x cx. All-each (AreBeside x) (option_to_list (section_filling l s (get_or s.relocations j d))) (λ y cy. both_beside l s x y i j d laid decided c e lt m cx cy)))
+        (λ i j d lt m. All-each (λ (x : Filling). All (AreBeside x) (option_to_list (section_filling l s (get_or s.relocations j d)))) (option_to_list (section_filling l s (get_or s.relocations i d))) (λ x cx. All-each (AreBeside x) (option_to_list (section_filling l s (get_or s.relocations j d))) (λ y cy. both_beside l s x y i j d laid decided input e lt m cx cy)))
 
 -- ---- all sections
 
@@ -191,21 +191,21 @@ first_filling [] h = absurd (omega (arith, h))
 first_filling (x ∷ xs) h = (x, (0, omega arith, refl))
 
 -- a filling of a section has bytes
-pub width_some : (l : Layout) (s : InputSection) (x : Filling) → IsFilledThere l s x → 1 ≤ x.width
-width_some l s x h =
+pub width_some : (l : Layout) (block : ℕ) (s : InputSection) (x : Filling) → IsFilledThere l block s x → 1 ≤ x.width
+width_some l block s x h =
     let width = h.by.width in
     let some = field_has_bytes l h.filling.relocation h.by.written.size h.by.field in
     omega (arith, width, some)
 
-pub stored_there : (l : Layout) (s : InputSection) (x : Filling) → SectionsAreCarried → IsLaidOut l → IsFilledThere l s x → IsStored l s
-stored_there l s x law laid h =
+pub stored_there : (l : Layout) (block : ℕ) (s : InputSection) (x : Filling) → SectionsAreCarried → IsLaidOut l → IsFilledThere l block s x → IsStored l s
+stored_there l block s x law laid h =
     let ends = h.ends in
-    let some = width_some l s x h in
-    law l s laid h.well.kept h.well.decisions (omega (arith, ends, some))
+    let some = width_some l block s x h in
+    law l s laid h.well.kept (omega (arith, ends, some))
 
 pub have_places : (l : Layout) → SectionsAreCarried → IsLaidOut l → EachDecided l → HavePlaces l (section_fillings l)
 have_places l law laid decided = record {
-  stored = All-each (λ (s : InputSection). 1 ≤ length (section_fillings l s) → IsStored l s) (all_sections l) (λ s c some. (let x = first_filling (section_fillings l s) some in stored_there l s x.0 law laid (filled_there l s x.0 laid decided c (filling_known l s x.0 x.1))));
-  within = All-each (λ (s : InputSection). All (LiesIn (section_home l s)) (section_fillings l s)) (all_sections l) (λ s c. All-each (LiesIn (section_home l s)) (section_fillings l s) (λ x k. lies_there l s x (filled_there l s x laid decided c (filling_known l s x k))));
-  beside = All-each (λ (s : InputSection). AllPairs AreBeside (section_fillings l s)) (all_sections l) (λ s c. fillings_beside l s laid decided c);
+  stored = All-each (λ (s : InputSection). 1 ≤ length (section_fillings l s) → IsStored l s) (all_sections l) (λ s c some. (let x = first_filling (section_fillings l s) some in stored_there l (block_for l (input_of l s c).file s) s x.0 law laid (filled_there l s x.0 laid decided (input_of l s c) (filling_known l s x.0 x.1))));
+  within = All-each (λ (s : InputSection). All (LiesIn (section_home l s)) (section_fillings l s)) (all_sections l) (λ s c. All-each (LiesIn (section_home l s)) (section_fillings l s) (λ x k. lies_there l (block_for l (input_of l s c).file s) s x (filled_there l s x laid decided (input_of l s c) (filling_known l s x k))));
+  beside = All-each (λ (s : InputSection). AllPairs AreBeside (section_fillings l s)) (all_sections l) (λ s c. fillings_beside l s laid decided (input_of l s c));
 }

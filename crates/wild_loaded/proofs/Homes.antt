@@ -8,10 +8,9 @@ use Rattle.wild_records.specs.Abi.Segment.{pt_load}
 use Rattle.wild_types.specs.declared.section.Segment.{Segment}
 use Rattle.wild_types.specs.declared.layout.Layout.{Layout}
 use Rattle.wild_types.specs.Lookups.{image_size}
-use Rattle.wild_layout.specs.Loadable.{SegmentLoads, Ascends}
+use Rattle.wild_layout.specs.Loadable.{SegmentLoads, Ascends, CarriesByte}
 use Rattle.wild_layout.specs.Geometry.{IsLaidOut}
 use Rattle.wild_meaning.specs.World.{IsBehind}
-use Rattle.wild_loaded.specs.Stored.{CarriesByte}
 use Rattle.wild_loaded.proofs.Fillings.{Filling, Misses, AreBeside}
 
 -- ---- homes

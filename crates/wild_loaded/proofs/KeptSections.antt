@@ -1,8 +1,8 @@
 -- What is known of a kept section of a layout that is laid out and decided.
-use Rattle.std.proofs.Common.{◌≡◌, ℕ, length, sym, subst}
+use Rattle.std.proofs.Common.{◌≡◌, ℕ, length, refl, sym, subst}
 use Rattle.std.specs.Prelude.{All}
 use Rattle.wild_types.specs.declared.input.InputSection.{InputSection}
-use Rattle.wild_types.specs.Item.{item_of}
+use Rattle.wild_types.specs.Item.{item_with, block_for}
 use Rattle.wild_types.specs.declared.layout.Layout.{Layout}
 use Rattle.wild_layout.specs.SectionPlaces.{FieldLies, SectionLies}
 use Rattle.wild_layout.specs.Geometry.{IsLaidOut}
@@ -12,20 +12,22 @@ use Rattle.wild_meaning.specs.Item.{IsKeptSection}
 use Rattle.wild_meaning.proofs.BitLemmas.{kept_is_read}
 use Rattle.wild_geometry.proofs.JudgedLemmas.{each_at}
 
--- what is known of a kept section of a layout that is laid out and decided
-pub record IsKeptWell (l : Layout) (s : InputSection) : Type 0 where
+-- what is known of a kept section of a layout that is laid out and decided, with the block of thunks that its file has for it
+pub record IsKeptWell (l : Layout) (block : ℕ) (s : InputSection) : Type 0 where
   pub kept : IsKeptSection l s
-  pub decisions : IsDecided l (item_of s)
+  pub own : block ≡ block_for l kept.input.file s
+  pub decisions : IsDecided l (item_with block s)
   pub lies : SectionLies l s
   pub full : length s.bytes ≡ s.size
   pub fields : All (FieldLies l.machine (length s.bytes)) s.relocations
 
-pub kept_well : (l : Layout) (s : InputSection) → IsLaidOut l → EachDecided l → IsKeptSection l s → IsKeptWell l s
+pub kept_well : (l : Layout) (s : InputSection) → IsLaidOut l → EachDecided l → (k : IsKeptSection l s) → IsKeptWell l (block_for l k.input.file s) s
 kept_well l s laid decided k =
     let lies = each_at (SectionLies l) l s laid.inputs k.input in
     let read = kept_is_read l s k in
     record {
       kept = k;
+      own = refl;
       decisions = decided s k.input read;
       lies = lies;
       full = lies.bytes read;

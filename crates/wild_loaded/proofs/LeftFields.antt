@@ -12,8 +12,7 @@ use Rattle.wild_types.specs.declared.fault.Fault.{Fault}
 use Rattle.wild_types.specs.declared.fault.Missing.TheVariants as missing
 use Rattle.wild_types.specs.declared.kind.Machine.{Machine}
 use Rattle.wild_types.specs.declared.input.InputRelocation.{InputRelocation}
-use Rattle.wild_types.specs.declared.input.InputSection.{InputSection}
-use Rattle.wild_types.specs.Item.{item_of}
+use Rattle.wild_types.specs.Item.{Item}
 use Rattle.wild_types.specs.declared.symbol.Resolution.{Resolution}
 use Rattle.wild_types.specs.declared.symbol.Symbol.{Symbol}
 use Rattle.wild_types.specs.declared.symbol.ValueFlags.{ValueFlags}
@@ -216,12 +215,12 @@ chosen_parts P l x n symbol addend r (Ok value) h k =
     ]
 
 -- the cases of a field that is left to an entry: of an address, of a size, of what a resolver answers
-record IsLeftCase (l : Layout) (s : InputSection) (r : InputRelocation) (P : RelocationSize → ℕ → ℕ → ℕ → Type 0) : Type 0 where
+record IsLeftCase (l : Layout) (s : Item) (r : InputRelocation) (P : RelocationSize → ℕ → ℕ → ℕ → Type 0) : Type 0 where
   address : (i index : ℕ) → index_of l i ≡ Some index → P (ByteSize Eight) (type_of l.machine Absolute) index (added r)
   chosen : (i value : ℕ) → has_flag (flags_at l i) ifunc ≡ true → decided_address l i ≡ Ok value → P (ByteSize Eight) (type_of l.machine Irelative) 0 value
   size : (i index : ℕ) (row : RelocationKindInfo) → IsSizeRow l r.number row.size → index_of l i ≡ Some index → P row.size r.number index (added r)
 
-by_treatment : (P : RelocationSize → ℕ → ℕ → ℕ → Type 0) (l : Layout) (s : InputSection) (r : InputRelocation) (z : RelocationSize) (n symbol addend : ℕ) → IsLeftCase l s r P → (t : Treatment) → treatment l s.flags r ≡ t → is_left_to_entry t ≡ true → decide_by l (item_of s) r t ≡ Ok (Left z n symbol addend) → P z n symbol addend
+by_treatment : (P : RelocationSize → ℕ → ℕ → ℕ → Type 0) (l : Layout) (s : Item) (r : InputRelocation) (z : RelocationSize) (n symbol addend : ℕ) → IsLeftCase l s r P → (t : Treatment) → treatment l s.flags r ≡ t → is_left_to_entry t ≡ true → decide_by l s r t ≡ Ok (Left z n symbol addend) → P z n symbol addend
 by_treatment P l s r z n symbol addend k (treatments.Symbolic i) is left made = left_parts P (ByteSize Eight) z (type_of l.machine Absolute) n symbol addend r i (index_of l i) made (k.address i)
 by_treatment P l s r z n symbol addend k (treatments.Indirect i) is left made =
     let flag = last_of_four (allocated s.flags) (writable s.flags) (is_position_independent l.kind) (has_flag (flags_at l i) ifunc) (known_indirect l s.flags r i is).3.chosen in
@@ -235,9 +234,9 @@ by_treatment P l s r z n symbol addend k treatments.BaseRelative is left made = 
 by_treatment P l s r z n symbol addend k treatments.Recompile is left made = cc
 by_treatment P l s r z n symbol addend k treatments.Unsupported is left made = cc
 
-left_case : (P : RelocationSize → ℕ → ℕ → ℕ → Type 0) (l : Layout) (s : InputSection) (r : InputRelocation) (z : RelocationSize) (n symbol addend : ℕ) → IsLeftCase l s r P → decided l (item_of s) r ≡ Ok (Left z n symbol addend) → P z n symbol addend
+left_case : (P : RelocationSize → ℕ → ℕ → ℕ → Type 0) (l : Layout) (s : Item) (r : InputRelocation) (z : RelocationSize) (n symbol addend : ℕ) → IsLeftCase l s r P → decided l s r ≡ Ok (Left z n symbol addend) → P z n symbol addend
 left_case P l s r z n symbol addend k h =
-    let x = decided_left l (item_of s) r z n symbol addend h in
+    let x = decided_left l s r z n symbol addend h in
     by_treatment P l s r z n symbol addend k x.treated x.is x.left x.made
 
 -- ---- what is in the file
@@ -260,7 +259,7 @@ size_zeroed l n z h = elim h.1 [
   | inr e ↦ subst IsZeroed (sym e.1) eight_zeroed
 ]
 
-pub left_zeroed : (l : Layout) (s : InputSection) (r : InputRelocation) (z : RelocationSize) (n symbol addend : ℕ) (old : List ℕ) → decided l (item_of s) r ≡ Ok (Left z n symbol addend) → size_written z 0 old ≡ replicate (size_width z) 0
+pub left_zeroed : (l : Layout) (s : Item) (r : InputRelocation) (z : RelocationSize) (n symbol addend : ℕ) (old : List ℕ) → decided l s r ≡ Ok (Left z n symbol addend) → size_written z 0 old ≡ replicate (size_width z) 0
 left_zeroed l s r z n symbol addend old h =
     left_case (λ y m k a. IsZeroed y) l s r z n symbol addend
     (record { address = λ i index e. eight_zeroed; chosen = λ i value f e. eight_zeroed; size = λ i index row q e. size_zeroed l r.number row.size q }) h old
@@ -275,7 +274,7 @@ size_fills l w n symbol addend z h named =
       | inr e ↦ subst P (sym e.1) (stores_size (processor_of l.machine) w n symbol addend h.0 e.0 named)
     ]
 
-pub left_fills : (l : Layout) (w : World) (s : InputSection) (r : InputRelocation) (z : RelocationSize) (n symbol addend : ℕ) → NumbersFit l → IsLegal l w → IsLaidOut l → decided l (item_of s) r ≡ Ok (Left z n symbol addend) → FillsField (processor_of l.machine) w z n symbol addend
+pub left_fills : (l : Layout) (w : World) (s : Item) (r : InputRelocation) (z : RelocationSize) (n symbol addend : ℕ) → NumbersFit l → IsLegal l w → IsLaidOut l → decided l s r ≡ Ok (Left z n symbol addend) → FillsField (processor_of l.machine) w z n symbol addend
 left_fills l w s r z n symbol addend numbers legal laid h = left_case (FillsField (processor_of l.machine) w) l s r z n symbol addend (record {
   address = λ i index e. stores_address l.machine w index (added r) (named_by l w i index legal laid e);
   chosen = λ i value f e. chosen_fills l w i value numbers legal f e;

@@ -49,5 +49,6 @@ pub mod Blanks
 mod NumbersKept
 pub mod SitesLoaded
 pub mod SlotsLoaded
+pub mod ThunksHeld
 mod Notes
 pub mod Moving

@@ -35,7 +35,7 @@ use Rattle.wild_loaded.specs.Laws.{HeadersStand, SegmentsAreLoadable, TablesAreF
 use Rattle.wild_loaded.specs.Words.{place_change, entry_change}
 use Rattle.wild_loaded.specs.FilledLaws.{AreMade, TablesAreMade}
 use Rattle.wild_loaded.proofs.Fillings.{IsKnown, place_loaded}
-use Rattle.wild_types.specs.Item.{Item}
+use Rattle.wild_types.specs.Item.{Item, block_for}
 use Rattle.wild_geometry.specs.Loaded.{HasItem, InMemory}
 use Rattle.wild_meaning.specs.Item.{IsKept, OfSection}
 use Rattle.wild_loaded.proofs.KeptSections.{kept_well}
@@ -50,6 +50,7 @@ use Rattle.wild_loaded.proofs.OutsideTables.{behind_miss}
 use Rattle.wild_loaded.proofs.SectionsMoved.{section_moved}
 use Rattle.wild_loaded.proofs.Blanks.{blank_moved}
 use Rattle.wild_loaded.proofs.SlotsLoaded.{slots_loaded}
+use Rattle.wild_loaded.proofs.ThunksHeld.{thunks_moved}
 use Rattle.wild_loaded.proofs.Notes.{has_changed, alone, alone_made, alone_apart, alone_changed}
 
 moved_image : (l : Layout) (w : World) (m : Memory) → MovingLaws → IsFilledWell l w → HasApplied l w m → IsMovedImage l w m
@@ -92,7 +93,7 @@ copy_moved l w m i raw x h c =
 -- ---- items
 
 item_moved : (l : Layout) (w : World) (m : Memory) (s : Item) → IsMovedImage l w m → IsKept l s → HasItem l w m s InMemory
-item_moved l w m s h (OfSection x k is) = subst (λ (i : Item). HasItem l w m i InMemory) (sym is) (section_moved l w m x h (kept_well l x h.well.laid h.well.decided k))
+item_moved l w m s h (OfSection x k is) = subst (λ (i : Item). HasItem l w m i InMemory) (sym is) (section_moved l w m (block_for l k.input.file x) x h (kept_well l x h.well.laid h.well.decided k))
 
 pub memory_moved : MovingLaws → MemoryIsMoved
 memory_moved laws = λ l w m kind numbers legal laid decided whole none applied.
@@ -100,6 +101,7 @@ memory_moved laws = λ l w m kind numbers legal laid decided whole none applied.
     record {
       items = λ s kept. item_moved l w m s h kept;
       slots = slots_loaded l w m h;
+      thunks = thunks_moved l w m laws.thunks h;
       zeros = λ a b free. zero_moved l w m a h b free;
       blanks = λ s k b f lt. blank_moved l w m s k laws.blanks h b f lt;
       copies = λ i raw y c. copy_moved l w m i raw y h c;
@@ -163,6 +165,7 @@ images_loaded laws = λ l w kind numbers legal laid decided whole none.
       machine = loaded.applied.machine;
       items = h.items;
       slots = h.slots;
+      thunks = h.thunks;
       zeros = h.zeros;
       blanks = h.blanks;
       copies = h.copies;

@@ -16,7 +16,7 @@ use Rattle.wild_meaning.specs.World.{IsBehind}
 use Rattle.wild_meaning.specs.Linked.{IsNotCopied}
 use Rattle.wild_loaded.specs.Memory.{IsStored}
 use Rattle.wild_loaded.proofs.Fillings.{Filling, Misses, general_of, place_entry}
-use Rattle.wild_loaded.proofs.Homes.{Home, HasHome, homes_back, misses_across, behind_misses}
+use Rattle.wild_loaded.proofs.Homes.{Home, HasHome, HomesApart, homes_back, misses_across, behind_misses}
 use Rattle.wild_loaded.proofs.SectionsApart.{all_sections, section_home, stored_home}
 use Rattle.wild_loaded.proofs.PlacesApart.{misses_all}
 use Rattle.wild_loaded.proofs.SectionFillings.{section_fillings}
@@ -57,17 +57,25 @@ section_misses l w m s k h c stored lt own =
 
 -- ---- bytes of tables
 
-table_misses_sections : (l : Layout) (w : World) (m : Memory) (r : Role) (k : ℕ) → IsMovedImage l w m → is_loaded_role r ≡ true → k < (role_home l r).size → All (Misses ((role_home l r).address + k)) (sections_filled l)
-table_misses_sections l w m r k h loaded lt =
-    All-flat_map (Misses ((role_home l r).address + k)) (section_fillings l) (all_sections l) (λ i d b. (λ j e n.
+run_misses_sections : (l : Layout) (w : World) (m : Memory) (r : Home) (k : ℕ) → IsMovedImage l w m → HasHome l r → ((s : InputSection) → Contains (all_sections l) s → IsStored l s → HomesApart r (section_home l s)) → k < r.size → All (Misses (r.address + k)) (sections_filled l)
+run_misses_sections l w m r k h there apart lt =
+    All-flat_map (Misses (r.address + k)) (section_fillings l) (all_sections l) (λ i d b. (λ j e n.
     let s = get_or (all_sections l) i d in
     let stored = h.sections.stored i d b (not_empty _ j n) in
     let c : Contains (all_sections l) s = (i, b, get_or_default (all_sections l) i s d b) in
-    misses_across l (role_home l r) (section_home l s) k (get_or (section_fillings l s) j e) h.well.laid (role_there l r loaded h.well.kind h.well.laid) (stored_home l s stored) (section_apart l r s loaded h.well.laid (lies_of l s h.well.laid c) stored) lt (h.sections.within i d b j e n)))
+    misses_across l r (section_home l s) k (get_or (section_fillings l s) j e) h.well.laid there (stored_home l s stored) (apart s c stored) lt (h.sections.within i d b j e n)))
+
+run_misses_table : (l : Layout) (w : World) (m : Memory) (r : Home) (t : Role) (k : ℕ) (xs : List Filling) → IsMovedImage l w m → HasHome l r → is_loaded_role t ≡ true → HomesApart r (role_home l t) → k < r.size → InTable l t xs → All (Misses (r.address + k)) xs
+run_misses_table l w m r t k xs h there loaded apart low table = λ i d b.
+    misses_across l r (role_home l t) k (get_or xs i d) h.well.laid there (role_there l t loaded h.well.kind h.well.laid) apart low (table.within i d b)
+
+table_misses_sections : (l : Layout) (w : World) (m : Memory) (r : Role) (k : ℕ) → IsMovedImage l w m → is_loaded_role r ≡ true → k < (role_home l r).size → All (Misses ((role_home l r).address + k)) (sections_filled l)
+table_misses_sections l w m r k h loaded lt =
+    run_misses_sections l w m (role_home l r) k h (role_there l r loaded h.well.kind h.well.laid) (λ s c stored. section_apart l r s loaded h.well.laid (lies_of l s h.well.laid c) stored) lt
 
 table_misses_table : (l : Layout) (w : World) (m : Memory) (r t : Role) (k : ℕ) (xs : List Filling) → IsMovedImage l w m → is_loaded_role r ≡ true → is_loaded_role t ≡ true → (r ≡ t → ⊥) → k < (role_home l r).size → InTable l t xs → All (Misses ((role_home l r).address + k)) xs
-table_misses_table l w m r t k xs h lr lt other low table = λ i d b.
-    misses_across l (role_home l r) (role_home l t) k (get_or xs i d) h.well.laid (role_there l r lr h.well.kind h.well.laid) (role_there l t lt h.well.kind h.well.laid) (roles_apart l r t lr lt other h.well.laid) low (table.within i d b)
+table_misses_table l w m r t k xs h lr lt other low table =
+    run_misses_table l w m (role_home l r) t k xs h (role_there l r lr h.well.kind h.well.laid) lt (roles_apart l r t lr lt other h.well.laid) low table
 
 -- a byte of a stub
 pub stub_misses : (l : Layout) (w : World) (m : Memory) (k : ℕ) → IsMovedImage l w m → k < (role_home l role.PltGot).size → All (Misses ((role_home l role.PltGot).address + k)) (all_fillings l w)
@@ -77,6 +85,15 @@ stub_misses l w m k h lt =
     (table_misses_table l w m role.PltGot role.Got k (slots_filled l) h refl refl (λ e. cc) lt h.slots.got)
     (table_misses_table l w m role.PltGot role.GotRelr k (blocks_filled l) h refl refl (λ e. cc) lt h.slots.block)
     (home_misses l w m (role_home l role.PltGot) k h (role_there l role.PltGot refl h.well.kind h.well.laid) lt)
+
+-- a byte of a run that shares none with sections and tables
+pub run_misses : (l : Layout) (w : World) (m : Memory) (r : Home) (k : ℕ) → IsMovedImage l w m → HasHome l r → ((s : InputSection) → Contains (all_sections l) s → IsStored l s → HomesApart r (section_home l s)) → ((t : Role) → is_loaded_role t ≡ true → HomesApart r (role_home l t)) → k < r.size → All (Misses (r.address + k)) (all_fillings l w)
+run_misses l w m r k h there sections tables lt =
+    all_miss l w (r.address + k)
+    (run_misses_sections l w m r k h there sections lt)
+    (run_misses_table l w m r role.Got k (slots_filled l) h there refl (tables role.Got refl) lt h.slots.got)
+    (run_misses_table l w m r role.GotRelr k (blocks_filled l) h there refl (tables role.GotRelr refl) lt h.slots.block)
+    (home_misses l w m r k h there lt)
 
 -- a byte of the table of slots that the fillings there miss
 pub got_misses : (l : Layout) (w : World) (m : Memory) (k : ℕ) → IsMovedImage l w m → k < (role_home l role.Got).size → All (Misses ((role_home l role.Got).address + k)) (slots_filled l) → All (Misses ((role_home l role.Got).address + k)) (all_fillings l w)

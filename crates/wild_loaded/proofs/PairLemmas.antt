@@ -25,6 +25,46 @@ AllPairs-behind {X} {Y} R t g i (x ∷ xs) p =
     (AllPairs-behind R t g (i + 1) xs (AllPairs-right R (t i x ++ g x) rest p))
     (λ k d l. All-behind (R (get_or (g x) k d)) t g (i + 1) xs (All-append-right (λ a. All (R a) rest) (t i x) (g x) (AllPairs-cross R (t i x ++ g x) rest p) k d l))
 
+-- ---- what f and g give, item by item
+
+pub All-first : {X Y : Type 0} (P : Y → Type 0) (f g : X → List Y) (xs : List X) → All P (flat_map (λ x. f x ++ g x) xs) → All P (flat_map f xs)
+All-first P f g [] a = All-nil P
+All-first P f g (x ∷ xs) a =
+    All-append P (f x) (flat_map f xs)
+    (All-append-left P (f x) (g x) (All-append-left P (f x ++ g x) (flat_map (λ x. f x ++ g x) xs) a))
+    (All-first P f g xs (All-append-right P (f x ++ g x) (flat_map (λ x. f x ++ g x) xs) a))
+
+pub All-second : {X Y : Type 0} (P : Y → Type 0) (f g : X → List Y) (xs : List X) → All P (flat_map (λ x. f x ++ g x) xs) → All P (flat_map g xs)
+All-second P f g [] a = All-nil P
+All-second P f g (x ∷ xs) a =
+    All-append P (g x) (flat_map g xs)
+    (All-append-right P (f x) (g x) (All-append-left P (f x ++ g x) (flat_map (λ x. f x ++ g x) xs) a))
+    (All-second P f g xs (All-append-right P (f x ++ g x) (flat_map (λ x. f x ++ g x) xs) a))
+
+pub AllPairs-first : {X Y : Type 0} (R : Y → Y → Type 0) (f g : X → List Y) (xs : List X) → AllPairs R (flat_map (λ x. f x ++ g x) xs) → AllPairs R (flat_map f xs)
+AllPairs-first R f g [] p = AllPairs-nil R
+AllPairs-first {X} {Y} R f g (x ∷ xs) p =
+    let rest : List Y = flat_map (λ x. f x ++ g x) xs in
+    AllPairs-append R (f x) (flat_map f xs)
+    (AllPairs-left R (f x) (g x) (AllPairs-left R (f x ++ g x) rest p))
+    (AllPairs-first R f g xs (AllPairs-right R (f x ++ g x) rest p))
+    (λ k d l. All-first (R (get_or (f x) k d)) f g xs (All-append-left (λ a. All (R a) rest) (f x) (g x) (AllPairs-cross R (f x ++ g x) rest p) k d l))
+
+-- each that f gives, with each that g gives
+pub AllPairs-across : {X Y : Type 0} (R : Y → Y → Type 0) (f g : X → List Y) (xs : List X) → ((x y : Y) → R x y → R y x) → AllPairs R (flat_map (λ x. f x ++ g x) xs) → All (λ a. All (R a) (flat_map g xs)) (flat_map f xs)
+AllPairs-across R f g [] flip p = All-nil (λ a. All (R a) [])
+AllPairs-across {X} {Y} R f g (x ∷ xs) flip p =
+    let rest : List Y = flat_map (λ x. f x ++ g x) xs in
+    let gs : List Y = flat_map g xs in
+    let here = AllPairs-cross R (f x) (g x) (AllPairs-left R (f x ++ g x) rest p) in
+    let across = AllPairs-cross R (f x ++ g x) rest p in
+    let front = All-append-left (λ a. All (R a) rest) (f x) (g x) across in
+    let behind = All-append-right (λ a. All (R a) rest) (f x) (g x) across in
+    let later = AllPairs-across R f g xs flip (AllPairs-right R (f x ++ g x) rest p) in
+    All-append (λ a. All (R a) (g x ++ gs)) (f x) (flat_map f xs)
+    (λ k d l. All-append (R (get_or (f x) k d)) (g x) gs (here k d l) (All-second (R (get_or (f x) k d)) f g xs (front k d l)))
+    (λ k d l. All-append (R (get_or (flat_map f xs) k d)) (g x) gs (λ i e m. flip (get_or (g x) i e) (get_or (flat_map f xs) k d) (All-first (R (get_or (g x) i e)) f g xs (behind i e m) k d l)) (later k d l))
+
 -- ---- fewer items
 
 -- where each item gives what it gave or nothing

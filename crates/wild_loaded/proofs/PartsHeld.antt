@@ -17,7 +17,7 @@ use Rattle.wild_types.specs.Parts.{role_place, is_loaded_role, part_with}
 use Rattle.wild_clauses.specs.SlotPlaces.{address_of_part, start_of}
 use Rattle.wild_headers.specs.Headers.{file_header, program_header}
 use Rattle.wild_layout.specs.Image.{bytes, offset_in}
-use Rattle.wild_layout.specs.Loadable.{SegmentLoads, IsCarried, IsPartCarried, IsPartMapped}
+use Rattle.wild_layout.specs.Loadable.{SegmentLoads, CarriesByte, IsCarried, IsPartCarried, IsPartMapped}
 use Rattle.wild_layout.specs.TablePlaces.{table_bytes}
 use Rattle.wild_layout.specs.Geometry.{IsLaidOut, TablesStand}
 use Rattle.wild_loader.specs.declared.memory.Memory.{Memory}
@@ -29,7 +29,6 @@ use Rattle.wild_meaning.specs.World.{IsLoadable, IsLegal}
 use Rattle.wild_meaning.proofs.OutputLemmas.{not_partial}
 use Rattle.wild_slots.specs.Stand.{StandsAt}
 use Rattle.wild_loaded.specs.Memory.{image_memory}
-use Rattle.wild_loaded.specs.Stored.{CarriesByte}
 use Rattle.wild_loaded.specs.Laws.{PartsAreStored}
 use Rattle.wild_loaded.proofs.Loads.{are_loadable, kind_is, header_from, header_to, header_distance}
 

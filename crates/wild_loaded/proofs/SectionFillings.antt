@@ -9,7 +9,7 @@ use Rattle.wild_records.specs.declared.relocations.Rela.{Rela}
 use Rattle.wild_types.specs.declared.fault.Fault.{Fault}
 use Rattle.wild_types.specs.declared.input.InputRelocation.{InputRelocation}
 use Rattle.wild_types.specs.declared.input.InputSection.{InputSection}
-use Rattle.wild_types.specs.Item.{item_of}
+use Rattle.wild_types.specs.Item.{Item, item_with}
 use Rattle.wild_types.specs.declared.layout.Layout.{Layout}
 use Rattle.wild_slot.specs.declared.treatment.Treatment.{Treatment}
 use Rattle.wild_slot.specs.declared.treatment.Treatment.TheVariants as treatments
@@ -48,9 +48,9 @@ moved_filling l s r false = relative_of (relative_entry l (place_of s.address r)
 
 abbrev pub filling_by : Layout → InputSection → InputRelocation → Treatment → Option Filling
 filling_by l s r treatments.BaseRelative = Some (moved_filling l s r (packs l (place_of s.address r)))
-filling_by l s r (treatments.Symbolic i) = Some (general_of (left_by l (item_of s) r (treatments.Symbolic i)) 8)
-filling_by l s r (treatments.Indirect i) = Some (general_of (left_by l (item_of s) r (treatments.Indirect i)) 8)
-filling_by l s r (treatments.Extent row i) = Some (general_of (left_by l (item_of s) r (treatments.Extent row i)) (field_width row))
+filling_by l s r (treatments.Symbolic i) = Some (general_of (left_by l s.address r (treatments.Symbolic i)) 8)
+filling_by l s r (treatments.Indirect i) = Some (general_of (left_by l s.address r (treatments.Indirect i)) 8)
+filling_by l s r (treatments.Extent row i) = Some (general_of (left_by l s.address r (treatments.Extent row i)) (field_width row))
 filling_by l s r other = None
 
 -- that of a relocation, where it has one
@@ -153,9 +153,9 @@ map-filter f p (x ∷ xs) =
 
 pub generals_are : (l : Layout) (s : InputSection) → flat_map general_in (section_fillings l s) ≡ section_generals l s
 unfolding section_generals left_relocations
-generals_are l s = made_of general_in l s (λ (r : InputRelocation). if is_left_to_entry (treatment l s.flags r) then left_entry l (item_of s) r ∷ [] else []) (λ r. one r (treatment l s.flags r)) ∙ by_test (is_read s)
+generals_are l s = made_of general_in l s (λ (r : InputRelocation). if is_left_to_entry (treatment l s.flags r) then left_entry l s.address s.flags r ∷ [] else []) (λ r. one r (treatment l s.flags r)) ∙ by_test (is_read s)
   where
-    one : (r : InputRelocation) (t : Treatment) → flat_map general_in (option_to_list (filling_by l s r t)) ≡ (if is_left_to_entry t then left_by l (item_of s) r t ∷ [] else [])
+    one : (r : InputRelocation) (t : Treatment) → flat_map general_in (option_to_list (filling_by l s r t)) ≡ (if is_left_to_entry t then left_by l s.address r t ∷ [] else [])
     one r treatments.Nothing = refl
     one r (treatments.Value row) = refl
     one r treatments.BaseRelative = by_place (packs l (place_of s.address r))
@@ -169,8 +169,8 @@ generals_are l s = made_of general_in l s (λ (r : InputRelocation). if is_left_
     one r treatments.Recompile = refl
     one r treatments.Unsupported = refl
 
-    by_test : (b : Bool) → (if b then flat_map (λ (r : InputRelocation). if is_left_to_entry (treatment l s.flags r) then left_entry l (item_of s) r ∷ [] else []) s.relocations else []) ≡ map (left_entry l (item_of s)) (if b then filter (λ (r : InputRelocation). is_left_to_entry (treatment l s.flags r)) s.relocations else [])
-    by_test true = map-filter (left_entry l (item_of s)) (λ (r : InputRelocation). is_left_to_entry (treatment l s.flags r)) s.relocations
+    by_test : (b : Bool) → (if b then flat_map (λ (r : InputRelocation). if is_left_to_entry (treatment l s.flags r) then left_entry l s.address s.flags r ∷ [] else []) s.relocations else []) ≡ map (left_entry l s.address s.flags) (if b then filter (λ (r : InputRelocation). is_left_to_entry (treatment l s.flags r)) s.relocations else [])
+    by_test true = map-filter (left_entry l s.address s.flags) (λ (r : InputRelocation). is_left_to_entry (treatment l s.flags r)) s.relocations
     by_test false = refl
 
 -- a relocation has no entry that a stub goes through
@@ -201,32 +201,32 @@ jumps_are l s = made_of jump_in l s no_jump (λ r. one r (treatment l s.flags r)
 -- ---- decisions
 
 -- what a filling is, as its relocation was decided
-abbrev pub Fills : Layout → InputSection → InputRelocation → Filling → Decision → Type 0
-Fills l s r x (Moved v packed) = (x ≡ moved_filling l s r packed) × IsMoved l (item_of s) r v packed
-Fills l s r x (Left z n symbol addend) = x ≡ general_of (entry_for (place_of s.address r) n symbol addend) (size_width z)
-Fills l s r x other = ⊥
+abbrev pub Fills : Layout → ℕ → InputSection → InputRelocation → Filling → Decision → Type 0
+Fills l block s r x (Moved v packed) = (x ≡ moved_filling l s r packed) × IsMoved l (item_with block s) r v packed
+Fills l block s r x (Left z n symbol addend) = x ≡ general_of (entry_for (place_of s.address r) n symbol addend) (size_width z)
+Fills l block s r x other = ⊥
 
 -- a relocation with a filling: what it writes in the file, and where
-pub record IsFilledBy (l : Layout) (s : InputSection) (r : InputRelocation) (x : Filling) : Type 0 where
+pub record IsFilledBy (l : Layout) (block : ℕ) (s : InputSection) (r : InputRelocation) (x : Filling) : Type 0 where
   pub decision : Decision
-  pub made : decided l (item_of s) r ≡ Ok decision
+  pub made : decided l (item_with block s) r ≡ Ok decision
   pub written : Written
   pub by : written_by decision ≡ Some written
   pub field : HasField l r written.size
   pub room : allocated s.flags ≡ true
   pub width : x.width ≡ size_width written.size
   pub place : x.entry.offset ≡ place_of s.address r
-  pub fills : Fills l s r x decision
+  pub fills : Fills l block s r x decision
 
-moved_there : (l : Layout) (s : InputSection) (r : InputRelocation) (x : Filling) (v : ℕ) (packed : Bool) → decided l (item_of s) r ≡ Ok (Moved v packed) → x ≡ moved_filling l s r packed → IsFilledBy l s r x
-moved_there l s r x v packed made e =
-    let f = decided_moved l (item_of s) r v packed made in
+moved_there : (l : Layout) (block : ℕ) (s : InputSection) (r : InputRelocation) (x : Filling) (v : ℕ) (packed : Bool) → decided l (item_with block s) r ≡ Ok (Moved v packed) → x ≡ moved_filling l s r packed → IsFilledBy l block s r x
+moved_there l block s r x v packed made e =
+    let f = decided_moved l (item_with block s) r v packed made in
     record {
       decision = Moved v packed;
       made = made;
       written = record { size = ByteSize Eight; value = if packed then v else 0 };
       by = refl;
-      field = moved_has l (item_of s) r v packed f;
+      field = moved_has l (item_with block s) r v packed f;
       room = f.by.room;
       width = ap (λ (y : Filling). y.width) e ∙ wide packed;
       place = ap (λ (y : Filling). y.entry.offset) e ∙ at packed;
@@ -241,9 +241,9 @@ moved_there l s r x v packed made e =
     at true = refl
     at false = refl
 
-left_there : (l : Layout) (s : InputSection) (r : InputRelocation) (x : Filling) (z : RelocationSize) (n symbol addend : ℕ) → decided l (item_of s) r ≡ Ok (Left z n symbol addend) → x ≡ general_of (left_entry l (item_of s) r) (size_width z) → IsFilledBy l s r x
-left_there l s r x z n symbol addend made e =
-    let f = decided_left l (item_of s) r z n symbol addend made in
+left_there : (l : Layout) (block : ℕ) (s : InputSection) (r : InputRelocation) (x : Filling) (z : RelocationSize) (n symbol addend : ℕ) → decided l (item_with block s) r ≡ Ok (Left z n symbol addend) → x ≡ general_of (left_entry l s.address s.flags r) (size_width z) → IsFilledBy l block s r x
+left_there l block s r x z n symbol addend made e =
+    let f = decided_left l (item_with block s) r z n symbol addend made in
     let is : x ≡ general_of (entry_for (place_of s.address r) n symbol addend) (size_width z) = e ∙ ap (λ (y : Rela). general_of y (size_width z)) f.entry in
     record {
       decision = Left z n symbol addend;
@@ -281,67 +281,67 @@ chosen_is l s r d (Ok resolver) h =
           record { number = type_of l.machine Irelative; symbol = 0; addend = resolver; is = sym e })
     ]
 
-moved_is : (l : Layout) (s : InputSection) (r : InputRelocation) (d : Decision) (a : Result ℕ Fault) → moved_to l (item_of s) r a ≡ Ok d → (v : ℕ) × (d ≡ Moved v (packs l (place_of s.address r)))
+moved_is : (l : Layout) (s : Item) (r : InputRelocation) (d : Decision) (a : Result ℕ Fault) → moved_to l s r a ≡ Ok d → (v : ℕ) × (d ≡ Moved v (packs l (place_of s.address r)))
 moved_is l s r d (Err f) h = cc
 moved_is l s r d (Ok a) h = (let e : Moved (sum a r.addend) (packs l (place_of s.address r)) ≡ d = cc in (sum a r.addend, sym e))
 
-by_left : (l : Layout) (s : InputSection) (r : InputRelocation) (x : Filling) (d : Decision) (t : Treatment) (z : RelocationSize) → treatment l s.flags r ≡ t → decided l (item_of s) r ≡ Ok d → Some (general_of (left_by l (item_of s) r t) (size_width z)) ≡ Some x → LeavesField l s r d z → IsFilledBy l s r x
-by_left l s r x d t z is made e f =
-    let same : general_of (left_by l (item_of s) r t) (size_width z) ≡ x = cc in
-    let here : x ≡ general_of (left_entry l (item_of s) r) (size_width z) = sym same ∙ ap (λ (u : Treatment). general_of (left_by l (item_of s) r u) (size_width z)) (sym is) in
-    left_there l s r x z f.number f.symbol f.addend (made ∙ ap (λ (y : Decision). Ok y) f.is) here
+by_left : (l : Layout) (block : ℕ) (s : InputSection) (r : InputRelocation) (x : Filling) (d : Decision) (t : Treatment) (z : RelocationSize) → treatment l s.flags r ≡ t → decided l (item_with block s) r ≡ Ok d → Some (general_of (left_by l s.address r t) (size_width z)) ≡ Some x → LeavesField l s r d z → IsFilledBy l block s r x
+by_left l block s r x d t z is made e f =
+    let same : general_of (left_by l s.address r t) (size_width z) ≡ x = cc in
+    let here : x ≡ general_of (left_entry l s.address s.flags r) (size_width z) = sym same ∙ ap (λ (u : Treatment). general_of (left_by l s.address r u) (size_width z)) (sym is) in
+    left_there l block s r x z f.number f.symbol f.addend (made ∙ ap (λ (y : Decision). Ok y) f.is) here
 
-treated_filling : (l : Layout) (s : InputSection) (r : InputRelocation) (x : Filling) (d : Decision) (t : Treatment) → treatment l s.flags r ≡ t → decided l (item_of s) r ≡ Ok d → decide_by l (item_of s) r t ≡ Ok d → filling_by l s r t ≡ Some x → IsFilledBy l s r x
-treated_filling l s r x d treatments.Nothing is made by e = cc
-treated_filling l s r x d (treatments.Value row) is made by e = cc
-treated_filling l s r x d treatments.BaseRelative is made by e =
-    let m = moved_is l s r d (address_of l r.symbol) by in
+treated_filling : (l : Layout) (block : ℕ) (s : InputSection) (r : InputRelocation) (x : Filling) (d : Decision) (t : Treatment) → treatment l s.flags r ≡ t → decided l (item_with block s) r ≡ Ok d → decide_by l (item_with block s) r t ≡ Ok d → filling_by l s r t ≡ Some x → IsFilledBy l block s r x
+treated_filling l block s r x d treatments.Nothing is made by e = cc
+treated_filling l block s r x d (treatments.Value row) is made by e = cc
+treated_filling l block s r x d treatments.BaseRelative is made by e =
+    let m = moved_is l (item_with block s) r d (address_of l r.symbol) by in
     let same : moved_filling l s r (packs l (place_of s.address r)) ≡ x = cc in
-    moved_there l s r x m.0 (packs l (place_of s.address r)) (made ∙ ap (λ (y : Decision). Ok y) m.1) (sym same)
-treated_filling l s r x d (treatments.Symbolic i) is made by e = by_left l s r x d (treatments.Symbolic i) (ByteSize Eight) is made e (left_is l s r d (ByteSize Eight) (type_of l.machine Absolute) i (index_of l i) by)
-treated_filling l s r x d (treatments.Indirect i) is made by e = by_left l s r x d (treatments.Indirect i) (ByteSize Eight) is made e (chosen_is l s r d (decided_address l i) by)
-treated_filling l s r x d (treatments.Extent row i) is made by e = by_left l s r x d (treatments.Extent row i) row.size is made e (left_is l s r d row.size r.number i (index_of l i) (sized_left l r row i d by))
-treated_filling l s r x d treatments.Recompile is made by e = cc
-treated_filling l s r x d treatments.Unsupported is made by e = cc
+    moved_there l block s r x m.0 (packs l (place_of s.address r)) (made ∙ ap (λ (y : Decision). Ok y) m.1) (sym same)
+treated_filling l block s r x d (treatments.Symbolic i) is made by e = by_left l block s r x d (treatments.Symbolic i) (ByteSize Eight) is made e (left_is l s r d (ByteSize Eight) (type_of l.machine Absolute) i (index_of l i) by)
+treated_filling l block s r x d (treatments.Indirect i) is made by e = by_left l block s r x d (treatments.Indirect i) (ByteSize Eight) is made e (chosen_is l s r d (decided_address l i) by)
+treated_filling l block s r x d (treatments.Extent row i) is made by e = by_left l block s r x d (treatments.Extent row i) row.size is made e (left_is l s r d row.size r.number i (index_of l i) (sized_left l r row i d by))
+treated_filling l block s r x d treatments.Recompile is made by e = cc
+treated_filling l block s r x d treatments.Unsupported is made by e = cc
 
-pub filled_by : (l : Layout) (s : InputSection) (r : InputRelocation) (x : Filling) (d : Decision) → decided l (item_of s) r ≡ Ok d → section_filling l s r ≡ Some x → IsFilledBy l s r x
+pub filled_by : (l : Layout) (block : ℕ) (s : InputSection) (r : InputRelocation) (x : Filling) (d : Decision) → decided l (item_with block s) r ≡ Ok d → section_filling l s r ≡ Some x → IsFilledBy l block s r x
 unfolding decided
-filled_by l s r x d made given = treated_filling l s r x d (treatment l s.flags r) refl made made given
+filled_by l block s r x d made given = treated_filling l block s r x d (treatment l s.flags r) refl made made given
 
 -- no instruction is rewritten at a relocation with a filling
-pub filling_decided : (l : Layout) (s : InputSection) (i : ℕ) (r : InputRelocation) (x : Filling) → slice_get s.relocations i ≡ Some r → section_filling l s r ≡ Some x → decide l (item_of s) i ≡ decided l (item_of s) r
-filling_decided l s i r x listed given = by_treatment (treatment l s.flags r) refl given
+pub filling_decided : (l : Layout) (block : ℕ) (s : InputSection) (i : ℕ) (r : InputRelocation) (x : Filling) → slice_get s.relocations i ≡ Some r → section_filling l s r ≡ Some x → decide l (item_with block s) i ≡ decided l (item_with block s) r
+filling_decided l block s i r x listed given = by_treatment (treatment l s.flags r) refl given
   where
-    by_treatment : (t : Treatment) → treatment l s.flags r ≡ t → filling_by l s r t ≡ Some x → decide l (item_of s) i ≡ decided l (item_of s) r
+    by_treatment : (t : Treatment) → treatment l s.flags r ≡ t → filling_by l s r t ≡ Some x → decide l (item_with block s) i ≡ decided l (item_with block s) r
     by_treatment treatments.Nothing is e = cc
     by_treatment (treatments.Value row) is e = cc
-    by_treatment treatments.BaseRelative is e = decide_base_relative l (item_of s) i r listed is
-    by_treatment (treatments.Symbolic n) is e = decide_symbolic l (item_of s) i r n listed is
-    by_treatment (treatments.Indirect n) is e = decide_indirect l (item_of s) i r n listed is
-    by_treatment (treatments.Extent row n) is e = decide_extent l (item_of s) i r row n listed is
+    by_treatment treatments.BaseRelative is e = decide_base_relative l (item_with block s) i r listed is
+    by_treatment (treatments.Symbolic n) is e = decide_symbolic l (item_with block s) i r n listed is
+    by_treatment (treatments.Indirect n) is e = decide_indirect l (item_with block s) i r n listed is
+    by_treatment (treatments.Extent row n) is e = decide_extent l (item_with block s) i r row n listed is
     by_treatment treatments.Recompile is e = cc
     by_treatment treatments.Unsupported is e = cc
 
 -- ---- the filling of a decision
 
 -- a relocation of an address that moves has a filling
-pub moved_given : (l : Layout) (s : InputSection) (r : InputRelocation) (v : ℕ) (packed : Bool) → IsMoved l (item_of s) r v packed → section_filling l s r ≡ Some (moved_filling l s r packed)
-moved_given l s r v packed h = ap (filling_by l s r) h.treated ∙ ap (λ (b : Bool). Some (moved_filling l s r b)) h.packs
+pub moved_given : (l : Layout) (block : ℕ) (s : InputSection) (r : InputRelocation) (v : ℕ) (packed : Bool) → IsMoved l (item_with block s) r v packed → section_filling l s r ≡ Some (moved_filling l s r packed)
+moved_given l block s r v packed h = ap (filling_by l s r) h.treated ∙ ap (λ (b : Bool). Some (moved_filling l s r b)) h.packs
 
 -- and so has one whose field is left to an entry
-pub left_given : (l : Layout) (s : InputSection) (r : InputRelocation) (z : RelocationSize) (n symbol addend : ℕ) → decided l (item_of s) r ≡ Ok (Left z n symbol addend) → section_filling l s r ≡ Some (general_of (entry_for (place_of s.address r) n symbol addend) (size_width z))
-left_given l s r z n symbol addend made =
-    let f = decided_left l (item_of s) r z n symbol addend made in
+pub left_given : (l : Layout) (block : ℕ) (s : InputSection) (r : InputRelocation) (z : RelocationSize) (n symbol addend : ℕ) → decided l (item_with block s) r ≡ Ok (Left z n symbol addend) → section_filling l s r ≡ Some (general_of (entry_for (place_of s.address r) n symbol addend) (size_width z))
+left_given l block s r z n symbol addend made =
+    let f = decided_left l (item_with block s) r z n symbol addend made in
     let width = left_width f.treated f.left f.made in
-    ap (filling_by l s r) f.is ∙ width ∙ ap (λ (e : Rela). Some (general_of e (size_width z))) (ap (left_by l (item_of s) r) (sym f.is) ∙ f.entry)
+    ap (filling_by l s r) f.is ∙ width ∙ ap (λ (e : Rela). Some (general_of e (size_width z))) (ap (left_by l s.address r) (sym f.is) ∙ f.entry)
   where
-    of_size : (a b : RelocationSize) (t : Treatment) → a ≡ b → Some (general_of (left_by l (item_of s) r t) (size_width a)) ≡ Some (general_of (left_by l (item_of s) r t) (size_width b))
-    of_size a b t e = ap (λ (y : RelocationSize). Some (general_of (left_by l (item_of s) r t) (size_width y))) e
+    of_size : (a b : RelocationSize) (t : Treatment) → a ≡ b → Some (general_of (left_by l s.address r t) (size_width a)) ≡ Some (general_of (left_by l s.address r t) (size_width b))
+    of_size a b t e = ap (λ (y : RelocationSize). Some (general_of (left_by l s.address r t) (size_width y))) e
 
     size_is : (a : RelocationSize) → LeavesField l s r (Left z n symbol addend) a → a ≡ z
     size_is a h = (let e : Left z n symbol addend ≡ Left a h.number h.symbol h.addend = h.is in cc)
 
-    left_width : (t : Treatment) → is_left_to_entry t ≡ true → decide_by l (item_of s) r t ≡ Ok (Left z n symbol addend) → filling_by l s r t ≡ Some (general_of (left_by l (item_of s) r t) (size_width z))
+    left_width : (t : Treatment) → is_left_to_entry t ≡ true → decide_by l (item_with block s) r t ≡ Ok (Left z n symbol addend) → filling_by l s r t ≡ Some (general_of (left_by l s.address r t) (size_width z))
     left_width treatments.Nothing h m = cc
     left_width (treatments.Value row) h m = cc
     left_width treatments.BaseRelative h m = cc

@@ -9,8 +9,7 @@ use Rattle.wild_words.proofs.OverlayLemmas.{Stands-overlay, overlay-outside, len
 use Rattle.wild_words.proofs.Basics.{range-Contains, Contains-map}
 use Rattle.wild_types.specs.declared.section.Segment.{Segment}
 use Rattle.wild_types.specs.declared.input.InputRelocation.{InputRelocation}
-use Rattle.wild_types.specs.declared.input.InputSection.{InputSection}
-use Rattle.wild_types.specs.Item.{item_of}
+use Rattle.wild_types.specs.Item.{Item, item_of}
 use Rattle.wild_types.specs.declared.layout.Layout.{Layout}
 use Rattle.wild_reloc.specs.Field.{size_width}
 use Rattle.wild_reloc.specs.declared.info.RelocationSize.TheVariants.{ByteSize}
@@ -37,34 +36,35 @@ use Rattle.wild_loaded.proofs.Loads.{are_loadable, kind_is}
 -- ---- fields
 
 -- what a relocation writes stands in the section's bytes
-site_stands : (l : Layout) (s : InputSection) (i : ℕ) (r : InputRelocation) (p : Piece) → AreApart (length s.bytes) (sites l (item_of s)) → slice_get s.relocations i ≡ Some r → site l (item_of s) i ≡ p ∷ [] → Stands (overlay (sites l (item_of s)) s.bytes) p.at p.bytes
+site_stands : (l : Layout) (s : Item) (i : ℕ) (r : InputRelocation) (p : Piece) → AreApart (length s.bytes) (sites l s) → slice_get s.relocations i ≡ Some r → site l s i ≡ p ∷ [] → Stands (overlay (sites l s) s.bytes) p.at p.bytes
 site_stands l s i r p apart listed is =
     let one : Contains (p ∷ []) p = (0, omega arith, refl) in
-    let here : Contains (site l (item_of s) i) p = subst (λ (ps : List Piece). Contains ps p) (sym is) one in
-    Stands-overlay p (sites l (item_of s)) s.bytes apart (Contains-flat_map (site l (item_of s)) (range_with_len 0 (length s.relocations)) i p (range-Contains (length s.relocations) i (slice_get_within s.relocations i r listed)) here)
+    let here : Contains (site l s i) p = subst (λ (ps : List Piece). Contains ps p) (sym is) one in
+    Stands-overlay p (sites l s) s.bytes apart (Contains-flat_map (site l s) (range_with_len 0 (length s.relocations)) i p (range-Contains (length s.relocations) i (slice_get_within s.relocations i r listed)) here)
 
 -- so does its field
-field_stands : (l : Layout) (s : InputSection) (i : ℕ) (r : InputRelocation) (d : Decision) (x : Written) → AreApart (length s.bytes) (sites l (item_of s)) → HasDecision l (item_of s) i r d → written_by d ≡ Some x → Stands (overlay (sites l (item_of s)) s.bytes) r.offset (field_site (item_of s) r.offset x.size x.value).bytes
-field_stands l s i r d x apart h by = site_stands l s i r (field_site (item_of s) r.offset x.size x.value) apart h.listed (site_written l (item_of s) i r d x h.listed h.decided by)
+field_stands : (l : Layout) (s : Item) (i : ℕ) (r : InputRelocation) (d : Decision) (x : Written) → AreApart (length s.bytes) (sites l s) → HasDecision l s i r d → written_by d ≡ Some x → Stands (overlay (sites l s) s.bytes) r.offset (field_site s r.offset x.size x.value).bytes
+field_stands l s i r d x apart h by = site_stands l s i r (field_site s r.offset x.size x.value) apart h.listed (site_written l s i r d x h.listed h.decided by)
 
 pub sections_stored : BytesAreLoaded → SectionsAreStored
 sections_stored law = λ l w s legal laid k decisions.
     let lies = each_at (SectionLies l) l s laid.inputs k.input in
-    let held = section_held l w s law legal laid decisions.apart k lies in
-    let whole = overlay (sites l (item_of s)) s.bytes in
-    let len = length-overlay (sites l (item_of s)) s.bytes decisions.apart in
+    let item = item_of l k.input.file s in
+    let held = section_held l w s law legal laid k decisions.apart lies in
+    let whole = overlay (sites l item) s.bytes in
+    let len = length-overlay (sites l item) s.bytes decisions.apart in
     record {
       ends = section_ends l w s legal laid k lies;
-      values = λ i r z v h. Holds-inner (image_memory l w) (w.base + s.address) r.offset whole (field_site (item_of s) r.offset z v).bytes held (field_stands l s i r (Field z v) (record { size = z; value = v }) decisions.apart h refl);
-      addresses = λ i r v packed h. Holds-inner (image_memory l w) (w.base + s.address) r.offset whole (word 8 (if packed then v else 0)) held (field_stands l s i r (Moved v packed) (record { size = ByteSize Eight; value = if packed then v else 0 }) decisions.apart h refl);
+      values = λ i r z v h. Holds-inner (image_memory l w) (w.base + s.address) r.offset whole (field_site item r.offset z v).bytes held (field_stands l item i r (Field z v) (record { size = z; value = v }) decisions.apart h refl);
+      addresses = λ i r v packed h. Holds-inner (image_memory l w) (w.base + s.address) r.offset whole (word 8 (if packed then v else 0)) held (field_stands l item i r (Moved v packed) (record { size = ByteSize Eight; value = if packed then v else 0 }) decisions.apart h refl);
       left = λ i r z number symbol addend h. (
-          let p = field_site (item_of s) r.offset z 0 in
-          let made = (decide_left l (item_of s) i r z number symbol addend h.listed h.decided).made in
-          (p.bytes, Holds-inner (image_memory l w) (w.base + s.address) r.offset whole p.bytes held (field_stands l s i r (Left z number symbol addend) (record { size = z; value = 0 }) decisions.apart h refl), left_zeroed l s r z number symbol addend (slice_range s.bytes r.offset (r.offset + size_width z)) made));
+          let p = field_site item r.offset z 0 in
+          let made = (decide_left l item i r z number symbol addend h.listed h.decided).made in
+          (p.bytes, Holds-inner (image_memory l w) (w.base + s.address) r.offset whole p.bytes held (field_stands l item i r (Left z number symbol addend) (record { size = z; value = 0 }) decisions.apart h refl), left_zeroed l item r z number symbol addend (slice_range s.bytes r.offset (r.offset + size_width z)) made));
       rewritten = λ i r row v h. (
-          let p = template_site (item_of s) r row v in
-          Holds-inner (image_memory l w) (w.base + s.address) p.at whole p.bytes held (site_stands l s i r p decisions.apart h.listed (site_rewritten l (item_of s) i r row v h.listed h.decided)));
-      others = λ i lt out. held i (omega (arith, len, lt)) ∙ ap Some (overlay-outside i (sites l (item_of s)) s.bytes decisions.apart out);
+          let p = template_site item r row v in
+          Holds-inner (image_memory l w) (w.base + s.address) p.at whole p.bytes held (site_stands l item i r p decisions.apart h.listed (site_rewritten l item i r row v h.listed h.decided)));
+      others = λ i lt out. held i (omega (arith, len, lt)) ∙ ap Some (overlay-outside i (sites l item) s.bytes decisions.apart out);
     }
 
 -- ---- zeros

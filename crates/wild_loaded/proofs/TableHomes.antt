@@ -13,7 +13,7 @@ use Rattle.wild_types.specs.Lookups.{takes_file_bytes}
 use Rattle.wild_types.specs.Parts.{role_place, has_role, is_loaded_role, part_with}
 use Rattle.wild_clauses.specs.SlotPlaces.{address_of_part, start_of}
 use Rattle.wild_layout.specs.Image.{offset_in}
-use Rattle.wild_layout.specs.SectionPlaces.{SectionLies, StandsIn, RangesApart}
+use Rattle.wild_layout.specs.SectionPlaces.{SectionLies, HasRoom, RangesApart}
 use Rattle.wild_layout.specs.Geometry.{IsLaidOut}
 use Rattle.wild_meaning.specs.World.{IsLoadable}
 use Rattle.wild_slots.specs.Order.{end_of}
@@ -87,29 +87,34 @@ roles_apart l r t lr lt other laid = by_parts (part_with r l.parts) (part_with t
         let n = part_of l t q lt laid b in
         laid.apart m.index n.index p q m.there n.there (λ e. other (sym m.has ∙ ap (λ (x : Part). x.role) (one_part l m.index n.index p q m.there n.there e) ∙ n.has)) m.takes n.takes
 
--- the part of a role and an input section
-pub section_apart : (l : Layout) (r : Role) (s : InputSection) → is_loaded_role r ≡ true → IsLaidOut l → SectionLies l s → IsStored l s → HomesApart (role_home l r) (section_home l s)
-section_apart l r s loaded laid lies stored = by_part (part_with r l.parts) refl
+-- the part of a role and what stands in a raw part
+pub room_apart : (l : Layout) (r : Role) (k at n : ℕ) (q : Part) → is_loaded_role r ≡ true → IsLaidOut l → HasRoom l k at n q → HomesApart (role_home l r) (record { address = at; offset = offset_in (slice_get l.parts k) at; size = n })
+room_apart l r k at n q loaded laid h = by_part (part_with r l.parts) refl
   where
-    within : (p q : Part) → StandsIn l s q → RangesApart p q → HomesApart (home_of (Some p)) (section_home l s)
-    within p q h (inl le) =
-        let at : offset_in (slice_get l.parts s.part) s.address ≡ q.offset + (s.address - q.address) = ap (λ (o : Option Part). offset_in o s.address) h.listed in
-        inl (omega (arith, at, le))
-    within p q h (inr le) =
-        let at : offset_in (slice_get l.parts s.part) s.address ≡ q.offset + (s.address - q.address) = ap (λ (o : Option Part). offset_in o s.address) h.listed in
-        let from = h.from in
-        let to = h.to in
-        inr (omega (arith, at, from, to, le))
+    home : Home
+    home = record { address = at; offset = offset_in (slice_get l.parts k) at; size = n }
 
-    by_part : (o : Option Part) → part_with r l.parts ≡ o → HomesApart (home_of o) (section_home l s)
+    place : offset_in (slice_get l.parts k) at ≡ q.offset + (at - q.address)
+    place = ap (λ (o : Option Part). offset_in o at) h.listed
+
+    within : (p : Part) → RangesApart p q → HomesApart (home_of (Some p)) home
+    within p (inl le) = (let e = place in inl (omega (arith, e, le)))
+    within p (inr le) = (let e = place in let from = h.from in let to = h.to in inr (omega (arith, e, from, to, le)))
+
+    by_part : (o : Option Part) → part_with r l.parts ≡ o → HomesApart (home_of o) home
     by_part None e = inl (omega arith)
     by_part (Some p) e =
         let m = part_of l r p loaded laid e in
-        let q = (lies.owner stored.filled).stands in
-        within p q.0 q.1 (laid.apart m.index s.part p q.0 m.there q.1.listed (λ same. raw_not_loaded r loaded (sym m.has ∙ ap (λ (x : Part). x.role) (one_part l m.index s.part p q.0 m.there q.1.listed same) ∙ q.1.raw)) m.takes q.1.takes)
+        within p (laid.apart m.index k p q m.there h.listed (λ same. raw_not_loaded r loaded (sym m.has ∙ ap (λ (x : Part). x.role) (one_part l m.index k p q m.there h.listed same) ∙ h.raw)) m.takes h.takes)
       where
         raw_not_loaded : (t : Role) → is_loaded_role t ≡ true → t ≡ role.Raw → ⊥
         raw_not_loaded t h e = (let z = subst (λ (x : Role). is_loaded_role x ≡ true) e h in cc)
+
+-- the part of a role and an input section
+pub section_apart : (l : Layout) (r : Role) (s : InputSection) → is_loaded_role r ≡ true → IsLaidOut l → SectionLies l s → IsStored l s → HomesApart (role_home l r) (section_home l s)
+section_apart l r s loaded laid lies stored =
+    let q = (lies.owner stored.filled).stands in
+    room_apart l r s.part s.address s.size q.0 loaded laid q.1
 
 -- ---- what stands in a table
 

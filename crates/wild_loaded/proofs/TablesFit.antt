@@ -16,7 +16,6 @@ use Rattle.wild_types.specs.declared.fault.Missing.TheVariants as missing
 use Rattle.wild_types.specs.declared.kind.Machine.{Machine}
 use Rattle.wild_types.specs.declared.input.InputRelocation.{InputRelocation}
 use Rattle.wild_types.specs.declared.input.InputSection.{InputSection}
-use Rattle.wild_types.specs.Item.{item_of}
 use Rattle.wild_types.specs.declared.file.File.{File}
 use Rattle.wild_types.specs.declared.file.Group.{Group}
 use Rattle.wild_types.specs.declared.symbol.Place.{Place}
@@ -158,7 +157,7 @@ places_entries_fit part m relr at (w ∷ ws) low =
 named_fits : (place number symbol addend : ℕ) → place < 2 ^ 64 → RelaFits (entry_for place number symbol addend)
 named_fits place number symbol addend low = record { offset = low; number = omega arith; symbol = omega arith; addend = signed_fits addend }
 
-left_fits : (l : Layout) (s : InputSection) (r : InputRelocation) (t : Treatment) → RelaFits (left_by l (item_of s) r t)
+left_fits : (l : Layout) (s : InputSection) (r : InputRelocation) (t : Treatment) → RelaFits (left_by l s.address r t)
 left_fits l s r (treatments.Symbolic i) = named_fits (place_of s.address r) (type_of l.machine entry_kinds.Absolute) (index_or_zero l i) (added r) (omega arith)
 left_fits l s r (treatments.Indirect i) = named_fits (place_of s.address r) (type_of l.machine entry_kinds.Irelative) 0 (or_zero (decided_address l i)) (omega arith)
 left_fits l s r (treatments.Extent row i) = named_fits (place_of s.address r) r.number (index_or_zero l i) (added r) (omega arith)
@@ -214,7 +213,7 @@ raw_low l i numbers = by_symbol (slice_get l.symbols (canonical l i)) refl
 
 left_entries_fit : (l : Layout) (s : InputSection) → All RelaFits (section_generals l s)
 unfolding section_generals
-left_entries_fit l s = All-map RelaFits (left_entry l (item_of s)) (left_relocations l s) (λ k d b. left_fits l s (get_or (left_relocations l s) k d) (treatment l s.flags (get_or (left_relocations l s) k d)))
+left_entries_fit l s = All-map RelaFits (left_entry l s.address s.flags) (left_relocations l s) (λ k d b. left_fits l s (get_or (left_relocations l s) k d) (treatment l s.flags (get_or (left_relocations l s) k d)))
 
 file_entries_fit : (l : Layout) (f : File) → All SymbolNumbers l.symbols → All RelaFits (file_generals l f)
 unfolding file_generals

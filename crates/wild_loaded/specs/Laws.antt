@@ -10,6 +10,7 @@
 --   SlotsAreThere          the slots of a layout without faults are whole
 --   PartsAreStored         memory has the tables of slots and stubs
 --   SlotsAreStored         and each word, each stub and the pair of the output's own thread-local data
+--   ThunksAreThere         and, without faults, each thunk
 --   DynamicSectionsStand   the dynamic section stands where its segment is
 --   DynamicSectionsTell    and tells a dynamic linker what it is to do
 --   TablesAreFound         a loader finds the tables that fill addresses and slots by the dynamic section
@@ -18,7 +19,7 @@
 --   CopiesAreThere         and each symbol that is copied has an answer
 use Rattle.std.specs.Prelude.{◌≡◌, ℕ, ◌+◌, ◌*◌, ◌<◌, ◌≤◌, true, false, [], ◌++◌, length, Some, Ok, Contains, slice_get}
 use Rattle.wild_types.specs.declared.input.InputSection.{InputSection}
-use Rattle.wild_types.specs.Item.{item_of}
+use Rattle.wild_types.specs.Item.{Item, item_of}
 use Rattle.wild_types.specs.declared.part.Part.{Part}
 use Rattle.wild_types.specs.declared.part.Role.{Role}
 use Rattle.wild_slot.specs.declared.slot.SlotWord.{SlotWord}
@@ -39,6 +40,7 @@ use Rattle.wild_layout.specs.Faults.{flat_map_from, group_errors}
 use Rattle.wild_layout.specs.TablePlaces.{all_needed}
 use Rattle.wild_layout.specs.Geometry.{IsLaidOut}
 use Rattle.wild_geometry.specs.Loaded.{IsDecided, HasItem, InFile}
+use Rattle.wild_geometry.specs.Thunks.{HasThunks}
 use Rattle.wild_reloc.specs.declared.info.RelocationSize.{RelocationSize}
 use Rattle.wild_layout.specs.declared.decision.Decision.TheVariants.{Left}
 use Rattle.wild_layout.specs.Decide.{decided}
@@ -53,7 +55,7 @@ use Rattle.wild_loader.specs.Laws.{HasDynamic}
 use Rattle.wild_tables.specs.Dynamic.{dynamic_records}
 use Rattle.wild_meaning.specs.Section.{HasFileBytes}
 use Rattle.wild_meaning.specs.World.{IsLoadable, IsLegal, IsBehind, IsCopied, HasCopy}
-use Rattle.wild_meaning.specs.Item.{IsInput, IsKeptSection}
+use Rattle.wild_meaning.specs.Item.{IsKeptSection}
 use Rattle.wild_meaning.specs.DynamicSection.{TellsLinker}
 use Rattle.wild_meaning.specs.Linked.{HasHeader, IsBlank, processor_of}
 use Rattle.wild_loaded.specs.Owners.{HasOneOwnerEach}
@@ -82,11 +84,11 @@ pub record SegmentsAreLoadable : Type 0 where
 
 -- a kept section that has bytes has them in the file, and loaded segments carry each to its address
 abbrev pub SectionsAreCarried : Type 0
-SectionsAreCarried = (l : Layout) (s : InputSection) → IsLaidOut l → IsKeptSection l s → IsDecided l (item_of s) → 1 ≤ length s.bytes → IsStored l s
+SectionsAreCarried = (l : Layout) (s : InputSection) → IsLaidOut l → IsKeptSection l s → 1 ≤ length s.bytes → IsStored l s
 
 -- a kept section is there as the file has it: of an address that moves what stands at its place in the file
 abbrev pub SectionsAreStored : Type 0
-SectionsAreStored = (l : Layout) (w : World) (s : InputSection) → IsLegal l w → IsLaidOut l → IsKeptSection l s → IsDecided l (item_of s) → HasItem l w (image_memory l w) (item_of s) InFile
+SectionsAreStored = (l : Layout) (w : World) (s : InputSection) → IsLegal l w → IsLaidOut l → (k : IsKeptSection l s) → IsDecided l (item_of l k.input.file s) → HasItem l w (image_memory l w) (item_of l k.input.file s) InFile
 
 -- behind the file bytes of a loaded segment are zeros
 abbrev pub ZerosAreStored : Type 0
@@ -110,6 +112,10 @@ pub record SlotsAreStored : Type 0 where
       → slice_get (slots_of l s).words k ≡ Some d → IsWordStored l w (at + word_size * k) d
   pub stubs : (l : Layout) (w : World) (i at stub : ℕ) (s : Symbol) → IsLoadable l.kind → IsLegal l w → IsLaidOut l → HasWholeSlots l → slice_get l.symbols i ≡ Some s → got_of s ≡ Some at → plt_of s ≡ Some stub → IsStubStored l w at stub
   pub pair : (l : Layout) (w : World) (at k : ℕ) (d : SlotWord) → IsLoadable l.kind → IsLegal l w → IsLaidOut l → HasWholeSlots l → l.tlsld ≡ Some at → slice_get (storage_words l) k ≡ Some d → IsWordStored l w (at + word_size * k) d
+
+-- each thunk, where no group has a fault
+abbrev pub ThunksAreThere : Type 0
+ThunksAreThere = (l : Layout) (w : World) → IsLegal l w → IsLaidOut l → flat_map_from (group_errors l) 0 l.groups ≡ [] → HasThunks l w (image_memory l w)
 
 -- the image has a dynamic section: the entries of libraries, those of the last file, and zeros up to the end of its room
 pub record HasEntries (l : Layout) : Type 0 where
@@ -139,8 +145,8 @@ pub record EntriesHaveChanges : Type 0 where
   pub slots : (l : Layout) (w : World) (i k : ℕ) (s : Symbol) (d : SlotWord) (e : SlotEntry) → NumbersFit l → IsLegal l w → IsLaidOut l → HasWholeSlots l
       → slice_get l.symbols i ≡ Some s → slice_get (slots_of l s).words k ≡ Some d → entry_in d ≡ Some e → FillsSlot (processor_of l.machine) w e
   pub pair : (l : Layout) (w : World) (d : SlotWord) (e : SlotEntry) → IsLegal l w → Contains (storage_words l) d → entry_in d ≡ Some e → FillsSlot (processor_of l.machine) w e
-  pub left : (l : Layout) (w : World) (s : InputSection) (r : InputRelocation) (z : RelocationSize) (number symbol addend : ℕ) → NumbersFit l → IsLegal l w → IsLaidOut l → Contains s.relocations r
-      → IsInput l s → decided l (item_of s) r ≡ Ok (Left z number symbol addend) → FillsField (processor_of l.machine) w z number symbol addend
+  pub left : (l : Layout) (w : World) (s : Item) (r : InputRelocation) (z : RelocationSize) (number symbol addend : ℕ) → NumbersFit l → IsLegal l w → IsLaidOut l
+      → decided l s r ≡ Ok (Left z number symbol addend) → FillsField (processor_of l.machine) w z number symbol addend
   pub copies : (l : Layout) (w : World) (i raw : ℕ) (x : Answer) → NumbersFit l → IsLegal l w → IsLaidOut l → HasCopy l w i raw x → Copies (processor_of l.machine) w (copy_entry l i) raw x.bytes
 
 -- where no group has a fault, each symbol that is copied has an address and an answer

@@ -3,11 +3,12 @@
 --   image_memory l w   its loaded segments in a world, before any entry is applied
 --   IsStored l s       the section's bytes stand in the file, and loaded segments carry each to its address
 --   EachDecided l      each section that is read is decided
---   HasMemory l w      the loader accepts the image, and memory has each kept item as it was decided, and the slots
+--   HasMemory l w      the loader accepts the image, and memory has each kept item as it was decided, the slots and the thunks
 use Rattle.std.specs.Prelude.{◌≡◌, ℕ, ◌+◌, ◌<◌, true, List, length, map, Some, Ok}
 use Rattle.wild_records.specs.declared.program_header.ProgramHeader.{ProgramHeader}
 use Rattle.wild_types.specs.declared.input.InputSection.{InputSection}
 use Rattle.wild_types.specs.Item.{Item, item_of}
+use Rattle.wild_types.specs.declared.file.File.{File}
 use Rattle.wild_types.specs.declared.layout.Layout.{Layout}
 use Rattle.wild_types.specs.declared.section.Segment.{Segment}
 use Rattle.wild_types.specs.Lookups.{is_read, is_filled}
@@ -16,6 +17,7 @@ use Rattle.wild_layout.specs.Sites.{section_bytes}
 use Rattle.wild_layout.specs.Image.{bytes}
 use Rattle.wild_layout.specs.Loadable.{IsCarried}
 use Rattle.wild_geometry.specs.Slots.{HasSlots}
+use Rattle.wild_geometry.specs.Thunks.{HasThunks}
 use Rattle.wild_geometry.specs.Loaded.{IsDecided, HasItem, InMemory}
 use Rattle.wild_loader.specs.declared.memory.Memory.{Memory}
 use Rattle.wild_loader.specs.declared.world.World.{World}
@@ -29,10 +31,10 @@ use Rattle.wild_meaning.specs.Section.{HasFileBytes}
 use Rattle.wild_meaning.specs.World.{IsBehind, HasCopy}
 use Rattle.wild_meaning.specs.Linked.{IsBlank, IsNotCopied, processor_of}
 
--- the section has bytes in the file, as many as it has room for, and each is carried to its address
+-- the section has bytes in the file, as many as it has room for, whichever file it is of, and each is carried to its address
 pub record IsStored (l : Layout) (s : InputSection) : Type 0 where
   pub filled : is_filled l s ≡ true
-  pub full : length (section_bytes l s) ≡ s.size
+  pub full : (f : File) → length (section_bytes l f s) ≡ s.size
   pub carried : (k : ℕ) → k < s.size → (h : Segment) × IsCarried l s k h
 
 -- the program headers of the image, one a segment
@@ -45,16 +47,17 @@ image_memory l w = loaded_memory (machine_of (file_header l)) w.base (bytes l) (
 
 -- each section whose relocations are read has decisions that lie apart
 abbrev pub EachDecided : Layout → Type 0
-EachDecided l = (s : InputSection) → IsInput l s → is_read s ≡ true → IsDecided l (item_of s)
+EachDecided l = (s : InputSection) (k : IsInput l s) → is_read s ≡ true → IsDecided l (item_of l k.file s)
 
 -- the loader accepts the image; memory has each kept item as it was decided, addresses that move more by the base, the
--- slots and stubs, copies of symbols, and else zeros behind the file bytes of segments, and in sections without data
+-- slots, stubs and thunks, copies of symbols, and else zeros behind the file bytes of segments, and in sections without data
 pub record HasMemory (l : Layout) (w : World) : Type 0 where
   pub memory : Memory
   pub accepted : load w (bytes l) ≡ Ok memory
   pub machine : memory.machine ≡ processor_of l.machine
   pub items : (item : Item) → IsKept l item → HasItem l w memory item InMemory
   pub slots : HasSlots l w memory
+  pub thunks : HasThunks l w memory
   pub zeros : (a : ℕ) → IsBehind l a → IsNotCopied l w a → byte_in memory (w.base + a) ≡ Some 0
   pub blanks : (s : InputSection) (k : ℕ) → IsBlank l s → HasFileBytes l s.part → k < s.size → byte_in memory (w.base + (s.address + k)) ≡ Some 0
   pub copies : (i raw : ℕ) (x : Answer) → HasCopy l w i raw x → Holds memory (w.base + raw) x.bytes

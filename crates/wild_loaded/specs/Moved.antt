@@ -1,12 +1,13 @@
 -- The memory of an image whose tables were applied.
 --   HasApplied l w m   memory has what each place and each entry changes, and every other byte is as before
---   HasMoved l w m     memory has each kept item as it was decided, the slots and stubs, copies, and zeros where they were
+--   HasMoved l w m     memory has each kept item as it was decided, the slots, stubs and thunks, copies, and zeros where they were
 use Rattle.std.specs.Prelude.{◌≡◌, ℕ, ◌+◌, ◌<◌, ◌++◌, Some, All}
 use Rattle.wild_records.specs.declared.relocations.Rela.{Rela}
 use Rattle.wild_types.specs.Item.{Item}
 use Rattle.wild_types.specs.declared.input.InputSection.{InputSection}
 use Rattle.wild_types.specs.declared.layout.Layout.{Layout}
 use Rattle.wild_geometry.specs.Slots.{HasSlots}
+use Rattle.wild_geometry.specs.Thunks.{HasThunks}
 use Rattle.wild_geometry.specs.Loaded.{HasItem, InMemory}
 use Rattle.wild_loader.specs.declared.change.Patch.{Patch}
 use Rattle.wild_loader.specs.declared.memory.Memory.{Memory}
@@ -38,11 +39,12 @@ pub record HasApplied (l : Layout) (w : World) (m : Memory) : Type 0 where
   pub entries : All (λ (e : Rela). IsMade m (entry_change w (image_memory l w) e)) ((tables_of l).entries ++ (tables_of l).jumps)
   pub others : (a : ℕ) → All (IsElsewhere a) (runs_of_patches (patches_of (tables_of l) (place_change w (image_memory l w)) (entry_change w (image_memory l w)))) → byte_in m a ≡ byte_in (image_memory l w) a
 
--- memory has each kept item with its addresses more by the base and what is left to entries, the slots and stubs, copies of
--- symbols, and else zeros behind the file bytes of segments, and in sections without data
+-- memory has each kept item with its addresses more by the base and what is left to entries, the slots, stubs and thunks,
+-- copies of symbols, and else zeros behind the file bytes of segments, and in sections without data
 pub record HasMoved (l : Layout) (w : World) (m : Memory) : Type 0 where
   pub items : (item : Item) → IsKept l item → HasItem l w m item InMemory
   pub slots : HasSlots l w m
+  pub thunks : HasThunks l w m
   pub zeros : (a : ℕ) → IsBehind l a → IsNotCopied l w a → byte_in m (w.base + a) ≡ Some 0
   pub blanks : (s : InputSection) (k : ℕ) → IsBlank l s → HasFileBytes l s.part → k < s.size → byte_in m (w.base + (s.address + k)) ≡ Some 0
   pub copies : (i raw : ℕ) (x : Answer) → HasCopy l w i raw x → Holds m (w.base + raw) x.bytes

@@ -1,19 +1,16 @@
 -- Parts and slots in the memory of an image before any entry is applied.
---   CarriesByte l g o a   a loaded segment carries the byte at an offset of the file to an address
 --   IsPartStored l w r p  memory has the table of a role where its part is
 --   IsWordStored l w a d  memory has a word of a slot as the file has it
 --   IsStubStored l w ..   memory has a stub
 --   FillsSlot p w e       the entry of a slot fills its words
 --   FillsField p w z ..   an entry stores a number in a field of that size
 --   Copies p w e ..       an entry copies bytes to an address
-use Rattle.std.specs.Prelude.{◌≡◌, ℕ, ◌+◌, ◌-◌, ◌^◌, ◌<◌, ◌≤◌, List, length, Some, Ok, Contains}
+use Rattle.std.specs.Prelude.{◌≡◌, ℕ, ◌+◌, ◌^◌, ◌<◌, ◌≤◌, List, length, Some, Ok}
 use Rattle.wild_words.specs.Words.{word}
-use Rattle.wild_records.specs.Abi.Segment.{pt_load}
 use Rattle.wild_records.specs.declared.relocations.Rela.{Rela}
 use Rattle.wild_types.specs.declared.part.Part.{Part}
 use Rattle.wild_types.specs.declared.part.Role.{Role}
 use Rattle.wild_types.specs.declared.part.Role.TheVariants as role
-use Rattle.wild_types.specs.declared.section.Segment.{Segment}
 use Rattle.wild_reloc.specs.Field.{size_width}
 use Rattle.wild_reloc.specs.declared.info.RelocationSize.{RelocationSize}
 use Rattle.wild_reloc.specs.declared.dynamic.DynamicRelocationKind.{DynamicRelocationKind}
@@ -35,14 +32,6 @@ use Rattle.wild_geometry.specs.Loaded.{MakesChange, entry_with, stored_bytes}
 use Rattle.wild_slots.specs.Stand.{part_of_word, role_of_words, StandsAt}
 use Rattle.wild_loaded.specs.Memory.{image_memory}
 use Rattle.wild_slot.specs.MachineStub.{stub_in}
-
--- the segment carries the byte at that offset of the file to that address
-pub record CarriesByte (l : Layout) (g : Segment) (offset address : ℕ) : Type 0 where
-  pub listed : Contains l.segments g
-  pub loaded : g.kind ≡ pt_load
-  pub from : g.address ≤ address
-  pub to : address < g.address + g.file_size
-  pub distance : offset ≡ g.offset + (address - g.address)
 
 -- memory has the bytes of the table at the part's addresses, which do not wrap
 pub record IsPartStored (l : Layout) (w : World) (r : Role) (p : Part) : Type 0 where

@@ -1,7 +1,7 @@
 //! What a loader makes of the image of a laid out layout before any entry is applied.
 #![tactic(auto)]
 
-ghost use Rattle.wild_loaded.specs.Laws.{BlanksAreStored, CopiesAreThere, DynamicSectionsStand, DynamicSectionsTell, EntriesHaveChanges, HeadersStand, HeadersTell, OwnersAreKnown, PartsAreStored, SectionTablesAreFound, SectionsAreCarried, SectionsAreStored, SegmentsAreLoadable, SlotsAreStored, SlotsAreThere, TablesAreFound, ZerosAreStored};
+ghost use Rattle.wild_loaded.specs.Laws.{BlanksAreStored, CopiesAreThere, DynamicSectionsStand, DynamicSectionsTell, EntriesHaveChanges, HeadersStand, HeadersTell, OwnersAreKnown, PartsAreStored, SectionTablesAreFound, SectionsAreCarried, SectionsAreStored, SegmentsAreLoadable, SlotsAreStored, SlotsAreThere, TablesAreFound, ThunksAreThere, ZerosAreStored};
 ghost use Rattle.wild_loaded.specs.FilledLaws.{TablesAreMade};
 ghost use Rattle.wild_loaded.specs.MovedLaws.{ImagesAreLoaded, MemoryIsMoved};
 
@@ -76,6 +76,13 @@ pub fn slots_are_stored()
     each_word_stands();
     stubs_are_there();
     pair_stands();
+}
+
+/// In a layout without faults it has each thunk.
+pub fn thunks_are_there()
+    ensures { ThunksAreThere }
+{
+    bytes_are_loaded();
 }
 
 /// The image of an output with a dynamic section has it, with the entries of libraries, those of the last file, and zeros
@@ -157,6 +164,7 @@ pub fn memory_is_moved()
     sections_are_stored();
     segments_are_loadable();
     slots_are_stored();
+    thunks_are_there();
     entries_have_changes();
     copies_are_there();
     numbers_are_read();

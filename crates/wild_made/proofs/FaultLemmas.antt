@@ -1,10 +1,12 @@
 -- The shares of the plan of n groups are what is needed, and its relocations have no faults.
-use Rattle.std.proofs.Common.{◌≡◌, ℕ, zero, suc, ◌+◌, ◌*◌, ◌-◌, ◌^◌, ◌<◌, ◌≤◌, ◌==◌, ◌%◌, inl, inr, Bool, true, false, if◌then◌else◌, ◌||◌, min, [], ◌∷◌, length, map, refl, sym, ap, ◌∙◌, arith}
+use Rattle.std.proofs.Common.{◌≡◌, ℕ, zero, suc, ◌+◌, ◌*◌, ◌-◌, ◌^◌, ◌<◌, ◌≤◌, ◌==◌, ◌%◌, inl, inr, Bool, true, false, if◌then◌else◌, ◌||◌, min, [], ◌∷◌, length, map, refl, sym, ap, ◌∙◌, arith, subst}
 use Rattle.std.specs.Prelude.{Option, Some, None, Ok, nat_le, nat_lt, slice_get, slice_index_or}
 use Rattle.std.specs.List.{flat_map, range_with_len}
 use lib.IntN.{negsuc}
 use Rattle.std.proofs.lemmas.Bool.{cases_Bool, cases_lt, le-leb, lt-ltb, le-ltb}
 use Rattle.wild_words.specs.Words.{word}
+use Rattle.wild_types.specs.declared.kind.Machine.{Machine}
+use Rattle.wild_types.specs.declared.kind.Machine.TheVariants as machine
 use Rattle.wild_types.specs.declared.input.InputRelocation.{InputRelocation}
 use Rattle.wild_types.specs.declared.part.Part.{Part}
 use Rattle.wild_types.specs.declared.part.Role.{Role}
@@ -17,7 +19,7 @@ use Rattle.wild_needs.specs.Needs.{needs, needs_of, share, group_share}
 use Rattle.wild_types.specs.Flags.{has_flag}
 use Rattle.wild_types.specs.Rows.{row_of}
 use Rattle.wild_types.specs.FilePlaces.{given}
-use Rattle.wild_types.specs.Item.{item_of}
+use Rattle.wild_types.specs.Item.{item_with, block_for}
 use Rattle.wild_types.specs.Lookups.{place_of, bit, is_read}
 use Rattle.wild_reloc.specs.TableX86_64.{x86_64_row}
 use Rattle.wild_reloc.specs.declared.info.RelocationSize.TheVariants.{ByteSize}
@@ -25,15 +27,16 @@ use Rattle.wild_reloc.specs.declared.info.Width.TheVariants.{Four}
 use Rattle.wild_words.specs.Extents.{least_extent}
 use Rattle.wild_slot.specs.Treatment.{row_treatment, treatment}
 use Rattle.wild_layout.specs.declared.decision.Decision.TheVariants.{Field}
-use Rattle.wild_layout.specs.Choice.{choice_by, choice_of, is_partner}
+use Rattle.wild_layout.specs.Choice.{choice_by, choice_of, choice_on, takes_next, is_partner}
 use Rattle.wild_layout.specs.Decide.{decided, decide}
+use Rattle.wild_layout.proofs.ChoiceLemmas.{choice_is}
 use Rattle.wild_layout.proofs.DecisionLemmas.{decide_alone}
 use Rattle.wild_layout.proofs.SiteLemmas.{site_written}
 use Rattle.wild_layout.specs.Sites.{field_site, site, extent_of}
 use Rattle.wild_layout.specs.SymbolValues.{displacement}
 use Rattle.wild_types.specs.Addresses.{raw_value}
 use Rattle.wild_needs.specs.TableSymbols.{file_items}
-use Rattle.wild_layout.specs.Faults.{errors, flat_map_from, share_errors, has_spare, part_errors, relocation_errors, section_errors, file_errors, listed_errors, table_errors, group_errors}
+use Rattle.wild_layout.specs.Faults.{errors, flat_map_from, share_errors, has_spare, part_errors, relocation_errors, section_errors, thunk_errors, file_errors, listed_errors, table_errors, group_errors}
 use Rattle.wild_made.specs.Made.{made_section, made_object, plain_file, made_files, made_symbol, made_group, made_relocation, part_with, made_parts, made, callee, start_of}
 use Rattle.wild_made.specs.Laws.{IsCount}
 use Rattle.wild_made.proofs.ListLemmas.{made_from, nothing_from, item_at}
@@ -142,9 +145,9 @@ allowed n i j c h low call named = let few = h.few in in_range (4194432 + 64 * c
 abbrev call_value : ℕ → ℕ → ℕ → ℕ
 call_value n i j = displacement (start_of (callee n i j)) (negsuc 3) (place_of (made_section n i).address (made_relocation n i j))
 
-decided_made : (n i j : ℕ) → IsCount n → i < n → j < 8 → decided (made n) (item_of (made_section n i)) (made_relocation n i j) ≡ Ok (Field (ByteSize Four) (call_value n i j))
+decided_made : (block : ℕ) (n i j : ℕ) → IsCount n → i < n → j < 8 → decided (made n) (item_with block (made_section n i)) (made_relocation n i j) ≡ Ok (Field (ByteSize Four) (call_value n i j))
 unfolding decided treatment row_treatment row_of x86_64_row made_section made bit has_flag
-decided_made n i j h low call =
+decided_made block n i j h low call =
     let some = h.some in
     let named : callee n i j < n = omega arith in
     let symbol = item_at made_symbol 0 n (callee n i j) (callee n i j) named (omega arith) in
@@ -154,45 +157,52 @@ listed_made : (n i j : ℕ) → j < 8 → slice_get (made_section n i).relocatio
 unfolding made_section
 listed_made n i j call = item_at (made_relocation n i) 0 8 j j call (omega arith)
 
+machine_made : (n : ℕ) → (made n).machine ≡ machine.X86_64
+unfolding made
+machine_made n = refl
+
 -- no instruction is rewritten at a call's own type
-choice_made : (n i j : ℕ) (next : Option InputRelocation) → choice_of (made n) (item_of (made_section n i)) (made_relocation n i j) next ≡ Ok None
+choice_made : (block : ℕ) (n i j : ℕ) (next : Option InputRelocation) → choice_of (made n) (item_with block (made_section n i)) (made_relocation n i j) next ≡ Ok None
 unfolding choice_by
-choice_made n i j next = refl
+choice_made block n i j next = refl
 
-alone_made : (n i j : ℕ) → j < 8 → is_partner (made n) (item_of (made_section n i)) j ≡ false
-alone_made n i zero call = refl
-alone_made n i (suc j) call = let next = slice_get (made_section n i).relocations (j + 1) in rw (listed_made n i j (omega arith), choice_made n i j next) refl
+alone_made : (block : ℕ) (n i j : ℕ) → j < 8 → is_partner (made n) (item_with block (made_section n i)) j ≡ false
+alone_made block n i zero call = refl
+alone_made block n i (suc j) call =
+    let s = item_with block (made_section n i) in
+    ap takes_next (choice_is (made n) s j (made_relocation n i j) (machine_made n) (listed_made n i j (omega arith)) ∙ choice_made block n i j (slice_get s.relocations (j + 1)))
 
-decide_made : (n i j : ℕ) → IsCount n → i < n → j < 8 → decide (made n) (item_of (made_section n i)) j ≡ Ok (Field (ByteSize Four) (call_value n i j))
-decide_made n i j h low call =
-    let next = slice_get (made_section n i).relocations (j + 1) in
-    decide_alone (made n) (item_of (made_section n i)) j (made_relocation n i j) (listed_made n i j call) (alone_made n i j call) (choice_made n i j next) ∙ decided_made n i j h low call
+decide_made : (block : ℕ) (n i j : ℕ) → IsCount n → i < n → j < 8 → decide (made n) (item_with block (made_section n i)) j ≡ Ok (Field (ByteSize Four) (call_value n i j))
+decide_made block n i j h low call =
+    let s = item_with block (made_section n i) in
+    let none = subst (λ (m : Machine). choice_on m (made n) s j (made_relocation n i j) ≡ Ok None) (sym (machine_made n)) (choice_made block n i j (slice_get s.relocations (j + 1))) in
+    decide_alone (made n) s j (made_relocation n i j) (listed_made n i j call) (alone_made block n i j call) none ∙ decided_made block n i j h low call
 
-relocation_clean : (n i j g f k : ℕ) → IsCount n → i < n → j < 8 → relocation_errors (made n) g f k (item_of (made_section n i)) j ≡ []
+relocation_clean : (block : ℕ) (n i j g f k : ℕ) → IsCount n → i < n → j < 8 → relocation_errors (made n) g f k (item_with block (made_section n i)) j ≡ []
 unfolding relocation_errors
-relocation_clean n i j g f k h low call = rw (listed_made n i j call, decide_made n i j h low call) refl
+relocation_clean block n i j g f k h low call = rw (listed_made n i j call, decide_made block n i j h low call) refl
 
-relocations_clean : (n i k : ℕ) (g f : ℕ) → IsCount n → i < n → flat_map (relocation_errors (made n) g f k (item_of (made_section n i))) (range_with_len 0 8) ≡ []
-relocations_clean n i k g f h low =
-    let e = relocation_errors (made n) g f k (item_of (made_section n i)) in
-    let c : (j : ℕ) → j < 8 → e j ≡ [] = λ j call. relocation_clean n i j g f k h low call in
+relocations_clean : (block : ℕ) (n i k : ℕ) (g f : ℕ) → IsCount n → i < n → flat_map (relocation_errors (made n) g f k (item_with block (made_section n i))) (range_with_len 0 8) ≡ []
+relocations_clean block n i k g f h low =
+    let e = relocation_errors (made n) g f k (item_with block (made_section n i)) in
+    let c : (j : ℕ) → j < 8 → e j ≡ [] = λ j call. relocation_clean block n i j g f k h low call in
     simp (c 0 (omega arith), c 1 (omega arith), c 2 (omega arith), c 3 (omega arith), c 4 (omega arith), c 5 (omega arith), c 6 (omega arith), c 7 (omega arith)) refl
 
-site_made : (n i j : ℕ) → IsCount n → i < n → j < 8 → site (made n) (item_of (made_section n i)) j ≡ field_site (item_of (made_section n i)) (8 * j + 1) (ByteSize Four) (call_value n i j) ∷ []
-site_made n i j h low call = site_written (made n) (item_of (made_section n i)) j (made_relocation n i j) (Field (ByteSize Four) (call_value n i j)) (record { size = ByteSize Four; value = call_value n i j }) (listed_made n i j call) (decide_made n i j h low call) refl
+site_made : (block : ℕ) (n i j : ℕ) → IsCount n → i < n → j < 8 → site (made n) (item_with block (made_section n i)) j ≡ field_site (item_with block (made_section n i)) (8 * j + 1) (ByteSize Four) (call_value n i j) ∷ []
+site_made block n i j h low call = site_written (made n) (item_with block (made_section n i)) j (made_relocation n i j) (Field (ByteSize Four) (call_value n i j)) (record { size = ByteSize Four; value = call_value n i j }) (listed_made n i j call) (decide_made block n i j h low call) refl
 
 -- eight fields of four bytes
-call_extents : (n i : ℕ) → IsCount n → i < n → map extent_of (flat_map (site (made n) (item_of (made_section n i))) (range_with_len 0 8)) ≡ map (λ (j : ℕ). record { start = 8 * j + 1; end = 8 * j + 1 + 4 }) (range_with_len 0 8)
+call_extents : (block : ℕ) (n i : ℕ) → IsCount n → i < n → map extent_of (flat_map (site (made n) (item_with block (made_section n i))) (range_with_len 0 8)) ≡ map (λ (j : ℕ). record { start = 8 * j + 1; end = 8 * j + 1 + 4 }) (range_with_len 0 8)
 unfolding word
-call_extents n i h low =
-    let s = site (made n) (item_of (made_section n i)) in
-    let c : (j : ℕ) → j < 8 → s j ≡ field_site (item_of (made_section n i)) (8 * j + 1) (ByteSize Four) (call_value n i j) ∷ [] = λ j call. site_made n i j h low call in
+call_extents block n i h low =
+    let s = site (made n) (item_with block (made_section n i)) in
+    let c : (j : ℕ) → j < 8 → s j ≡ field_site (item_with block (made_section n i)) (8 * j + 1) (ByteSize Four) (call_value n i j) ∷ [] = λ j call. site_made block n i j h low call in
     simp (c 0 (omega arith), c 1 (omega arith), c 2 (omega arith), c 3 (omega arith), c 4 (omega arith), c 5 (omega arith), c 6 (omega arith), c 7 (omega arith)) refl
 
 -- no byte is of two fields
-none_shared : (n i : ℕ) → IsCount n → i < n → least_extent (map extent_of (flat_map (site (made n) (item_of (made_section n i))) (range_with_len 0 8))) ≡ None
+none_shared : (block : ℕ) (n i : ℕ) → IsCount n → i < n → least_extent (map extent_of (flat_map (site (made n) (item_with block (made_section n i))) (range_with_len 0 8))) ≡ None
 unfolding least_extent
-none_shared n i h low = ap least_extent (call_extents n i h low) ∙ refl
+none_shared block n i h low = ap least_extent (call_extents block n i h low) ∙ refl
 
 relocations_made : (n i : ℕ) → length (made_section n i).relocations ≡ 8
 unfolding made_section
@@ -202,15 +212,15 @@ is_read_made : (n i : ℕ) → is_read (made_section n i) ≡ true
 unfolding made_section
 is_read_made n i = refl
 
-section_clean : (n i g f k : ℕ) → IsCount n → i < n → section_errors (made n) g f k (made_section n i) ≡ []
+section_clean : (n i g f : ℕ) (file : File) (k : ℕ) → IsCount n → i < n → section_errors (made n) g f file k (made_section n i) ≡ []
 unfolding section_errors
-section_clean n i g f k h low = rw (is_read_made n i, relocations_made n i, relocations_clean n i k g f h low, none_shared n i h low) refl
+section_clean n i g f file k h low = (let block = block_for (made n) file (made_section n i) in rw (is_read_made n i, relocations_made n i, relocations_clean block n i k g f h low, none_shared block n i h low) refl)
 
 files_clean : (n i g k : ℕ) → IsCount n → i < n → flat_map_from (file_errors (made n) g) k (made_files n i) ≡ []
-unfolding file_errors
+unfolding file_errors thunk_errors
 files_clean n i g k h low =
-    let one = section_clean n i g k 0 h low in
-    let two = section_clean n i g (k + 1) 0 h low in
+    let one : (file : File) → section_errors (made n) g k file 0 (made_section n i) ≡ [] = λ file. section_clean n i g k file 0 h low in
+    let two : (file : File) → section_errors (made n) g (k + 1) file 0 (made_section n i) ≡ [] = λ file. section_clean n i g (k + 1) file 0 h low in
     let slots = slots_clean n g in
     elim (cases_Bool (i == 0)) [
       | inl a ↦ elim (cases_Bool (i + 1 == n)) [ inl b ↦ simp (a, b, two, slots) refl | inr b ↦ simp (a, b, two, slots) refl ]

@@ -64,18 +64,18 @@ rows_stand l x86 h = by_kind l.kind refl (subst (λ (k : Machine). KnowsOffsets 
 -- ---- the reference itself
 
 -- which of both rows stands is told by whose symbol it is
-lea_kept : (l : Layout) (s : Item) (r : InputRelocation) (next : Option InputRelocation) (own_row open_row : Row) (i a b : ℕ) → choice_of l s r next ≡ Ok None → l.machine ≡ machine.X86_64 → r.symbol ≡ Some i
+lea_kept : (l : Layout) (s : Item) (r : InputRelocation) (next : Option InputRelocation) (own_row open_row : Row) (i a b : ℕ) → choice_of l s r next ≡ Ok None → r.symbol ≡ Some i
     → slice_get rows_x86_64 a ≡ Some own_row → slice_get rows_x86_64 b ≡ Some open_row → (r.number == r_x86_64_pc32) ≡ false → (not (interposable (flags_at l i)) ≡ true → applies (question_of l s r i next) own_row ≡ true)
     → (not (not (interposable (flags_at l i))) ≡ true → applies (question_of l s r i next) open_row ≡ true) → ⊥
-lea_kept l s r next own_row open_row i a b none x86 named first second other own_stands open_stands =
+lea_kept l s r next own_row open_row i a b none named first second other own_stands open_stands =
     elim (cases_Bool (not (interposable (flags_at l i)))) [
       | inl own ↦
           (let stands = own_stands own in
-          let gone = unchosen l s r next i a own_row none x86 named other first in
+          let gone = unchosen l s r next i a own_row none named other first in
           cc)
       | inr open_one ↦
           (let stands = open_stands (rw open_one refl) in
-          let gone = unchosen l s r next i b open_row none x86 named other second in
+          let gone = unchosen l s r next i b open_row none named other second in
           cc)
     ]
 
@@ -103,11 +103,11 @@ descriptor_kept l s r next i term none x86 fit named number given inside h =
     let bytes = nothing_stands s.bytes r.offset inside in
     elim number [
       | inl e ↦
-          lea_kept l s r next DESCRIPTOR DESCRIPTOR_SLOT i 28 29 none x86 named descriptor_at descriptor_slot_at (ap (λ (n : ℕ). n == r_x86_64_pc32) e)
+          lea_kept l s r next DESCRIPTOR DESCRIPTOR_SLOT i 28 29 none named descriptor_at descriptor_slot_at (ap (λ (n : ℕ). n == r_x86_64_pc32) e)
           (λ own. row_applies q DESCRIPTOR (eq-eqb r.number r_x86_64_gotpc32_tlsdesc e) k.duty code direct k.program own refl bytes)
           (λ taken. row_applies q DESCRIPTOR_SLOT (eq-eqb r.number r_x86_64_gotpc32_tlsdesc e) k.duty code direct k.program taken refl bytes)
       | inr e ↦
-          lea_kept l s r next DESCRIPTOR_2 DESCRIPTOR_SLOT_2 i 30 31 none x86 named descriptor_2_at descriptor_slot_2_at (ap (λ (n : ℕ). n == r_x86_64_pc32) e)
+          lea_kept l s r next DESCRIPTOR_2 DESCRIPTOR_SLOT_2 i 30 31 none named descriptor_2_at descriptor_slot_2_at (ap (λ (n : ℕ). n == r_x86_64_pc32) e)
           (λ own. row_applies q DESCRIPTOR_2 (eq-eqb r.number r_x86_64_code_4_gotpc32_tlsdesc e) k.duty code direct k.program own refl bytes)
           (λ taken. row_applies q DESCRIPTOR_SLOT_2 (eq-eqb r.number r_x86_64_code_4_gotpc32_tlsdesc e) k.duty code direct k.program taken refl bytes)
     ]
@@ -119,5 +119,5 @@ call_kept l s r next i none x86 named number h =
     let q = question_of l s r i next in
     let k = rows_stand l x86 h.0 in
     let stands = row_applies q DESCRIPTOR_CALL (eq-eqb r.number r_x86_64_tlsdesc_call number) k.duty (code_bit s.flags h.1) refl k.program refl refl refl in
-    let gone = unchosen l s r next i 32 DESCRIPTOR_CALL none x86 named (ap (λ (n : ℕ). n == r_x86_64_pc32) number) call_at in
+    let gone = unchosen l s r next i 32 DESCRIPTOR_CALL none named (ap (λ (n : ℕ). n == r_x86_64_pc32) number) call_at in
     cc

@@ -31,7 +31,7 @@ use Rattle.wild_references.proofs.Fills.{Each, each_at}
 
 -- ---- what memory has
 
-abbrev read_all : Memory → ℕ → ℕ → List ℕ
+abbrev pub read_all : Memory → ℕ → ℕ → List ℕ
 read_all m a zero = []
 read_all m a (suc n) = unwrap_or (byte_in m a) 0 ∷ read_all m (a + 1) n
 
@@ -45,7 +45,7 @@ get_read m (suc n) a zero lt = let e : a + 0 ≡ a = omega arith in rw e refl
 get_read m (suc n) a (suc k) lt = let e : a + suc k ≡ a + 1 + k = omega arith in rw e (get_read m n (a + 1) k (omega arith))
 
 -- each of n bytes is loaded
-abbrev AreThere : Memory → ℕ → ℕ → Type 0
+abbrev pub AreThere : Memory → ℕ → ℕ → Type 0
 AreThere m a n = (k : ℕ) → k < n → (b : ℕ) × (byte_in m (a + k) ≡ Some b)
 
 read_there : (m : Memory) (a n k b : ℕ) → k < n → byte_in m (a + k) ≡ Some b → get_or (read_all m a n) k 0 ≡ b

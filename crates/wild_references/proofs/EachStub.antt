@@ -66,5 +66,5 @@ each_stub law = λ l w m x machine own agrees slots i p s r listed decided stub.
       given = given;
       target = first.word;
       word = first.there;
-      jumps = stub_goes law l m w.base at p first.word (has_places l w i at p s x listed slot.1 has) machine (in_reach l w m at p r given stub first.behind) (here.stub p has) first.there;
+      jumps = stub_goes law l m w.base at p first.word (has_places l w i at s x listed slot.1) machine (in_reach l w m at p r given stub first.behind) (here.stub p has) first.there;
     }

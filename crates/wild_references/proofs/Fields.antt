@@ -166,7 +166,7 @@ row_reads l w m s i r row form v x h listed f reads held =
     }
 
 -- some bytes of an item are below 256 with all of them
-small_range : (bs : List ℕ) (a n : ℕ) → All (λ (b : ℕ). b < 256) bs → a + n ≤ length bs → All (λ (b : ℕ). b < 256) (slice_range bs a (a + n))
+pub small_range : (bs : List ℕ) (a n : ℕ) → All (λ (b : ℕ). b < 256) bs → a + n ≤ length bs → All (λ (b : ℕ). b < 256) (slice_range bs a (a + n))
 small_range bs a n small inside = λ k d lt.
     let part = slice_range bs a (a + n) in
     let long = length-range bs a n inside in
@@ -174,7 +174,7 @@ small_range bs a n small inside = λ k d lt.
     subst (λ (b : ℕ). b < 256) (sym (one ∙ range_byte bs a n k (omega (arith, lt, long)))) (small (a + k) 0 (omega (arith, lt, long, inside)))
 
 -- the bits around the field stay
-row_keeps : (l : Layout) (s : Item) (r : InputRelocation) (row : RelocationKindInfo) (v : ℕ) → HasBytes l.machine s → r.offset + size_width row.size ≤ length s.bytes → (fits : RowFits l.machine r.number row) → Keeps fits.formula.form (old_field s r row) (written row v (old_field s r row))
+pub row_keeps : (l : Layout) (s : Item) (r : InputRelocation) (row : RelocationKindInfo) (v : ℕ) → HasBytes l.machine s → r.offset + size_width row.size ≤ length s.bytes → (fits : RowFits l.machine r.number row) → Keeps fits.formula.form (old_field s r row) (written row v (old_field s r row))
 row_keeps l s r row v bytes inside fits = by_machine l.machine refl bytes
   where
     by_machine : (k : Machine) → l.machine ≡ k → HasBytes k s → Keeps fits.formula.form (old_field s r row) (written row v (old_field s r row))

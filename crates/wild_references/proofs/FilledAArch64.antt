@@ -28,7 +28,7 @@ use Rattle.wild_loader.specs.declared.instruction.Deed.TheVariants.{Jump, Call}
 use Rattle.wild_loader.specs.declared.instruction.Operand.TheVariants.{Number}
 use Rattle.wild_loader.specs.Instruction.{Reader, Effect, effect, with_value, as_value}
 use Rattle.wild_loader.specs.InstructionAArch64.{action_of, effect_aarch64, demand_aarch64}
-use Rattle.wild_meaning.specs.WordsAArch64.{is_of, is_told, is_filled, with_field, with_field_of, with_zeros, reads_numbers, effect_with}
+use Rattle.wild_meaning.specs.WordsAArch64.{is_of, is_told, is_filled, with_field, with_field_of, reads_numbers, effect_with}
 use Rattle.wild_meaning.specs.Field.{form_width}
 use Rattle.wild_meaning.specs.Template.{bits_of, CanHave}
 
@@ -289,9 +289,9 @@ by_numbered r a x o numbers n =
     let two : r n.action.operand ≡ Some n.value = ap r n.operand ∙ numbers n.value in
     (with_value n.action n.value, rw (n.is, one) refl, rw (n.is, two) refl)
 
-pub word_does : (n a x : ℕ) (f : Formula) (old new : List ℕ) (r : Reader) → aarch64_formula n ≡ Some f → is_filled n (words_of old) ≡ true → length old ≡ 4 → length new ≡ 4 → with_zeros (number old) ≡ number old
+pub word_does : (n a x : ℕ) (f : Formula) (old new : List ℕ) (r : Reader) → aarch64_formula n ≡ Some f → is_filled n (words_of old) ≡ true → length old ≡ 4 → length new ≡ 4
     → Reads f.form new x → Keeps f.form old new → ((k : ℕ) → r (Number k) ≡ Some k) → FilledDoes f.form r a x old new
-word_does n a x f old new r known filled long whole zeros reads keeps numbers = by f.form placed reads keeps
+word_does n a x f old new r known filled long whole reads keeps numbers = by f.form placed reads keeps
   where
     w : ℕ
     w = number old
@@ -302,14 +302,14 @@ word_does n a x f old new r known filled long whole zeros reads keeps numbers = 
     words : words_of old ≡ w ∷ []
     words = one_word old long
 
-    parts : ((is_of (forms_filled n) w && true) ≡ true) × (is_told (run (shapes (with_zeros w ∷ [])) 0 []) ≡ true)
-    parts = and_parts (is_of (forms_filled n) w && true) (is_told (run (shapes (with_zeros w ∷ [])) 0 [])) (subst (λ (ws : List ℕ). is_filled n ws ≡ true) words filled)
+    parts : ((is_of (forms_filled n) w && true) ≡ true) × (is_told (run (shapes (w ∷ [])) 0 []) ≡ true)
+    parts = and_parts (is_of (forms_filled n) w && true) (is_told (run (shapes (w ∷ [])) 0 [])) (subst (λ (ws : List ℕ). is_filled n ws ≡ true) words filled)
 
     of : is_of (forms_filled n) w ≡ true
     of = (and_parts (is_of (forms_filled n) w) true parts.0).0
 
     told : is_told (run (shapes (w ∷ [])) 0 []) ≡ true
-    told = subst (λ (k : ℕ). is_told (run (shapes (k ∷ [])) 0 []) ≡ true) zeros parts.1
+    told = parts.1
 
     placed : form_placed f.form (forms_filled n) ≡ true
     placed = subst (λ (o : Option Formula). formula_placed o (forms_filled n) ≡ true) known (placed_in filled_forms n w each_is_placed of)
@@ -327,8 +327,8 @@ word_does n a x f old new r known filled long whole zeros reads keeps numbers = 
         let put : inserted g.form.field v w ≡ u = put_back p g.form.field w u v place keeps reads.bits in
         let numbered = told_with w u a g.form v g.known g.there put told in
         let both = by_numbered r a x (meaning a (u ∷ [])) numbers numbered in
-        let filled_word : with_field v (with_zeros w) ≡ u = ap (with_field v) zeros ∙ (g.put v ∙ put) in
-        let old_words : map (λ k. with_field v (with_zeros k)) (words_of old) ≡ u ∷ [] = ap (map (λ k. with_field v (with_zeros k))) words ∙ ap (λ (k : ℕ). k ∷ []) filled_word in
+        let filled_word : with_field v w ≡ u = g.put v ∙ put in
+        let old_words : map (with_field v) (words_of old) ≡ u ∷ [] = ap (map (with_field v)) words ∙ ap (λ (k : ℕ). k ∷ []) filled_word in
         record {
           can = (reads.passes, reads.whole);
           effect = both.0;
@@ -356,7 +356,7 @@ call_word w u x s decodes keeps =
 pub width_four : (n : ℕ) (f : Formula) (bs : List ℕ) → aarch64_formula n ≡ Some f → is_filled n (words_of bs) ≡ true → length bs ≡ 4 → form_width f.form ≡ 4
 width_four n f bs known filled long =
     let w = number bs in
-    let parts = and_parts (is_of (forms_filled n) w && true) (is_told (run (shapes (with_zeros w ∷ [])) 0 [])) (subst (λ (ws : List ℕ). is_filled n ws ≡ true) (one_word bs long) filled) in
+    let parts = and_parts (is_of (forms_filled n) w && true) (is_told (run (shapes (w ∷ [])) 0 [])) (subst (λ (ws : List ℕ). is_filled n ws ≡ true) (one_word bs long) filled) in
     let of = (and_parts (is_of (forms_filled n) w) true parts.0).0 in
     by f.form (subst (λ (o : Option Formula). formula_placed o (forms_filled n) ≡ true) known (placed_in filled_forms n w each_is_placed of))
   where
@@ -368,7 +368,7 @@ width_four n f bs known filled long =
 pub first_of : (n : ℕ) (bs : List ℕ) → is_filled n (words_of bs) ≡ true → length bs ≡ 4 → is_of (forms_filled n) (number bs) ≡ true
 first_of n bs filled long =
     let w = number bs in
-    let parts = and_parts (is_of (forms_filled n) w && true) (is_told (run (shapes (with_zeros w ∷ [])) 0 [])) (subst (λ (ws : List ℕ). is_filled n ws ≡ true) (one_word bs long) filled) in
+    let parts = and_parts (is_of (forms_filled n) w && true) (is_told (run (shapes (w ∷ [])) 0 [])) (subst (λ (ws : List ℕ). is_filled n ws ≡ true) (one_word bs long) filled) in
     (and_parts (is_of (forms_filled n) w) true parts.0).0
 
 -- what a branch of the input asks for, and what one that goes so far does

@@ -2,6 +2,7 @@
 use Rattle.std.proofs.Common.{◌≡◌, ℕ, suc, inl, inr, ap, ◌∙◌, arith}
 use Rattle.std.specs.Prelude.{Some, Contains}
 use Rattle.std.proofs.lemmas.Option.{slice_get-get_or}
+use Rattle.wild_types.specs.declared.kind.Machine.{Machine}
 use Rattle.wild_types.specs.declared.kind.Machine.TheVariants as machine
 use Rattle.wild_types.specs.declared.input.InputRelocation.{InputRelocation}
 use Rattle.wild_types.specs.declared.layout.Layout.{Layout}
@@ -15,6 +16,7 @@ use Rattle.wild_types.specs.Item.{Item}
 use Rattle.wild_meaning.specs.Item.{IsReference}
 use Rattle.wild_meaning.specs.Reference.{IsAsked, IsLinkedAlone, IsTakenAlong, HoldsRewritten, LinkedHolds, ReferenceHolds}
 use Rattle.wild_references.specs.EffectLaws.{RewrittenHold, PartnersHold, RewrittenAreFollowed, InstructionsAreKept, OthersAreKept, KeptInstructionsDo, ItemsHold}
+use Rattle.wild_references.proofs.KeptAArch64.{keeps}
 
 record AreKnown : Type 0 where
   rewritten : RewrittenHold
@@ -30,13 +32,13 @@ record IsAt (l : Layout) (s : Item) (r : InputRelocation) : Type 0 where
   decision : Decision
   has : HasDecision l s index r decision
 
-at_index : (l : Layout) (w : World) (m : Memory) (s : Item) (r : InputRelocation) → IsLoadedItem machine.X86_64 l w m s → Contains s.relocations r → IsAt l s r
-at_index l w m s r g h =
+at_index : (machine : Machine) (l : Layout) (w : World) (m : Memory) (s : Item) (r : InputRelocation) → IsLoadedItem machine l w m s → Contains s.relocations r → IsAt l s r
+at_index machine l w m s r g h =
     let d = g.decided.each h.0 h.1 in
     record { index = h.0; decision = d.0; has = record { listed = slice_get-get_or s.relocations h.0 r h.1 ∙ ap (λ (x : InputRelocation). Some x) h.2; decided = d.1 } }
 
-plain : (k : AreKnown) (l : Layout) (w : World) (m : Memory) (s : Item) → IsLoadedItem machine.X86_64 l w m s → FieldsHold l w m s → (r : InputRelocation) → IsReference s r → IsAsked l w s r → (IsLinkedAlone l s r → ⊥) → (i : ℕ) (d : Decision) → HasDecision l s i r d → KeepsInstruction d → ReferenceHolds l w m s r
-plain k l w m s g f r is asked alone i d has keeps =
+plain : (k : AreKnown) (machine : Machine) (l : Layout) (w : World) (m : Memory) (s : Item) → IsLoadedItem machine l w m s → FieldsHold l w m s → (r : InputRelocation) → IsReference s r → IsAsked l w s r → (IsLinkedAlone l s r → ⊥) → (i : ℕ) (d : Decision) → HasDecision l s i r d → KeepsInstruction d → ReferenceHolds l w m s r
+plain k machine l w m s g f r is asked alone i d has keeps =
     let reference : IsKeptReference l s i r = record { decision = d; has = has; keeps = keeps; refers = is.refers } in
     let field = f.references i r reference asked alone in
     inl (record {
@@ -45,8 +47,8 @@ plain k l w m s g f r is asked alone i d has keeps =
       value = field.value;
       gives = field.gives;
       field = field.field;
-      kept = k.kept machine.X86_64 l w m s g i r d has keeps;
-      does = k.does l w m s g f i r reference asked alone;
+      kept = k.kept machine l w m s g i r d has keeps;
+      does = k.does machine l w m s g f i r reference asked alone;
     })
 
 -- the call of a sequence is one of its two references
@@ -54,15 +56,15 @@ partner_holds : (l : Layout) (w : World) (m : Memory) (s : Item) (r : InputReloc
 partner_holds l w m s r t = record { start = t.start; instruction = t.instruction; first = t.first; template = inr (record { rest = t.rest; sequence = t.sequence; one = (let lt = t.one.1 in (suc t.one.0, omega (arith, lt), t.one.2)) }); does = t.does; words = t.words }
 
 by_decision : (k : AreKnown) (l : Layout) (w : World) (m : Memory) (s : Item) → IsLoadedItem machine.X86_64 l w m s → FieldsHold l w m s → (r : InputRelocation) → IsReference s r → IsAsked l w s r → (IsLinkedAlone l s r → ⊥) → (i : ℕ) (d : Decision) → HasDecision l s i r d → ReferenceHolds l w m s r
-by_decision k l w m s g f r is asked alone i Nothing has = plain k l w m s g f r is asked alone i Nothing has tt
-by_decision k l w m s g f r is asked alone i (Field z v) has = plain k l w m s g f r is asked alone i (Field z v) has tt
-by_decision k l w m s g f r is asked alone i (Moved v packed) has = plain k l w m s g f r is asked alone i (Moved v packed) has tt
-by_decision k l w m s g f r is asked alone i (Left z number symbol addend) has = plain k l w m s g f r is asked alone i (Left z number symbol addend) has tt
+by_decision k l w m s g f r is asked alone i Nothing has = plain k machine.X86_64 l w m s g f r is asked alone i Nothing has tt
+by_decision k l w m s g f r is asked alone i (Field z v) has = plain k machine.X86_64 l w m s g f r is asked alone i (Field z v) has tt
+by_decision k l w m s g f r is asked alone i (Moved v packed) has = plain k machine.X86_64 l w m s g f r is asked alone i (Moved v packed) has tt
+by_decision k l w m s g f r is asked alone i (Left z number symbol addend) has = plain k machine.X86_64 l w m s g f r is asked alone i (Left z number symbol addend) has tt
 by_decision k l w m s g f r is asked alone i (Rewritten row v) has = inr (k.rewritten l w m s g i r row v has asked)
 by_decision k l w m s g f r is asked alone i Partner has = inr (partner_holds l w m s r (k.partners l w m s g i r has))
 
-linked_plain : (k : AreKnown) (l : Layout) (w : World) (m : Memory) (s : Item) → IsLoadedItem machine.X86_64 l w m s → FieldsHold l w m s → (r : InputRelocation) → IsReference s r → IsLinkedAlone l s r → w.base ≡ 0 → (i : ℕ) (d : Decision) → HasDecision l s i r d → KeepsInstruction d → LinkedHolds l w m s r
-linked_plain k l w m s g f r is alone zero i d has keeps =
+linked_plain : (k : AreKnown) (machine : Machine) (l : Layout) (w : World) (m : Memory) (s : Item) → IsLoadedItem machine l w m s → FieldsHold l w m s → (r : InputRelocation) → IsReference s r → IsLinkedAlone l s r → w.base ≡ 0 → (i : ℕ) (d : Decision) → HasDecision l s i r d → KeepsInstruction d → LinkedHolds l w m s r
+linked_plain k machine l w m s g f r is alone zero i d has keeps =
     let field = f.linked i r (record { decision = d; has = has; keeps = keeps; refers = is.refers }) alone zero in
     inl (record {
       formula = field.formula;
@@ -70,22 +72,31 @@ linked_plain k l w m s g f r is alone zero i d has keeps =
       value = field.value;
       gives = field.gives;
       field = field.field;
-      kept = k.kept machine.X86_64 l w m s g i r d has keeps;
+      kept = k.kept machine l w m s g i r d has keeps;
     })
 
 linked_by : (k : AreKnown) (l : Layout) (w : World) (m : Memory) (s : Item) → IsLoadedItem machine.X86_64 l w m s → FieldsHold l w m s → (r : InputRelocation) → IsReference s r → IsLinkedAlone l s r → w.base ≡ 0 → (i : ℕ) (d : Decision) → HasDecision l s i r d → LinkedHolds l w m s r
-linked_by k l w m s g f r is alone zero i Nothing has = linked_plain k l w m s g f r is alone zero i Nothing has tt
-linked_by k l w m s g f r is alone zero i (Field z v) has = linked_plain k l w m s g f r is alone zero i (Field z v) has tt
-linked_by k l w m s g f r is alone zero i (Moved v packed) has = linked_plain k l w m s g f r is alone zero i (Moved v packed) has tt
-linked_by k l w m s g f r is alone zero i (Left z number symbol addend) has = linked_plain k l w m s g f r is alone zero i (Left z number symbol addend) has tt
+linked_by k l w m s g f r is alone zero i Nothing has = linked_plain k machine.X86_64 l w m s g f r is alone zero i Nothing has tt
+linked_by k l w m s g f r is alone zero i (Field z v) has = linked_plain k machine.X86_64 l w m s g f r is alone zero i (Field z v) has tt
+linked_by k l w m s g f r is alone zero i (Moved v packed) has = linked_plain k machine.X86_64 l w m s g f r is alone zero i (Moved v packed) has tt
+linked_by k l w m s g f r is alone zero i (Left z number symbol addend) has = linked_plain k machine.X86_64 l w m s g f r is alone zero i (Left z number symbol addend) has tt
 linked_by k l w m s g f r is alone zero i (Rewritten row v) has = absurd (k.followed l s i r row v has alone)
 linked_by k l w m s g f r is alone zero i Partner has = inr (inr (k.partners l w m s g i r has))
 
 pub items : RewrittenHold → PartnersHold → RewrittenAreFollowed → InstructionsAreKept → KeptInstructionsDo → OthersAreKept → ItemsHold
-items rewritten partners followed kept does others l w m s g f =
-    let k : AreKnown = record { rewritten = rewritten; partners = partners; followed = followed; kept = kept; does = does; others = others } in
-    record {
-      references = λ r is asked alone. (let at = at_index l w m s r g is.listed in by_decision k l w m s g f r is asked alone at.index at.decision at.has);
-      linked = λ r is alone zero. (let at = at_index l w m s r g is.listed in linked_by k l w m s g f r is alone zero at.index at.decision at.has);
-      others = others machine.X86_64 l w m s g;
-    }
+items rewritten partners followed kept does others on l w m s g f = record {
+  references = λ r is asked alone. (let at = at_index on l w m s r g is.listed in reference on g f r is asked alone at.index at.decision at.has);
+  linked = λ r is alone zero. (let at = at_index on l w m s r g is.listed in own on g f r is alone zero at.index at.decision at.has);
+  others = others on l w m s g;
+}
+  where
+    k : AreKnown
+    k = record { rewritten = rewritten; partners = partners; followed = followed; kept = kept; does = does; others = others }
+
+    reference : (on : Machine) → IsLoadedItem on l w m s → FieldsHold l w m s → (r : InputRelocation) → IsReference s r → IsAsked l w s r → (IsLinkedAlone l s r → ⊥) → (i : ℕ) (d : Decision) → HasDecision l s i r d → ReferenceHolds l w m s r
+    reference machine.X86_64 g f r is asked alone i d has = by_decision k l w m s g f r is asked alone i d has
+    reference machine.AArch64 g f r is asked alone i d has = plain k machine.AArch64 l w m s g f r is asked alone i d has (keeps l s i r d g.on has)
+
+    own : (on : Machine) → IsLoadedItem on l w m s → FieldsHold l w m s → (r : InputRelocation) → IsReference s r → IsLinkedAlone l s r → w.base ≡ 0 → (i : ℕ) (d : Decision) → HasDecision l s i r d → LinkedHolds l w m s r
+    own machine.X86_64 g f r is alone zero i d has = linked_by k l w m s g f r is alone zero i d has
+    own machine.AArch64 g f r is alone zero i d has = linked_plain k machine.AArch64 l w m s g f r is alone zero i d has (keeps l s i r d g.on has)

@@ -1,6 +1,6 @@
 -- Bytes around what is rewritten are the input's: those of instructions that are kept, and those of none.
 use Rattle.std.proofs.Common.{◌≡◌, ℕ, ◌+◌, ◌-◌, ◌<◌, ◌≤◌, ◌⊎◌, inl, inr, Bool, true, false, List, [], ◌∷◌, length, get_or, slice_range, refl, sym, ap, ◌∙◌, arith, subst}
-use Rattle.std.specs.Prelude.{pos, not, ◌||◌, All, Contains, Option, Some, None, ◌==◌, if◌then◌else◌, slice_get}
+use Rattle.std.specs.Prelude.{pos, ◌≢◌, not, ◌||◌, All, Contains, Option, Some, None, ◌==◌, if◌then◌else◌, slice_get}
 use Rattle.std.specs.List.{list_all, range_with_len}
 use Rattle.std.proofs.lemmas.Bool.{and_parts, cases_lt}
 use Rattle.std.proofs.lemmas.Option.{get_or_from_slice_get, slice_get_within, slice_get-get_or}
@@ -42,17 +42,19 @@ use Rattle.wild_loader.specs.declared.memory.Memory.{Memory}
 use Rattle.wild_loader.specs.declared.world.World.{World}
 use Rattle.wild_geometry.specs.Loaded.{IsDecided, InNoSite, InMemory, number_at, HasDecision}
 use Rattle.wild_geometry.specs.MachineFacts.{RowsAreRead}
-use Rattle.wild_references.specs.Laws.{KeepsInstruction, IsLoadedItem}
+use Rattle.wild_references.specs.Laws.{KeepsInstruction, IsKeptReference, IsLoadedItem}
 use Rattle.wild_references.proofs.KnownRows.{row_fits}
+use Rattle.wild_references.proofs.SequenceParts.{in_sequence}
+use Rattle.wild_references.proofs.KeptAArch64.{run_is_kept}
 use Rattle.wild_loader.specs.Instruction as code
 use Rattle.wild_types.specs.Item.{Item}
-use Rattle.wild_meaning.specs.Item.{place_at, IsReference}
+use Rattle.wild_meaning.specs.Item.{IsReference}
 use Rattle.wild_meaning.specs.Field.{formula_of, form_width, InNoField, IsInputByte}
 use Rattle.wild_meaning.specs.Sequence.{Partner as CallField, Instruction, size_of, IsOwnByte, instructions_of}
-use Rattle.wild_meaning.specs.Template.{IsInstruction, IsSingle, IsTemplate}
+use Rattle.wild_meaning.specs.Template.{IsInstruction, IsSingle, IsOfSequence, IsTemplate}
 use Rattle.wild_meaning.specs.Reference.{IsOther}
-use Rattle.wild_meaning.proofs.PairLemmas.{IsDouble, as_double, only_one}
-use Rattle.wild_references.specs.EffectLaws.{IsBesideField, RewrittenStand, InstructionsAreKept, SequenceIsKept, SequencesAreKept, OthersAreKept}
+use Rattle.wild_meaning.proofs.PairLemmas.{IsDouble, as_double, PairOf, as_pair, only_one, one_of_two}
+use Rattle.wild_references.specs.EffectLaws.{IsBesideField, RewrittenStand, InstructionsAreKept, IsKeptAt, SequencesAreKept, OthersAreKept}
 use Rattle.wild_references.proofs.WindowRows.{width_by, width_of, call_width, call_width_is}
 use Rattle.wild_references.proofs.WindowSites.{site_is}
 use Rattle.wild_references.proofs.WindowFields.{partner_there, kept_field, kept_width, window_is}
@@ -255,7 +257,7 @@ record IsKeptHere (l : Layout) (s : Item) (start : ℕ) (o : Instruction) : Type
   call : (p : CallField) → Contains o.partners p → FieldIsKept l s (start + p.field) p.width
   number : Contains o.numbers own.relocation.number
 
-known_filled : (l : Layout) (s : Item) (r : InputRelocation) (start : ℕ) (o : Instruction) → l.machine ≡ machine.X86_64 → IsInstruction l s r start o → IsFilled o
+pub known_filled : (l : Layout) (s : Item) (r : InputRelocation) (start : ℕ) (o : Instruction) → l.machine ≡ machine.X86_64 → IsInstruction l s r start o → IsFilled o
 known_filled l s r start o x86 t = is_filled o (subst (λ (m : Machine). Contains (instructions_of m) o) x86 t.known)
 
 single_kept : (l : Layout) (s : Item) (i : ℕ) (r : InputRelocation) (d : Decision) (start : ℕ) (o : Instruction) → l.machine ≡ machine.X86_64 → HasDecision l s i r d → KeepsInstruction d → IsSingle l s r start o → IsKeptHere l s start o
@@ -375,7 +377,7 @@ instructions_are_kept agree stand machine.AArch64 l w m s h i r d has keeps star
 -- ---- sequences
 
 -- memory has bytes at a field that is kept
-bytes_there : (l : Layout) (w : World) (m : Memory) (s : Item) (i : ℕ) (r : InputRelocation) (d : Decision) → IsLoadedItem machine.X86_64 l w m s → HasDecision l s i r d → KeepsInstruction d → (bs : List ℕ) × (length bs ≡ width_of r.number) × Holds m (w.base + s.address + r.offset) bs
+pub bytes_there : (l : Layout) (w : World) (m : Memory) (s : Item) (i : ℕ) (r : InputRelocation) (d : Decision) → IsLoadedItem machine.X86_64 l w m s → HasDecision l s i r d → KeepsInstruction d → (bs : List ℕ) × (length bs ≡ width_of r.number) × Holds m (w.base + s.address + r.offset) bs
 bytes_there l w m s i r Nothing h has k = ([], sym (kept_width l s i r Nothing h.on has tt), λ n lt. absurd (omega (arith, lt)))
 bytes_there l w m s i r (Field z v) h has k =
     let bs = (field_site s r.offset z v).bytes in
@@ -388,30 +390,25 @@ bytes_there l w m s i r (Left z n symbol addend) h has k =
 bytes_there l w m s i r (Rewritten row v) h has k = absurd k
 bytes_there l w m s i r Partner h has k = absurd k
 
--- the call's, where one of both keeps the instruction
-call_is_kept : (l : Layout) (w : World) (m : Memory) (s : Item) (i : ℕ) (r : InputRelocation) (d : Decision) (start : ℕ) (o : Instruction) (first : InputRelocation) → IsLoadedItem machine.X86_64 l w m s → HasDecision l s i r d → KeepsInstruction d → (t : IsDouble l s r start o first) → SequenceIsKept l w m s first start t.sequence.partner
-call_is_kept l w m s i r d start o first h has keeps t =
-    let q = t.sequence in
-    let second = t.second in
-    let a = are_kept l s i r d first second start o h.on h.decided has keeps q t.one in
-    let f = known_filled l s first start o h.on q.stands in
-    let bytes = bytes_there l w m s (q.has.index + 1) second a.two h a.has_two a.keeps_two in
-    let place : w.base + s.address + second.offset ≡ place_at w s (start + q.partner.field) = ap (λ (n : ℕ). w.base + s.address + n) q.has.field in
-    record {
-      index = q.has.index;
-      decision = a.one;
-      has = a.has_one;
-      keeps = a.keeps_one;
-      bytes = bytes.0;
-      wide = bytes.1 ∙ partner_width o q.partner second.number f q.calls q.has.number;
-      held = subst (λ (n : ℕ). Holds m n bytes.0) place bytes.2;
-    }
+sequences_kept : (l : Layout) (w : World) (m : Memory) (s : Item) → IsLoadedItem machine.X86_64 l w m s → (i : ℕ) (r : InputRelocation) → IsKeptReference l s i r → (start : ℕ) (o : Instruction) (first : InputRelocation) → (t : IsOfSequence l s r start o first) → (p : InputRelocation) → Contains (first ∷ t.rest) p → IsKeptAt l s p
+sequences_kept l w m s h i r k start o first t p c = by (one_of_two first pair.second p (subst (λ (rs : List InputRelocation). Contains (first ∷ rs) p) pair.is c))
+  where
+    pair : PairOf l s first t.rest start o
+    pair = as_pair l s first t.rest start o h.on t.sequence
+
+    a : AreKept l s first pair.second pair.pair.has.index
+    a = are_kept l s i r k.decision first pair.second start o h.on h.decided k.has k.keeps pair.pair (one_of_two first pair.second r (subst (λ (rs : List InputRelocation). Contains (first ∷ rs) r) pair.is t.one))
+
+    refers : (q : InputRelocation) → Contains (first ∷ t.rest) q → q.number ≢ r_x86_64_none
+    refers q e = (in_sequence l s first t.rest start o t.sequence q e).refers
+
+    by : (p ≡ first) ⊎ (p ≡ pair.second) → IsKeptAt l s p
+    by (inl e) = record { index = pair.pair.has.index; kept = record { decision = a.one; has = subst (λ (x : InputRelocation). HasDecision l s pair.pair.has.index x a.one) (sym e) a.has_one; keeps = a.keeps_one; refers = refers p c } }
+    by (inr e) = record { index = pair.pair.has.index + 1; kept = record { decision = a.two; has = subst (λ (x : InputRelocation). HasDecision l s (pair.pair.has.index + 1) x a.two) (sym e) a.has_two; keeps = a.keeps_two; refers = refers p c } }
 
 pub sequences_are_kept : SequencesAreKept
-sequences_are_kept l w m s h i r d has keeps start o first t p c =
-    let q = as_double l s r start o first h.on t in
-    let same : p ≡ q.sequence.partner = only_one q.sequence.partner p (subst (λ (ps : List CallField). Contains ps p) q.sequence.calls c) in
-    subst (λ (x : CallField). SequenceIsKept l w m s first start x) (sym same) (call_is_kept l w m s i r d start o first h has keeps q)
+sequences_are_kept machine.X86_64 l w m s h i r k start o first t p c = sequences_kept l w m s h i r k start o first t p c
+sequences_are_kept machine.AArch64 l w m s h i r k start o first t p c = run_is_kept l w m s h first t.rest start o t.sequence p c
 
 -- ---- other bytes
 

@@ -1,5 +1,5 @@
--- An instruction whose reference keeps it does what it demands.
-use Rattle.std.proofs.Common.{◌≡◌, ℕ, ◌⊎◌, inl, inr, refl, sym, ap, ◌∙◌, subst}
+-- An instruction whose references keep it does what it demands.
+use Rattle.std.proofs.Common.{◌≡◌, ℕ, ◌⊎◌, inl, inr, ◌∷◌, refl, sym, ap, ◌∙◌, subst, arith}
 use Rattle.std.specs.Prelude.{⊤, List, Some, Contains}
 use Rattle.wild_types.specs.declared.kind.Machine.{Machine}
 use Rattle.wild_types.specs.declared.kind.Machine.TheVariants as machine
@@ -8,17 +8,24 @@ use Rattle.wild_types.specs.declared.layout.Layout.{Layout}
 use Rattle.wild_reloc.specs.Formula.{Slot, Formula, SlotDistance, AddressSlot, ModulePair, OwnModulePair}
 use Rattle.wild_loader.specs.declared.world.World.{World}
 use Rattle.wild_loader.specs.declared.memory.Memory.{Memory}
+use Rattle.wild_loader.specs.Memory.{Holds}
 use Rattle.wild_references.specs.Laws.{FieldHolds, IsKeptReference, FieldsHold, IsLoadedItem}
 use Rattle.wild_meaning.specs.Sequence.{Sort, TargetInSlot, SymbolPair, OwnPair, Instruction, Partner, instructions_of}
 use Rattle.wild_types.specs.Item.{Item}
+use Rattle.wild_meaning.specs.Item.{place_at}
 use Rattle.wild_meaning.specs.Field.{formula_of}
 use Rattle.wild_meaning.specs.Formula.{IsPlaceRelative, TakesAddress, TakesOffset}
 use Rattle.wild_meaning.specs.Template.{IsSingle, IsTemplate, reads, DoesDemanded, IsOfSequence}
-use Rattle.wild_meaning.proofs.PairLemmas.{IsGetterCall, as_double, the_one, counts_by_slot}
+use Rattle.wild_meaning.proofs.PairLemmas.{IsGetterCall, as_pair, as_double, counts_by_slot}
 use Rattle.wild_meaning.specs.Reference.{IsAsked, IsLinkedAlone, HasPlace, GoesByPlace, TakesItself}
 use Rattle.wild_references.specs.EffectLaws.{SequencesAreKept, InstructionsAreKept, KeptInstructionsDo}
-use Rattle.wild_references.proofs.Does.{HasField, PartnersThere, FormulaIs, displaced, formula_is, refers, pair_of, known_formula}
+use Rattle.wild_references.proofs.Does.{HasField, PartnersThere, FormulaIs, displaced, formula_is, pair_of, known_formula}
 use Rattle.wild_references.proofs.Right.{does_demanded}
+use Rattle.wild_references.proofs.KeptTables.{partner_width}
+use Rattle.wild_references.proofs.Kept.{bytes_there, known_filled}
+use Rattle.wild_references.proofs.SinglesAArch64.{lone_word_does}
+use Rattle.wild_references.proofs.RunWords.{IsKeptRun}
+use Rattle.wild_references.proofs.SequencesAArch64.{run_does}
 
 -- ---- the pair of a sequence is asked everywhere
 
@@ -122,22 +129,42 @@ single_does kept l w m s g f i r k asked alone start o t =
 double_does : SequencesAreKept → InstructionsAreKept → (l : Layout) (w : World) (m : Memory) (s : Item) → IsLoadedItem machine.X86_64 l w m s → FieldsHold l w m s → (i : ℕ) (r : InputRelocation) → IsKeptReference l s i r
     → (start : ℕ) (o : Instruction) (first : InputRelocation) → IsOfSequence l s r start o first → DoesDemanded (reads w m) l w m s first start o
 double_does sequences kept l w m s g f i r k start o first part =
-    let t = as_double l s r start o first g.on part in
-    let q = sequences l w m s g i r k.decision k.has k.keeps start o first part t.sequence.partner (the_one o.partners t.sequence.partner t.sequence.calls) in
-    let p = has_pair l s first t.second start o g.on t.sequence in
-    let listed = subst (λ (x : Machine). Contains (instructions_of x) o) g.on t.sequence.stands.known in
-    let reference : IsKeptReference l s q.index first = record { decision = q.decision; has = q.has; keeps = q.keeps; refers = refers o first.number listed t.sequence.stands.number } in
-    let formula = first_known l w m s first start o t.second g.on t.sequence in
-    let field = f.references q.index first reference (first_asked l w s first formula.0 g.on formula.1 p) (first_not_alone l s first p) in
+    let pair = as_pair l s first part.rest start o g.on part.sequence in
+    let t = pair.pair in
+    let p = has_pair l s first pair.second start o g.on t in
+    let here = sequences machine.X86_64 l w m s g i r k start o first part first (0, omega arith, refl) in
+    let call = sequences machine.X86_64 l w m s g i r k start o first part pair.second (subst (λ (rs : List InputRelocation). Contains (first ∷ rs) pair.second) (sym pair.is) (1, omega arith, refl)) in
+    let bytes = bytes_there l w m s call.index pair.second call.kept.decision g call.kept.has call.kept.keeps in
+    let wide = bytes.1 ∙ partner_width o t.partner pair.second.number (known_filled l s first start o g.on t.stands) t.calls t.has.number in
+    let held = subst (λ (n : ℕ). Holds m (place_at w s n) bytes.0) t.has.field bytes.2 in
+    let formula = first_known l w m s first start o pair.second g.on t in
+    let field = f.references here.index first here.kept (first_asked l w s first formula.0 g.on formula.1 p) (first_not_alone l s first p) in
     does_demanded l w m s first start o (record {
       x86 = g.on;
-      stands = t.sequence.stands;
+      stands = t.stands;
       field = as_field l w m s first field;
       own = kept machine.X86_64 l w m s g i r k.decision k.has k.keeps start o first (inr part);
-      partners = subst (λ (ps : List Partner). PartnersThere w m s start ps) (sym t.sequence.calls) ((q.bytes, q.wide, q.held), tt);
+      partners = subst (λ (ps : List Partner). PartnersThere w m s start ps) (sym t.calls) ((bytes.0, wide, held), tt);
     })
 
+-- words of AArch64, alone and in runs
+run_kept : SequencesAreKept → InstructionsAreKept → (l : Layout) (w : World) (m : Memory) (s : Item) → IsLoadedItem machine.AArch64 l w m s → FieldsHold l w m s → (i : ℕ) (r : InputRelocation) → IsKeptReference l s i r → IsAsked l w s r → (IsLinkedAlone l s r → ⊥)
+    → (start : ℕ) (o : Instruction) (first : InputRelocation) → IsOfSequence l s r start o first → IsKeptRun l w m s r start o first
+run_kept sequences kept l w m s g f i r k asked alone start o first t = record {
+  on = g.on;
+  rest = t.rest;
+  sequence = t.sequence;
+  one = t.one;
+  each = λ q c a n. (let h = sequences machine.AArch64 l w m s g i r k start o first t q c in f.references h.index q h.kept a n);
+  asked = asked;
+  alone = alone;
+  own = kept machine.AArch64 l w m s g i r k.decision k.has k.keeps start o first (inr t);
+}
+
 pub kept_do : SequencesAreKept → InstructionsAreKept → KeptInstructionsDo
-kept_do sequences kept l w m s g f i r k asked alone start o first (inl t) =
+kept_do sequences kept machine.X86_64 l w m s g f i r k asked alone start o first (inl t) =
     subst (λ (x : InputRelocation). DoesDemanded (reads w m) l w m s x start o) (sym t.1) (single_does kept l w m s g f i r k asked alone start o t.0)
-kept_do sequences kept l w m s g f i r k asked alone start o first (inr t) = double_does sequences kept l w m s g f i r k start o first t
+kept_do sequences kept machine.X86_64 l w m s g f i r k asked alone start o first (inr t) = double_does sequences kept l w m s g f i r k start o first t
+kept_do sequences kept machine.AArch64 l w m s g f i r k asked alone start o first (inl t) =
+    subst (λ (x : InputRelocation). DoesDemanded (reads w m) l w m s x start o) (sym t.1) (lone_word_does l w m s r start o g.on t.0.stands t.0.single (f.references i r k asked alone))
+kept_do sequences kept machine.AArch64 l w m s g f i r k asked alone start o first (inr t) = run_does l w m s r start o first (run_kept sequences kept l w m s g f i r k asked alone start o first t)

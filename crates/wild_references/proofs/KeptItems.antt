@@ -1,12 +1,12 @@
 -- What the clauses say of a kept item: where it lies, and what its relocations name.
-use Rattle.std.proofs.Common.{◌≡◌, ℕ, ◌+◌, ◌≤◌, ◌^◌, length, true, sym, subst}
+use Rattle.std.proofs.Common.{◌≡◌, ℕ, ◌+◌, ◌^◌, ◌<◌, ◌≤◌, length, true, sym, subst}
 use Rattle.std.specs.Prelude.{All}
 use Rattle.wild_types.specs.declared.input.InputSection.{InputSection}
 use Rattle.wild_types.specs.declared.layout.Layout.{Layout}
 use Rattle.wild_types.specs.Item.{Item, item_of}
 use Rattle.wild_types.specs.Lookups.{allocated}
 use Rattle.wild_layout.specs.Geometry.{IsLaidOut, NamesSymbol}
-use Rattle.wild_layout.specs.Numbers.{AddendFits, NumbersFit}
+use Rattle.wild_layout.specs.Numbers.{AddendFits, InputNumbers, NumbersFit}
 use Rattle.wild_layout.specs.SectionPlaces.{FieldLies, SectionLies}
 use Rattle.wild_meaning.specs.Item.{IsKept, OfSection, IsKeptSection}
 use Rattle.wild_meaning.proofs.BitLemmas.{alloc_bit, kept_is_read}
@@ -18,7 +18,7 @@ pub record ItemLies (l : Layout) (s : Item) : Type 0 where
   pub lies : All (FieldLies l.machine (length s.bytes)) s.relocations
   pub symbols : All (NamesSymbol l) s.relocations
 
-section_lies : (l : Layout) (s : InputSection) → IsLaidOut l → IsKeptSection l s → ItemLies l (item_of s)
+section_lies : (l : Layout) (s : InputSection) → IsLaidOut l → (k : IsKeptSection l s) → ItemLies l (item_of l k.input.file s)
 section_lies l s laid k =
     let lies = each_at (SectionLies l) l s laid.inputs k.input in
     let full : s.size ≡ length s.bytes = sym (lies.bytes (kept_is_read l s k)) in
@@ -34,4 +34,8 @@ item_lies l s laid (OfSection x k e) = subst (ItemLies l) (sym e) (section_lies 
 
 pub addends_fit : (l : Layout) (s : Item) → NumbersFit l → IsKept l s → All AddendFits s.relocations
 addends_fit l s numbers (OfSection x k e) =
-    subst (λ (i : Item). All AddendFits i.relocations) (sym e) (each_at (λ (y : InputSection). All AddendFits y.relocations) l x numbers.addends k.input)
+    subst (λ (i : Item). All AddendFits i.relocations) (sym e) ((each_at InputNumbers l x numbers.inputs k.input).addends)
+
+pub bytes_fit : (l : Layout) (s : Item) → NumbersFit l → IsKept l s → All (λ (b : ℕ). b < 2 ^ 8) s.bytes
+bytes_fit l s numbers (OfSection x k e) =
+    subst (λ (i : Item). All (λ (b : ℕ). b < 2 ^ 8) i.bytes) (sym e) (each_at InputNumbers l x numbers.inputs k.input).bytes

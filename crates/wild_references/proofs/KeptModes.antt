@@ -102,7 +102,7 @@ calls_apart l s i j r q d row v x86 h k number h' number' = by_symbol r.symbol r
 
     by_symbol : (o : Option ℕ) → r.symbol ≡ o → ⊥
     by_symbol None e =
-        elim (kept_cases l s i r d h k) [
+        elim (kept_cases l s i r d x86 h k) [
           | inl own ↦ unnamed_call l s r d x86 number e own.made
           | inr x ↦ (let f : None ≡ Some x.chosen.symbol = sym e ∙ x.chosen.named in cc)
         ]

@@ -5,7 +5,6 @@ use Rattle.std.specs.Prelude.{Contains, Option, Some, None, Ok, Err, ◌==◌, i
 use Rattle.std.proofs.lemmas.Bool.{cases_lt}
 use Rattle.wild_words.specs.Overlay.{Piece, Apart}
 use Rattle.wild_records.specs.Abi.Relocation.{r_x86_64_pc32}
-use Rattle.wild_types.specs.declared.kind.Machine.{Machine}
 use Rattle.wild_types.specs.declared.kind.Machine.TheVariants as machine
 use Rattle.wild_types.specs.declared.input.InputRelocation.{InputRelocation}
 use Rattle.wild_types.specs.Item.{Item}
@@ -18,12 +17,11 @@ use Rattle.wild_relax.specs.RewriteX86_64.{rewrite_of}
 use Rattle.wild_relax.specs.RowSequences.{has_its_sequence}
 use Rattle.wild_relax.specs.Rows.{rows_x86_64, applies, unknown_sequence, standing_x86_64, chosen_x86_64}
 use Rattle.wild_relax.specs.Linked.{keeps_bytes}
-use Rattle.wild_relax.specs.Relaxation.{chosen_of}
 use Rattle.wild_layout.specs.declared.decision.Decision.{Decision}
 use Rattle.wild_layout.specs.declared.decision.Decision.TheVariants.{Nothing, Field, Moved, Left, Rewritten, Partner}
-use Rattle.wild_layout.specs.Choice.{question_of, choice_by, choice_of, choice, takes_next}
-use Rattle.wild_layout.proofs.ChoiceLemmas.{IsChosen, chosen_listed}
-use Rattle.wild_layout.proofs.DecisionLemmas.{IsOwn, decide_nothing, decide_moved, decide_left, decide_field}
+use Rattle.wild_layout.specs.Choice.{question_of, choice_by, choice_of, choice_at, choice, takes_next}
+use Rattle.wild_layout.proofs.ChoiceLemmas.{IsChosen, choice_is, chosen_listed, partner_is_taken}
+use Rattle.wild_layout.proofs.DecisionLemmas.{IsOwn, own_choice, decide_nothing, decide_moved, decide_left, decide_field}
 use Rattle.wild_geometry.specs.Loaded.{IsDecided, HasDecision}
 use Rattle.wild_references.specs.Laws.{KeepsInstruction}
 use Rattle.wild_references.proofs.WindowRows.{width_of}
@@ -58,28 +56,32 @@ pub record IsRowKept (l : Layout) (s : Item) (i : ℕ) (r : InputRelocation) : T
   pub chosen : IsChosen l s r (slice_get s.relocations (i + 1)) row
   pub keeps : keeps_bytes row ≡ true
 
-pub kept_cases : (l : Layout) (s : Item) (i : ℕ) (r : InputRelocation) (d : Decision) → HasDecision l s i r d → KeepsInstruction d → IsOwn l s i r d ⊎ IsRowKept l s i r
-kept_cases l s i r Nothing h k = inl (decide_nothing l s i r h.listed h.decided)
-kept_cases l s i r (Field z v) h k =
+pub kept_cases : (l : Layout) (s : Item) (i : ℕ) (r : InputRelocation) (d : Decision) → l.machine ≡ machine.X86_64 → HasDecision l s i r d → KeepsInstruction d → IsOwn l s i r d ⊎ IsRowKept l s i r
+kept_cases l s i r Nothing x86 h k = inl (decide_nothing l s i r h.listed h.decided)
+kept_cases l s i r (Field z v) x86 h k =
     elim (decide_field l s i r z v h.listed h.decided) [
       | inl own ↦ inl own
-      | inr x ↦ inr (record { row = x.row; chosen = x.chosen; keeps = elim x.keeps [ inl e ↦ rw e refl | inr e ↦ rw e refl ] })
+      | inr (inl x) ↦ inr (record { row = x.row; chosen = x.chosen; keeps = elim x.keeps [ inl e ↦ rw e refl | inr e ↦ rw e refl ] })
+      | inr (inr x) ↦ (let both : machine.AArch64 ≡ machine.X86_64 = sym x.chosen.machine ∙ x86 in cc)
     ]
-kept_cases l s i r (Moved v packed) h k = inl (decide_moved l s i r v packed h.listed h.decided)
-kept_cases l s i r (Left z n symbol addend) h k = inl (decide_left l s i r z n symbol addend h.listed h.decided)
-kept_cases l s i r (Rewritten row v) h k = absurd k
-kept_cases l s i r Partner h k = absurd k
+kept_cases l s i r (Moved v packed) x86 h k = inl (decide_moved l s i r v packed h.listed h.decided)
+kept_cases l s i r (Left z n symbol addend) x86 h k = inl (decide_left l s i r z n symbol addend h.listed h.decided)
+kept_cases l s i r (Rewritten row v) x86 h k = absurd k
+kept_cases l s i r Partner x86 h k = absurd k
 
 -- it begins no sequence that is rewritten
 pub kept_takes_none : (l : Layout) (s : Item) (i : ℕ) (r : InputRelocation) (d : Decision) → HasDecision l s i r d → KeepsInstruction d → takes_next (choice l s i) ≡ true → ⊥
 kept_takes_none l s i r d h k takes =
-    elim (kept_cases l s i r d h k) [
-      | inl own ↦ (let e : choice l s i ≡ Ok None = is_choice ∙ own.choice in let f : takes_next (Ok None) ≡ true = rw e at takes in cc)
+    elim (kept_cases l s i r d x86 h k) [
+      | inl own ↦ (let e : choice l s i ≡ Ok None = ap (choice_at l s i) h.listed ∙ own.choice in let f : takes_next (Ok None) ≡ true = rw e at takes in cc)
       | inr x ↦ (let e : choice l s i ≡ Ok (Some x.row) = is_choice ∙ x.chosen.choice in let f : is_skip (rewrite_of x.row).next ≡ true = rw e at takes in let n = calls_are_alone x.row (chosen_listed l s r (slice_get s.relocations (i + 1)) x.row x.chosen row_fixed each_row_fixed) f in let g : true ≡ false = sym x.keeps ∙ n in cc)
     ]
   where
+    x86 : l.machine ≡ machine.X86_64
+    x86 = (partner_is_taken l s (suc i) takes).3.machine
+
     is_choice : choice l s i ≡ choice_of l s r (slice_get s.relocations (i + 1))
-    is_choice = rw h.listed refl
+    is_choice = choice_is l s i r x86 h.listed
 
 -- ---- no row applies
 
@@ -104,11 +106,11 @@ pub none_applies : (q : Question) (row : Row) → chosen_x86_64 q ≡ Ok None �
 unfolding chosen_x86_64 standing_x86_64
 none_applies q row e c t = none_standing (applies q) rows_x86_64 (not_checked q (standing_x86_64 q) e) row c t
 
-none_by : (l : Layout) (s : Item) (r : InputRelocation) (next : Option InputRelocation) (symbol : ℕ) → l.machine ≡ machine.X86_64 → (r.number == r_x86_64_pc32) ≡ false → choice_by l s r next (Some symbol) ≡ Ok None → chosen_x86_64 (question_of l s r symbol next) ≡ Ok None
+none_by : (l : Layout) (s : Item) (r : InputRelocation) (next : Option InputRelocation) (symbol : ℕ) → (r.number == r_x86_64_pc32) ≡ false → choice_by l s r next (Some symbol) ≡ Ok None → chosen_x86_64 (question_of l s r symbol next) ≡ Ok None
 unfolding choice_by
-none_by l s r next symbol x86 other e = subst (λ (m : Machine). chosen_of m (question_of l s r symbol next) ≡ Ok None) x86 (by (r.number == r_x86_64_pc32) other e)
+none_by l s r next symbol other e = by (r.number == r_x86_64_pc32) other e
   where
-    by : (b : Bool) → b ≡ false → (if b then Ok None else chosen_of l.machine (question_of l s r symbol next)) ≡ Ok None → chosen_of l.machine (question_of l s r symbol next) ≡ Ok None
+    by : (b : Bool) → b ≡ false → (if b then Ok None else chosen_x86_64 (question_of l s r symbol next)) ≡ Ok None → chosen_x86_64 (question_of l s r symbol next) ≡ Ok None
     by true f e = cc
     by false f e = e
 
@@ -120,10 +122,10 @@ not_pc32 n true f e = let g : true ≡ false = rw f at e in cc
 -- relocation does not keep its instruction
 pub no_row_applies : (l : Layout) (s : Item) (i : ℕ) (r : InputRelocation) (d : Decision) (symbol : ℕ) (row : Row) → l.machine ≡ machine.X86_64 → HasDecision l s i r d → KeepsInstruction d → keeps_all r.number ≡ false → r.symbol ≡ Some symbol → Contains rows_x86_64 row → applies (question_of l s r symbol (slice_get s.relocations (i + 1))) row ≡ true → ⊥
 no_row_applies l s i r d symbol row x86 h k other named c t =
-    elim (kept_cases l s i r d h k) [
+    elim (kept_cases l s i r d x86 h k) [
       | inl own ↦
-          (let none = subst (λ (o : Option ℕ). choice_by l s r (slice_get s.relocations (i + 1)) o ≡ Ok None) named own.choice in
-          none_applies (question_of l s r symbol (slice_get s.relocations (i + 1))) row (none_by l s r (slice_get s.relocations (i + 1)) symbol x86 (not_pc32 r.number (r.number == r_x86_64_pc32) refl other) none) c t)
+          (let none = subst (λ (o : Option ℕ). choice_by l s r (slice_get s.relocations (i + 1)) o ≡ Ok None) named (own_choice l s i r d own x86) in
+          none_applies (question_of l s r symbol (slice_get s.relocations (i + 1))) row (none_by l s r (slice_get s.relocations (i + 1)) symbol (not_pc32 r.number (r.number == r_x86_64_pc32) refl other) none) c t)
       | inr x ↦
           (let n = kept_number x.row (chosen_listed l s r (slice_get s.relocations (i + 1)) x.row x.chosen row_fixed each_row_fixed) x.keeps in
           let m : keeps_all r.number ≡ true = ap keeps_all x.chosen.number ∙ n in

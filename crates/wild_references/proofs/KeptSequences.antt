@@ -16,7 +16,7 @@ use Rattle.wild_layout.specs.declared.decision.Decision.{Decision}
 use Rattle.wild_layout.specs.declared.decision.Decision.TheVariants.{Nothing, Field, Moved, Left, Rewritten, Partner}
 use Rattle.wild_layout.specs.Choice.{choice_of, choice, takes_next, is_partner}
 use Rattle.wild_layout.specs.Decide.{decide}
-use Rattle.wild_layout.proofs.ChoiceLemmas.{choice_row, chosen_listed, partner_number, IsSequence as Taking}
+use Rattle.wild_layout.proofs.ChoiceLemmas.{choice_row, choice_is, chosen_listed, partner_number, IsSequence as Taking}
 use Rattle.wild_layout.proofs.DecisionLemmas.{decide_rewritten, decide_partner}
 use Rattle.wild_geometry.specs.Loaded.{IsDecided, HasDecision}
 use Rattle.wild_references.specs.Laws.{KeepsInstruction}
@@ -55,8 +55,8 @@ taken_is l s i r h =
     by : (j : ℕ) → i ≡ j + 1 → (row : Row) → Taking l s j row → IsTaken l s i r
     by j e row t =
         let listed : slice_get s.relocations (j + 1) ≡ Some r = subst (λ (k : ℕ). slice_get s.relocations k ≡ Some r) e h.listed in
-        let c = choice_row l s t.relocation (Some r) row (subst (λ (o : Option InputRelocation). choice_of l s t.relocation o ≡ Ok (Some row)) listed t.is) in
-        let made : choice l s j ≡ Ok (Some row) = rw t.listed t.is in
+        let c = choice_row l s t.relocation (Some r) row t.machine (subst (λ (o : Option InputRelocation). choice_of l s t.relocation o ≡ Ok (Some row)) listed t.is) in
+        let made : choice l s j ≡ Ok (Some row) = choice_is l s j t.relocation t.machine t.listed ∙ t.is in
         record { before = j; next = e; takes = ap takes_next made ∙ t.takes; form = call_form row; call = partner_number l s t.relocation r row c t.takes }
 
 -- a relocation behind one that takes it along has no decision of its own
@@ -160,7 +160,7 @@ first_kept l s first second start o i f k = by (keeps_or f.one)
         let w = decide_rewritten l s i first row v h.listed h.decided in
         let pair : is_first row.number ≡ true = subst (λ (n : ℕ). is_first n ≡ true) w.chosen.number f.pair in
         let skips = (is_fixed row (chosen_listed l s first (slice_get s.relocations (i + 1)) row w.chosen row_fixed each_row_fixed) w.changes).skips pair in
-        let made : choice l s i ≡ Ok (Some row) = rw h.listed w.chosen.choice in
+        let made : choice l s i ≡ Ok (Some row) = choice_is l s i first w.chosen.machine h.listed ∙ w.chosen.choice in
         let taken = next_is_partner l s i (ap takes_next made ∙ skips) in
         let same : Ok f.two ≡ Ok Partner = sym f.has_two.decided ∙ taken in
         let e : f.two ≡ Partner = cc in

@@ -4,6 +4,7 @@ mod KnownRows
 mod Rows
 mod Written
 mod KeptItems
+mod Paged
 mod Fields
 mod Moves
 mod Values
@@ -33,6 +34,7 @@ mod TermKinds
 pub mod OwnSymbols
 mod Descriptors
 mod RowFields
+mod BranchFields
 mod AddressKinds
 mod EntryKinds
 mod Alone
@@ -51,6 +53,8 @@ mod KeptTables
 mod KeptRelocations
 mod KeptModes
 mod KeptSequences
+mod SequenceParts
+mod KeptAArch64
 mod Kept
 mod RewrittenDecisions
 mod TableRows
@@ -77,7 +81,19 @@ mod RewrittenWhole
 mod RewrittenFollowed
 mod FilledAArch64
 mod SinglesAArch64
+mod OneAddress
 mod RunsAArch64
-mod KeptAArch64
+mod WordsAArch64
+mod RunWords
+mod SequencesAArch64
+mod RewrittenRuns
+mod RewrittenSequences
+mod RewrittenCode
+mod RewrittenOffsets
+mod RewrittenNear
+mod RewrittenDescriptors
+mod RewrittenSlots
+mod RewrittenWords
+mod RewrittenHold
 mod KeptDo
 mod Items

@@ -27,6 +27,7 @@ use Rattle.wild_layout.specs.Geometry.{NamesSymbol}
 use Rattle.wild_layout.specs.Numbers.{AddendFits}
 use Rattle.wild_layout.specs.Values.{term_of, is_symbol}
 use Rattle.wild_layout.proofs.DecideLemmas.{field_has}
+use Rattle.wild_layout.proofs.DecisionLemmas.{own_choice}
 use Rattle.wild_loader.specs.declared.world.World.{World}
 use Rattle.wild_loader.specs.declared.memory.Memory.{Memory}
 use Rattle.wild_meaning.specs.Field.{formula_of, FieldReads}
@@ -42,6 +43,7 @@ use Rattle.wild_references.proofs.KnownRows.{IsSeen, descriptor_is}
 use Rattle.wild_references.proofs.Referents.{is_address, sized_is}
 use Rattle.wild_references.proofs.ValueKinds.{plain_given}
 use Rattle.wild_references.proofs.RowFields.{row_holds}
+use Rattle.wild_references.proofs.BranchFields.{branch_holds}
 use Rattle.wild_references.proofs.Treated.{treated_by, suits_by, symbol_named}
 use Rattle.wild_references.proofs.Written.{IsValue, IsAddress, IsLeftField, IsCall, Writes, row_here, relocation_written}
 
@@ -124,7 +126,7 @@ no_offset l w m s i r h v kind mode =
     let number = descriptor_is r.number f.row (row_here l r.number f.row x86 f.known) kind in
     let inside = field_within l w m s i r v.size h v.plain.has.listed (field_has l s r v.size v.value f) in
     let plain = plain_given l r f.row (place_of s.address r) f.term f.given (ap (λ (k : RelocationKind). is_symbol (expression_of k).term) kind) in
-    descriptor_kept l s r (slice_get s.relocations (i + 1)) named.0 f.term v.plain.own.choice x86 h.placed.symbols named.1 number (subst (λ (k : RelocationKind). term_of l r.symbol k ≡ Ok f.term) kind plain) (omega (arith, inside)) mode
+    descriptor_kept l s r (slice_get s.relocations (i + 1)) named.0 f.term (own_choice l s i r _ v.plain.own x86) x86 h.placed.symbols named.1 number (subst (λ (k : RelocationKind). term_of l r.symbol k ≡ Ok f.term) kind plain) (omega (arith, inside)) mode
 
 -- what memory has of a value: the value itself, or a number with its bits below a page
 record IsSeenValue (l : Layout) (w : World) (m : Memory) (s : Item) (i : ℕ) (r : InputRelocation) (v : IsValue l s i r) : Type 0 where
@@ -196,7 +198,7 @@ call_holds l w m s i r h c = record {
   formula = formula NoValue NoField;
   known = c.known;
   value = 0;
-  gives = λ mode. (let x86 = mode_machine l mode.0 in call_kept l s r (slice_get s.relocations (i + 1)) c.symbol c.plain.own.choice x86 c.named (c.number x86) mode);
+  gives = λ mode. (let x86 = mode_machine l mode.0 in call_kept l s r (slice_get s.relocations (i + 1)) c.symbol (own_choice l s i r _ c.plain.own x86) x86 c.named (c.number x86) mode);
   field = no_bytes w m s r;
 }
 
@@ -205,7 +207,8 @@ written_holds l w m s i r h asked alone (inl v) = value_holds l w m s i r h aske
 written_holds l w m s i r h asked alone (inr (inl a)) = address_holds l w m s i r h alone a
 written_holds l w m s i r h asked alone (inr (inr (inl f))) = left_holds l w m s i r h f
 written_holds l w m s i r h asked alone (inr (inr (inr (inl c)))) = call_holds l w m s i r h c
-written_holds l w m s i r h asked alone (inr (inr (inr (inr f)))) = (row_holds l w m s i r h asked f).holds
+written_holds l w m s i r h asked alone (inr (inr (inr (inr (inl f))))) = (row_holds l w m s i r h asked f).holds
+written_holds l w m s i r h asked alone (inr (inr (inr (inr (inr f))))) = (branch_holds l w m s i r h asked f).holds
 
 pub field_holds : (l : Layout) (w : World) (m : Memory) (s : Item) (i : ℕ) (r : InputRelocation) → IsItemLoaded l w m s → IsKeptReference l s i r → IsAsked l w s r → (IsLinkedAlone l s r → ⊥) → FieldHolds l w m s r
 field_holds l w m s i r h k asked alone = written_holds l w m s i r h asked alone (relocation_written l s i r k.decision h.tables.agree k.has k.keeps k.refers)
@@ -335,7 +338,8 @@ written_links l w m s i r h a zero (inl v) = value_links l w m s i r h a zero v
 written_links l w m s i r h a zero (inr (inl v)) = address_links l w m s i r h a zero v
 written_links l w m s i r h a zero (inr (inr (inl f))) = absurd (left_follows l w m s i r h.placed (holds_at (NamesSymbol l) s.relocations i r f.plain.has.listed h.symbols) f f.fits.known a)
 written_links l w m s i r h a zero (inr (inr (inr (inl c)))) = absurd (takes_none l s r (formula NoValue NoField) c.known (λ o. o) (λ o. o) a)
-written_links l w m s i r h a zero (inr (inr (inr (inr f)))) = (let held = row_holds l w m s i r h (λ e. zero) f in absurd (takes_none l s r held.holds.formula held.holds.known held.offset held.address a))
+written_links l w m s i r h a zero (inr (inr (inr (inr (inl f))))) = (let held = row_holds l w m s i r h (λ e. zero) f in absurd (takes_none l s r held.holds.formula held.holds.known held.offset held.address a))
+written_links l w m s i r h a zero (inr (inr (inr (inr (inr f))))) = (let held = branch_holds l w m s i r h (λ e. zero) f in absurd (takes_none l s r held.holds.formula held.holds.known held.offset held.address a))
 
 pub field_links : (l : Layout) (w : World) (m : Memory) (s : Item) (i : ℕ) (r : InputRelocation) → IsItemLoaded l w m s → IsKeptReference l s i r → IsLinkedAlone l s r → w.base ≡ 0 → FieldIsLinked l w m s r
 field_links l w m s i r h k a zero = written_links l w m s i r h a zero (relocation_written l s i r k.decision h.tables.agree k.has k.keeps k.refers)

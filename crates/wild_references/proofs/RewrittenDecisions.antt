@@ -1,8 +1,9 @@
 -- What is decided where a row stands: no sequence before takes the relocation along, and none is refused.
-use Rattle.std.proofs.Common.{◌≡◌, ℕ, suc, ◌+◌, inl, inr, true, false, refl, arith, subst}
+use Rattle.std.proofs.Common.{◌≡◌, ℕ, suc, ◌+◌, inl, inr, true, false, refl, ap, ◌∙◌, arith, subst}
 use Rattle.std.specs.Prelude.{◌==◌, Option, Some, Ok, Err, slice_get}
 use Rattle.std.proofs.lemmas.Bool.{cases_Bool}
 use Rattle.wild_records.specs.Abi.Relocation.{r_x86_64_pc32}
+use Rattle.wild_types.specs.declared.kind.Machine.{Machine}
 use Rattle.wild_types.specs.declared.kind.Machine.TheVariants as machine
 use Rattle.wild_types.specs.declared.input.InputRelocation.{InputRelocation}
 use Rattle.wild_types.specs.Item.{Item}
@@ -14,8 +15,9 @@ use Rattle.wild_relax.specs.Rows.{chosen_x86_64}
 use Rattle.wild_layout.specs.declared.decision.Decision.{Decision}
 use Rattle.wild_layout.specs.declared.decision.Decision.TheVariants.{Rewritten}
 use Rattle.wild_relax.specs.Rewrite.{is_skip}
-use Rattle.wild_layout.specs.Choice.{question_of, choice_by, choice_of, is_partner}
+use Rattle.wild_layout.specs.Choice.{question_of, choice_by, choice_of, choice_on, takes_next, is_partner}
 use Rattle.wild_layout.specs.Decide.{decide_with, decide}
+use Rattle.wild_layout.proofs.ChoiceLemmas.{choice_is as first_choice}
 use Rattle.wild_layout.proofs.DecisionLemmas.{refused}
 
 -- ---- decisions
@@ -30,9 +32,11 @@ rewritten_alone l s i row v h =
     ]
 
 -- a relocation whose row stands, and that belongs to no sequence before it, has a decision by that row
-pub decided_with : (l : Layout) (s : Item) (i : ℕ) (r : InputRelocation) (d : Decision) → slice_get s.relocations i ≡ Some r → is_partner l s i ≡ false → decide l s i ≡ Ok d → decide_with l s r (choice_of l s r (slice_get s.relocations (i + 1))) ≡ Ok d
+pub decided_with : (l : Layout) (s : Item) (i : ℕ) (r : InputRelocation) (d : Decision) → l.machine ≡ machine.X86_64 → slice_get s.relocations i ≡ Some r → is_partner l s i ≡ false → decide l s i ≡ Ok d → decide_with l s r (choice_of l s r (slice_get s.relocations (i + 1))) ≡ Ok d
 unfolding decide
-decided_with l s i r d listed alone h = rw (alone, listed) at h
+decided_with l s i r d x86 listed alone h =
+    let here : decide_with l s r (choice_on l.machine l s i r) ≡ Ok d = rw (alone, listed) at h in
+    subst (λ (m : Machine). decide_with l s r (choice_on m l s i r) ≡ Ok d) x86 here
 
 pub not_refused : (l : Layout) (s : Item) (r : InputRelocation) (e : UnknownSequence) (d : Decision) → decide_with l s r (Err e) ≡ Ok d → ⊥
 not_refused l s r e d h = refused l s r e d h
@@ -40,13 +44,13 @@ not_refused l s r e d h = refused l s r e d h
 -- ---- the choice
 
 -- the choice of a relocation of another type than R_X86_64_PC32
-pub choice_is : (l : Layout) (s : Item) (r : InputRelocation) (next : Option InputRelocation) (k : ℕ) → l.machine ≡ machine.X86_64 → r.symbol ≡ Some k → (r.number == r_x86_64_pc32) ≡ false → choice_of l s r next ≡ chosen_x86_64 (question_of l s r k next)
+pub choice_is : (l : Layout) (s : Item) (r : InputRelocation) (next : Option InputRelocation) (k : ℕ) → r.symbol ≡ Some k → (r.number == r_x86_64_pc32) ≡ false → choice_of l s r next ≡ chosen_x86_64 (question_of l s r k next)
 unfolding choice_by
-choice_is l s r next k x86 named other = rw (named, other, x86) refl
+choice_is l s r next k named other = rw (named, other) refl
 
 -- a relocation whose row writes a sequence takes the next one along
-pub takes_along : (l : Layout) (s : Item) (j : ℕ) (r : InputRelocation) (row : Row) → slice_get s.relocations j ≡ Some r → choice_of l s r (slice_get s.relocations (j + 1)) ≡ Ok (Some row) → is_skip (rewrite_of row).next ≡ true → is_partner l s (j + 1) ≡ true
-takes_along l s j r row listed chosen skips =
-    let here : is_partner l s (suc j) ≡ true = rw (listed, chosen) skips in
+pub takes_along : (l : Layout) (s : Item) (j : ℕ) (r : InputRelocation) (row : Row) → l.machine ≡ machine.X86_64 → slice_get s.relocations j ≡ Some r → choice_of l s r (slice_get s.relocations (j + 1)) ≡ Ok (Some row) → is_skip (rewrite_of row).next ≡ true → is_partner l s (j + 1) ≡ true
+takes_along l s j r row x86 listed chosen skips =
+    let here : is_partner l s (suc j) ≡ true = ap takes_next (first_choice l s j r x86 listed ∙ chosen) ∙ skips in
     let e : suc j ≡ j + 1 = omega arith in
     subst (λ (k : ℕ). is_partner l s k ≡ true) e here

@@ -96,23 +96,23 @@ first_alone l s j r listed h =
     by_row : (k : ℕ) (w : Row) → IsSequence l s k w → slice_get s.relocations (k + 1) ≡ Some r → ⊥
     by_row k w q at =
         let is = subst (λ (o : Option InputRelocation). choice_of l s q.relocation o ≡ Ok (Some w)) at q.is in
-        no_call (call_form w) r.number h (partner_number l s q.relocation r w (choice_row l s q.relocation (Some r) w is) q.takes)
+        no_call (call_form w) r.number h (partner_number l s q.relocation r w (choice_row l s q.relocation (Some r) w q.machine is) q.takes)
 
 pub takes_call : (l : Layout) (s : Item) (j k : ℕ) (r : InputRelocation) (w : Row) (n : ℕ) → l.machine ≡ machine.X86_64 → IsDecided l s → slice_get s.relocations j ≡ Some r → r.symbol ≡ Some k → is_first r.number ≡ true → n < length rows_x86_64 → get_or rows_x86_64 n w ≡ w → applies (question_of l s r k (slice_get s.relocations (j + 1))) w ≡ true → is_partner l s (j + 1) ≡ true
 takes_call l s j k r w n x86 decided listed named h lt e stands =
     let next = slice_get s.relocations (j + 1) in
     let q = question_of l s r k next in
     let x = standing_there q w n lt e stands in
-    let choice = choice_is l s r next k x86 named (other_type r.number h) in
+    let choice = choice_is l s r next k named (other_type r.number h) in
     elim (chosen_or_not q x.0 x.1) [
       | inl chosen ↦
           (let is : choice_of l s r next ≡ Ok (Some x.0) = choice ∙ chosen in
-          let c = choice_row l s r next x.0 is in
+          let c = choice_row l s r next x.0 x86 is in
           let number : is_first x.0.number ≡ true = subst (λ (y : ℕ). is_first y ≡ true) c.number h in
-          takes_along l s j r x.0 listed is (implied _ _ (chosen_listed l s r next x.0 c takes_it each_takes) number))
+          takes_along l s j r x.0 x86 listed is (implied _ _ (chosen_listed l s r next x.0 c takes_it each_takes) number))
       | inr none ↦
           (let d = decided.each j (slice_get_within s.relocations j r listed) in
-          let made = decided_with l s j r d.0 listed (first_alone l s j r listed h) d.1 in
+          let made = decided_with l s j r d.0 x86 listed (first_alone l s j r listed h) d.1 in
           absurd (not_refused l s r none.0 d.0 (subst (λ (y : Result (Option Row) UnknownSequence). decide_with l s r y ≡ Ok d.0) (choice ∙ none.1) made)))
     ]
   where

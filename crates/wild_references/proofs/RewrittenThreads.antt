@@ -52,7 +52,7 @@ pub record IsThreadOperand (l : Layout) (w : World) (symbol : Option ℕ) (n : �
   pub offset : IsOffset l w symbol n
   pub small : n < 2 ^ 64
 
-offset_at : (l : Layout) (w : World) (k n : ℕ) (symbol : Option ℕ) → symbol ≡ Some k → IsOffset l w symbol n → IsThreadOperand l w symbol n
+pub offset_at : (l : Layout) (w : World) (k n : ℕ) (symbol : Option ℕ) → symbol ≡ Some k → IsOffset l w symbol n → IsThreadOperand l w symbol n
 offset_at l w k n symbol e t = record { offset = t; small = thread_below l w k n (subst (λ (o : Option ℕ). IsOffset l w o n) e t) }
 
 pub record LandsOffset (l : Layout) (w : World) (r : InputRelocation) (v : ℕ) : Type 0 where

@@ -88,7 +88,7 @@ no_library (output.DynamicExecutable any) h = refl
 no_library output.SharedObject h = cc
 no_library output.PartialObject h = cc
 
-pointer_value : (l : Layout) (s : Item) (k : ℕ) (symbol : Option ℕ) → symbol ≡ Some k → is_executable l.kind ≡ true → kind_treatment l s.flags wide_type symbol wide kinds.TpOff ≡ treatments.Value wide
+pub pointer_value : (l : Layout) (s : Item) (k : ℕ) (symbol : Option ℕ) → symbol ≡ Some k → is_executable l.kind ≡ true → kind_treatment l s.flags wide_type symbol wide kinds.TpOff ≡ treatments.Value wide
 pointer_value l s k symbol e program = rw e (by_barred (allocated s.flags && is_shared_object l.kind) (and_right (allocated s.flags) (is_shared_object l.kind) (no_library l.kind program)))
 
 slot_value : (l : Layout) (s : Item) (k : ℕ) (symbol : Option ℕ) → symbol ≡ Some k → kind_treatment l s.flags wide_type symbol wide kinds.GotTpOff ≡ treatments.Value wide

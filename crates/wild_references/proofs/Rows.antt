@@ -4,8 +4,6 @@ use Rattle.std.specs.Prelude.{Option, Some, None, Ok, slice_get, ◌&&◌, ◌||
 use Rattle.std.proofs.lemmas.Bool.{cases_Bool}
 use Rattle.std.proofs.lemmas.Bool.Decides.{nat_tests}
 use Rattle.wild_records.specs.Abi.Relocation.{r_x86_64_pc32}
-use Rattle.wild_types.specs.declared.kind.Machine.{Machine}
-use Rattle.wild_types.specs.declared.kind.Machine.TheVariants as machine
 use Rattle.wild_types.specs.declared.input.InputRelocation.{InputRelocation}
 use Rattle.wild_types.specs.Item.{Item}
 use Rattle.wild_types.specs.declared.layout.Layout.{Layout}
@@ -17,7 +15,6 @@ use Rattle.wild_relax.specs.declared.row.Row.{Row}
 use Rattle.wild_relax.specs.First.{first_standing, checked}
 use Rattle.wild_relax.specs.Pattern.{stands_before, stands_at}
 use Rattle.wild_relax.specs.Question.{Question, relocation_of, minus_four}
-use Rattle.wild_relax.specs.Relaxation.{chosen_of}
 use Rattle.wild_relax.specs.RowSymbols.{takes_symbol, takes_value}
 use Rattle.wild_relax.specs.RowSequences.{has_its_sequence}
 use Rattle.wild_relax.specs.Rows.{rows_x86_64, applies, unknown_sequence, standing_x86_64, chosen_x86_64}
@@ -74,10 +71,10 @@ pub chosen_row : (l : Layout) (s : Item) (r : InputRelocation) (next : Option In
 chosen_row l s r next row c = applied (question_of l s r c.symbol next) row (chosen_is (question_of l s r c.symbol next) row c.chosen).here
 
 -- where none is chosen no row stands
-pub unchosen : (l : Layout) (s : Item) (r : InputRelocation) (next : Option InputRelocation) (i n : ℕ) (row : Row) → choice_of l s r next ≡ Ok None → l.machine ≡ machine.X86_64 → r.symbol ≡ Some i → (r.number == r_x86_64_pc32) ≡ false → slice_get rows_x86_64 n ≡ Some row → applies (question_of l s r i next) row ≡ false
+pub unchosen : (l : Layout) (s : Item) (r : InputRelocation) (next : Option InputRelocation) (i n : ℕ) (row : Row) → choice_of l s r next ≡ Ok None → r.symbol ≡ Some i → (r.number == r_x86_64_pc32) ≡ false → slice_get rows_x86_64 n ≡ Some row → applies (question_of l s r i next) row ≡ false
 unfolding choice_by
-unchosen l s r next i n row h x86 named other listed =
+unchosen l s r next i n row h named other listed =
     let q = question_of l s r i next in
     let here : choice_by l s r next (Some i) ≡ Ok None = subst (λ (o : Option ℕ). choice_by l s r next o ≡ Ok None) named h in
-    let by_machine : chosen_of l.machine q ≡ Ok None = rw other at here in
-    not_chosen q n row (subst (λ (x : Machine). chosen_of x q ≡ Ok None) x86 by_machine) listed
+    let none : chosen_x86_64 q ≡ Ok None = rw other at here in
+    not_chosen q n row none listed

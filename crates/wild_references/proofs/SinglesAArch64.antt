@@ -1,11 +1,10 @@
 -- An instruction of one word of AArch64 whose reference keeps it does what it demands.
-use Rattle.std.proofs.Common.{◌≡◌, ℕ, zero, suc, ◌+◌, ◌-◌, ◌%◌, ◌^◌, ◌<◌, ◌⊎◌, inl, inr, true, false, List, [], ◌∷◌, length, refl, sym, ap, ◌∙◌, subst, arith, eqb-true, eq-eqb}
-use Rattle.std.specs.Prelude.{◌==◌, ◌++◌, map, slice_range, slice_index_or, Some, Contains}
+use Rattle.std.proofs.Common.{◌≡◌, ℕ, zero, suc, ◌+◌, ◌-◌, ◌%◌, ◌^◌, ◌<◌, ◌⊎◌, inl, inr, true, List, [], ◌∷◌, length, refl, sym, ap, ◌∙◌, subst, arith}
+use Rattle.std.specs.Prelude.{◌++◌, map, slice_range, slice_index_or, Some, Contains}
 use Rattle.std.specs.Int.{w64, cast_unsigned}
-use Rattle.std.proofs.lemmas.Bool.{cases_Bool}
 use Rattle.wild_words.specs.Words.{number}
 use Rattle.wild_words.proofs.Basics.{length-range}
-use Rattle.wild_records.specs.Abi.Relocation.{r_aarch64_jump26, r_aarch64_call26, r_aarch64_tlsle_movw_tprel_g1, r_aarch64_tlsle_movw_tprel_g2}
+use Rattle.wild_records.specs.Abi.Relocation.{r_aarch64_jump26, r_aarch64_call26}
 use Rattle.wild_types.specs.declared.kind.Machine.{Machine}
 use Rattle.wild_types.specs.declared.kind.Machine.TheVariants as machine
 use Rattle.wild_types.specs.declared.input.InputRelocation.{InputRelocation}
@@ -13,24 +12,19 @@ use Rattle.wild_types.specs.declared.layout.Layout.{Layout}
 use Rattle.wild_types.specs.Item.{Item}
 use Rattle.wild_reloc.specs.Formula.{Formula, formula, Bits, Imm26Field, WithinPower, StubDistance, others, Keeps}
 use Rattle.wild_reloc.specs.FormulaAArch64.{aarch64_formula}
-use Rattle.wild_aarch64.specs.Slice.{stands}
-use Rattle.wild_aarch64.specs.Forms.{movn}
-use Rattle.wild_aarch64.specs.Filled.{forms_filled}
 use Rattle.wild_aarch64.specs.Effect.{words_of}
 use Rattle.wild_loader.specs.declared.world.World.{World}
 use Rattle.wild_loader.specs.declared.memory.Memory.{Memory}
 use Rattle.wild_loader.specs.Memory.{Holds}
-use Rattle.wild_meaning.specs.WordsAArch64.{is_of, is_filled, filled_numbers, with_zeros}
-use Rattle.wild_meaning.specs.RefusalsAArch64.{OtherWordsStay}
+use Rattle.wild_meaning.specs.WordsAArch64.{is_filled, filled_numbers}
 use Rattle.wild_meaning.specs.Item.{place_at}
 use Rattle.wild_meaning.specs.Field.{formula_of, FieldReads}
 use Rattle.wild_meaning.specs.Formula.{Gives}
 use Rattle.wild_meaning.specs.Sequence.{Target, FieldBits, Instruction, of_word, runs_of_words, instructions_of}
 use Rattle.wild_meaning.specs.Template.{IsInstruction, counts_from, reads, effect_of, demand_of, bits_of, DoesDemanded}
 use Rattle.wild_references.specs.Laws.{FieldHolds}
-use Rattle.wild_references.specs.WordsAArch64.{word_at, IsNoMovn}
 use Rattle.wild_references.proofs.Right.{low_place}
-use Rattle.wild_references.proofs.FilledAArch64.{word_does, width_four, first_of, branch_does}
+use Rattle.wild_references.proofs.FilledAArch64.{word_does, width_four, branch_does}
 
 -- ---- the instructions of one word
 
@@ -65,25 +59,10 @@ the_number n m c = by c.0 c.1 c.2
     by zero lt e = sym e
     by (suc k) lt e = absurd (omega (arith, lt))
 
--- ---- `movn`
-
-zeros_stay : OtherWordsStay → (s : Item) (r : InputRelocation) → IsNoMovn s r → is_of (forms_filled r.number) (word_at s r) ≡ true → with_zeros (word_at s r) ≡ word_at s r
-zeros_stay stay s r none of =
-    elim (cases_Bool (r.number == r_aarch64_tlsle_movw_tprel_g2)) [
-      | inl e ↦ plain (none (inl (eqb-true r.number r_aarch64_tlsle_movw_tprel_g2 e)))
-      | inr f ↦ elim (cases_Bool (r.number == r_aarch64_tlsle_movw_tprel_g1)) [
-        | inl e ↦ plain (none (inr (eqb-true r.number r_aarch64_tlsle_movw_tprel_g1 e)))
-        | inr g ↦ stay r.number (word_at s r) of (λ e. (let t = eq-eqb r.number r_aarch64_tlsle_movw_tprel_g2 e in cc)) (λ e. (let t = eq-eqb r.number r_aarch64_tlsle_movw_tprel_g1 e in cc))
-      ]
-    ]
-  where
-    plain : stands movn.fixed (word_at s r) ≡ false → with_zeros (word_at s r) ≡ word_at s r
-    plain h = rw h refl
-
 -- ---- the bits of a field
 
-bits_do : OtherWordsStay → (l : Layout) (w : World) (m : Memory) (s : Item) (r : InputRelocation) (start n : ℕ) → l.machine ≡ machine.AArch64 → IsNoMovn s r → IsInstruction l s r start (of_word FieldBits n) → FieldHolds l w m s r → DoesDemanded (reads w m) l w m s r start (of_word FieldBits n)
-bits_do stay l w m s r start n on none t h =
+bits_do : (l : Layout) (w : World) (m : Memory) (s : Item) (r : InputRelocation) (start n : ℕ) → l.machine ≡ machine.AArch64 → IsInstruction l s r start (of_word FieldBits n) → FieldHolds l w m s r → DoesDemanded (reads w m) l w m s r start (of_word FieldBits n)
+bits_do l w m s r start n on t h =
     let same : r.number ≡ n = the_number n r.number t.number in
     let at : r.offset ≡ start = omega (arith, t.field) in
     let old = slice_range s.bytes start (start + 4) in
@@ -92,9 +71,8 @@ bits_do stay l w m s r start n on none t h =
     let filled : is_filled r.number (words_of old) ≡ true = subst (λ (k : ℕ). is_filled k (words_of old) ≡ true) (sym same) t.words in
     let known : aarch64_formula r.number ≡ Some h.formula = subst (λ (k : Machine). formula_of k r.number ≡ Some h.formula) on h.known in
     let four = width_four r.number h.formula old known filled long in
-    let zeros : with_zeros (number old) ≡ number old = ap (λ (bs : List ℕ). with_zeros (number bs)) (sym here) ∙ (zeros_stay stay s r none (subst (λ (bs : List ℕ). is_of (forms_filled r.number) (number bs) ≡ true) (sym here) (first_of r.number old filled long)) ∙ ap number here) in
     let keeps : Keeps h.formula.form old h.field.bytes = subst (λ (bs : List ℕ). Keeps h.formula.form bs h.field.bytes) here (subst (λ (k : ℕ). Keeps h.formula.form (slice_range s.bytes r.offset (r.offset + k)) h.field.bytes) four h.field.keeps) in
-    let d = word_does r.number (place_at w s start) h.value h.formula old h.field.bytes (reads w m) known filled long (h.field.wide ∙ four) zeros h.field.reads keeps (λ k. refl) in
+    let d = word_does r.number (place_at w s start) h.value h.formula old h.field.bytes (reads w m) known filled long (h.field.wide ∙ four) h.field.reads keeps (λ k. refl) in
     record {
       value = bits_of h.formula.form h.value;
       demands = record { formula = h.formula; known = h.known; value = h.value; gives = h.gives; fits = d.can; bits = refl };
@@ -154,12 +132,12 @@ branch_do l w m s r start n on one t h =
 
 -- ---- any of them
 
-pub single_does : OtherWordsStay → (l : Layout) (w : World) (m : Memory) (s : Item) (r : InputRelocation) (start : ℕ) (o : Instruction) → l.machine ≡ machine.AArch64 → IsNoMovn s r → IsInstruction l s r start o → o.partners ≡ [] → FieldHolds l w m s r → DoesDemanded (reads w m) l w m s r start o
-single_does stay l w m s r start o on none t single h = by word.is
+pub lone_word_does : (l : Layout) (w : World) (m : Memory) (s : Item) (r : InputRelocation) (start : ℕ) (o : Instruction) → l.machine ≡ machine.AArch64 → IsInstruction l s r start o → o.partners ≡ [] → FieldHolds l w m s r → DoesDemanded (reads w m) l w m s r start o
+lone_word_does l w m s r start o on t single h = by word.is
   where
     word : IsWord o
     word = is_word o (subst (λ (k : Machine). Contains (instructions_of k) o) on t.known) single
 
     by : (o ≡ of_word FieldBits word.number) ⊎ (((word.number ≡ r_aarch64_jump26) ⊎ (word.number ≡ r_aarch64_call26)) × (o ≡ of_word Target word.number)) → DoesDemanded (reads w m) l w m s r start o
-    by (inl e) = subst (λ (q : Instruction). DoesDemanded (reads w m) l w m s r start q) (sym e) (bits_do stay l w m s r start word.number on none (subst (λ (q : Instruction). IsInstruction l s r start q) e t) h)
+    by (inl e) = subst (λ (q : Instruction). DoesDemanded (reads w m) l w m s r start q) (sym e) (bits_do l w m s r start word.number on (subst (λ (q : Instruction). IsInstruction l s r start q) e t) h)
     by (inr e) = subst (λ (q : Instruction). DoesDemanded (reads w m) l w m s r start q) (sym e.1) (branch_do l w m s r start word.number on e.0 (subst (λ (q : Instruction). IsInstruction l s r start q) e.1 t) h)

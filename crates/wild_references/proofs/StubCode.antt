@@ -28,7 +28,7 @@ use Rattle.wild_types.specs.declared.kind.Machine.{Machine}
 use Rattle.wild_types.specs.declared.kind.Machine.TheVariants as machine
 use Rattle.wild_types.specs.declared.symbol.Symbol.{Symbol}
 use Rattle.wild_types.specs.declared.layout.Layout.{Layout}
-use Rattle.wild_types.specs.SymbolSlots.{got_of, plt_of}
+use Rattle.wild_types.specs.SymbolSlots.{got_of}
 use Rattle.wild_clauses.specs.SlotPlaces.{is_even_slot, slot_is_even}
 use Rattle.wild_slot.specs.MachineStub.{stub_of, stub_in}
 use Rattle.wild_slot.proofs.StubLemmas.{length-stub_of}
@@ -69,12 +69,15 @@ stub_jumps law m base slot stub x machine reaches held there =
     let bytes = subst (λ (bs : List ℕ). Holds m (base + stub) bs) (bytes_are slot stub) held in
     record { effect = _; known = law m (base + stub) d x machine (in_field d (omega arith) reaches) bytes (subst (λ (a : ℕ). HasWord m a x) (sym named) there); jump = refl }
 
--- its address does not wrap
+-- it does not wrap
+stub_ends : (k : Machine) (bti : Bool) (m : Memory) (base slot stub : ℕ) → Holds m (base + stub) (stub_of k bti slot stub).bytes → base + stub + 12 ≤ 2 ^ 64
+stub_ends k bti m base slot stub held =
+    let n = length-stub_of k bti slot stub in
+    let last = byte_below m (base + stub + 15) _ (held 15 (omega (arith, n))) in
+    omega (arith, last)
+
 pub stub_below : (l : Layout) (m : Memory) (base slot stub : ℕ) → Holds m (base + stub) (stub_in l slot stub).bytes → base + stub < 2 ^ 64
-stub_below l m base slot stub held =
-    let n = length-stub_of l.machine l.options.bti slot stub in
-    let first = byte_below m (base + stub + 0) _ (held 0 (omega (arith, n))) in
-    omega (arith, first)
+stub_below l m base slot stub held = (let ends = stub_ends l.machine l.options.bti m base slot stub held in omega (arith, ends))
 
 -- ---- AArch64
 
@@ -110,26 +113,26 @@ words_jump laws m base slot stub x true machine even at reaches held there =
 pub paged_on : (l : Layout) (w : World) → MovesByPages l.machine l w → l.machine ≡ machine.AArch64 → IsPaged l w
 paged_on l w h on = subst (λ (k : Machine). MovesByPages k l w) on h
 
--- where the stub of a symbol stands, as its machine asks
-abbrev pub HasPlaces : Machine → (base slot stub : ℕ) → Type 0
-HasPlaces machine.X86_64 base slot stub = ⊤
-HasPlaces machine.AArch64 base slot stub = (base % 4096 ≡ 0) × (slot % 8 ≡ 0) × (base + stub + 16 < 2 ^ 64)
+-- where the slot of a symbol with a stub stands, as its machine asks
+abbrev pub HasPlaces : Machine → (base slot : ℕ) → Type 0
+HasPlaces machine.X86_64 base slot = ⊤
+HasPlaces machine.AArch64 base slot = (base % 4096 ≡ 0) × (slot % 8 ≡ 0)
 
--- of the symbol that has the stub and the slot
-pub has_places : (l : Layout) (w : World) (i slot stub : ℕ) (s : Symbol) → MovesByPages l.machine l w → slice_get l.symbols i ≡ Some s → got_of s ≡ Some slot → plt_of s ≡ Some stub → HasPlaces l.machine w.base slot stub
-has_places l w i slot stub s h listed got plt = by_machine l.machine h
+-- of the symbol that has the slot
+pub has_places : (l : Layout) (w : World) (i slot : ℕ) (s : Symbol) → MovesByPages l.machine l w → slice_get l.symbols i ≡ Some s → got_of s ≡ Some slot → HasPlaces l.machine w.base slot
+has_places l w i slot s h listed got = by_machine l.machine h
   where
     even : slot_is_even s ≡ true → slot % 8 ≡ 0
     even t = eqb-true _ _ (subst (λ (o : Option ℕ). is_even_slot o ≡ true) got t)
 
-    by_machine : (k : Machine) → MovesByPages k l w → HasPlaces k w.base slot stub
+    by_machine : (k : Machine) → MovesByPages k l w → HasPlaces k w.base slot
     by_machine machine.X86_64 h = tt
-    by_machine machine.AArch64 h = (h.pages, even (holds_at (λ (x : Symbol). slot_is_even x ≡ true) l.symbols i s listed h.even), holds_at (λ (x : Symbol). (p : ℕ) → plt_of x ≡ Some p → w.base + p + 16 < 2 ^ 64) l.symbols i s listed h.below stub plt)
+    by_machine machine.AArch64 h = (h.pages, even (holds_at (λ (x : Symbol). slot_is_even x ≡ true) l.symbols i s listed h.even))
 
-pub stub_goes : StubLaws → (l : Layout) (m : Memory) (base slot stub x : ℕ) → HasPlaces l.machine base slot stub → m.machine ≡ processor_of l.machine → (stub_in l slot stub).reaches ≡ true → Holds m (base + stub) (stub_in l slot stub).bytes → HasWord m (base + slot) x → JumpsTo m (base + stub) x
+pub stub_goes : StubLaws → (l : Layout) (m : Memory) (base slot stub x : ℕ) → HasPlaces l.machine base slot → m.machine ≡ processor_of l.machine → (stub_in l slot stub).reaches ≡ true → Holds m (base + stub) (stub_in l slot stub).bytes → HasWord m (base + slot) x → JumpsTo m (base + stub) x
 stub_goes laws l m base slot stub x places loaded reaches held there = by_machine l.machine places loaded reaches held
   where
-    by_machine : (k : Machine) → HasPlaces k base slot stub → m.machine ≡ processor_of k → (stub_of k l.options.bti slot stub).reaches ≡ true → Holds m (base + stub) (stub_of k l.options.bti slot stub).bytes → JumpsTo m (base + stub) x
+    by_machine : (k : Machine) → HasPlaces k base slot → m.machine ≡ processor_of k → (stub_of k l.options.bti slot stub).reaches ≡ true → Holds m (base + stub) (stub_of k l.options.bti slot stub).bytes → JumpsTo m (base + stub) x
     by_machine machine.X86_64 places loaded reaches held = stub_jumps laws.value m base slot stub x loaded reaches held there
     by_machine machine.AArch64 places loaded reaches held =
-        words_jump laws m base slot stub x l.options.bti loaded places.1 (record { pages = places.0; code = places.2; top = word_below m (base + slot) x there }) reaches held there
+        words_jump laws m base slot stub x l.options.bti loaded places.1 (record { pages = places.0; code = stub_ends machine.AArch64 l.options.bti m base slot stub held; top = word_below m (base + slot) x there }) reaches held there

@@ -83,7 +83,7 @@ stub_from law l w m i stub r p d f =
       below = stub_below l m w.base at stub held;
       value = first.value;
       is = first.is;
-      jumps = stub_goes law l m w.base at stub first.value (has_places l w (canonical l i) at stub s p.paged d.listed slot.1 has) p.loaded (in_reach l w m at stub r e f first.behind) held first.there;
+      jumps = stub_goes law l m w.base at stub first.value (has_places l w (canonical l i) at s p.paged d.listed slot.1) p.loaded (in_reach l w m at stub r e f first.behind) held first.there;
     }
 
 -- where the writer knows of a stub, memory has it

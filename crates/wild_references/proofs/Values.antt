@@ -1,8 +1,7 @@
 -- The writer's value of a symbol is the symbol's address.
-use Rattle.std.proofs.Common.{◌≡◌, ℕ, suc, ◌+◌, ◌%◌, ◌^◌, ◌<◌, ◌≤◌, ◌⊎◌, inl, inr, true, false, List, [], ◌∷◌, refl, sym, ap, ◌∙◌, arith, subst}
-use Rattle.std.specs.Prelude.{Option, Some, None, Contains, slice_get, option_and_then, option_map, ◌&&◌, ◌==◌, nat_le, nat_lt}
-use Rattle.std.proofs.lemmas.Bool.{cases_Bool, ne_eqb, leb-true, ltb-true, and_parts, not-true, or_cases}
-use Rattle.wild_words.proofs.Basics.{Contains-from_flat_map}
+use Rattle.std.proofs.Common.{◌≡◌, ℕ, ◌+◌, ◌%◌, ◌^◌, ◌⊎◌, inl, inr, true, false, refl, sym, ap, ◌∙◌, subst}
+use Rattle.std.specs.Prelude.{Option, Some, None, slice_get, option_and_then, option_map, ◌==◌}
+use Rattle.std.proofs.lemmas.Bool.{cases_Bool, ne_eqb, and_parts, not-true, or_cases}
 use Rattle.wild_types.specs.declared.symbol.Place.{Place}
 use Rattle.wild_types.specs.declared.symbol.Place.TheVariants as at
 use Rattle.wild_types.specs.declared.symbol.Symbol.{Symbol}
@@ -11,42 +10,12 @@ use Rattle.wild_types.specs.declared.input.Slot.{Slot}
 use Rattle.wild_types.specs.declared.input.Slot.TheVariants as slot
 use Rattle.wild_types.specs.declared.input.InputSection.{InputSection}
 use Rattle.wild_types.specs.declared.file.File.{File}
-use Rattle.wild_types.specs.declared.file.Group.{Group}
 use Rattle.wild_types.specs.declared.layout.Layout.{Layout}
 use Rattle.wild_types.specs.Lookups.{canonical, has_address, is_discarded, files_of, file_of, is_allocated_part}
 use Rattle.wild_types.specs.Addresses.{raw_value, resolved_or, placed_value, address_at, address_in_file, address_in_section}
 use Rattle.wild_meaning.specs.Section.{IsAllocatedPart, IsPlaced}
 use Rattle.wild_meaning.specs.Value.{IsSymbol, IsDefinedBy, IsOwnFile, StandsAt, IsResolved, IsUnresolved, HasRaw}
 use Rattle.wild_meaning.proofs.BitLemmas.{alloc_bit}
-
--- ---- the own file of a symbol
-
-pub record IsFoundIn (files : List File) (i : ℕ) (f : File) : Type 0 where
-  pub listed : Contains files f
-  pub from : f.first_symbol ≤ i
-  pub to : i < f.first_symbol + f.symbol_count
-
-found_later : (g : File) (files : List File) (i : ℕ) (f : File) → IsFoundIn files i f → IsFoundIn (g ∷ files) i f
-found_later g files i f h = record { listed = (suc h.listed.0, omega (arith, h.listed.1), h.listed.2); from = h.from; to = h.to }
-
-file_of-found : (files : List File) (i : ℕ) (f : File) → file_of files i ≡ Some f → IsFoundIn files i f
-file_of-found [] i f h = cc
-file_of-found (g ∷ files) i f h =
-    elim (cases_Bool (nat_le g.first_symbol i && nat_lt i (g.first_symbol + g.symbol_count))) [
-      | inl t ↦ here g files i f (and_parts _ _ t) (rw t at h)
-      | inr n ↦ found_later g files i f (file_of-found files i f (rw n at h))
-    ]
-  where
-    here : (g : File) (files : List File) (i : ℕ) (f : File) → (nat_le g.first_symbol i ≡ true) × (nat_lt i (g.first_symbol + g.symbol_count) ≡ true) → Some g ≡ Some f → IsFoundIn (g ∷ files) i f
-    here g files i f t e =
-        let same : g ≡ f = cc in
-        subst (λ (x : File). IsFoundIn (g ∷ files) i x) same (record { listed = (0, omega arith, refl); from = leb-true _ _ t.0; to = ltb-true _ _ t.1 })
-
-own_file : (l : Layout) (i : ℕ) (f : File) → file_of (files_of l.groups) i ≡ Some f → IsOwnFile l i f
-own_file l i f h =
-    let found = file_of-found (files_of l.groups) i f h in
-    let g = Contains-from_flat_map (λ (g : Group). g.files) l.groups f found.listed in
-    record { group = g.0; grouped = g.1; listed = g.2; from = found.from; to = found.to }
 
 -- ---- where a symbol stands
 
@@ -90,7 +59,7 @@ section_stands l i a n symbol f (Some s) listed place own found h =
 
 file_stands : (l : Layout) (i a n : ℕ) (symbol : Symbol) (o : Option File) → IsSymbol l i symbol → symbol.place ≡ at.Section n → file_of (files_of l.groups) i ≡ o → address_in_file l n symbol.value o ≡ Some a → StandsAt l i a
 file_stands l i a n symbol None listed place is h = cc
-file_stands l i a n symbol (Some f) listed place is h = section_stands l i a n symbol f (slice_get f.sections n) listed place (own_file l i f is) refl h
+file_stands l i a n symbol (Some f) listed place is h = section_stands l i a n symbol f (slice_get f.sections n) listed place is refl h
 
 place_stands : (l : Layout) (i a : ℕ) (symbol : Symbol) (p : Place) → IsSymbol l i symbol → symbol.place ≡ p → address_at l i symbol.value p ≡ Some a → StandsAt l i a
 place_stands l i a symbol at.Undefined listed place h = cc

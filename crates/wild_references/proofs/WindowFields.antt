@@ -159,7 +159,8 @@ kept_field l s i r Nothing h k = tt
 kept_field l s i r (Field z v) h k =
     elim (decide_field l s i r z v h.listed h.decided) [
       | inl own ↦ field_has l s r z v (decided_field l s r z v own.made)
-      | inr kept ↦ kept.field
+      | inr (inl kept) ↦ kept.field
+      | inr (inr kept) ↦ kept.field
     ]
 kept_field l s i r (Moved v packed) h k = moved_has l s r v packed (decided_moved l s r v packed (decide_moved l s i r v packed h.listed h.decided).made)
 kept_field l s i r (Left z n symbol addend) h k = left_has l s r z n symbol addend (decided_left l s r z n symbol addend (decide_left l s i r z n symbol addend h.listed h.decided).made)
@@ -211,7 +212,7 @@ field_has_site l s j q d z v h width only =
 -- the sequence that takes relocation j along is written by the one before
 call_site : (l : Layout) (s : Item) (i : ℕ) (q : InputRelocation) (row : Row) (v : ℕ) (d : Decision) → (p : IsSequence l s i row) → slice_get s.relocations (i + 1) ≡ Some q → HasDecision l s i p.relocation (Rewritten row v) → Partner ≡ d → HasSite l s (i + 1) q d
 call_site l s i q row v d p listed h is =
-    let c = choice_row l s p.relocation (Some q) row (subst (λ (o : Option InputRelocation). choice_of l s p.relocation o ≡ Ok (Some row)) listed p.is) in
+    let c = choice_row l s p.relocation (Some q) row p.machine (subst (λ (o : Option InputRelocation). choice_of l s p.relocation o ≡ Ok (Some row)) listed p.is) in
     let at_row = row_at l s p.relocation (Some q) row c in
     let well = calls_are_well row at_row.well p.takes in
     let call = call_is l s p.relocation q row well.distance at_row well.known in

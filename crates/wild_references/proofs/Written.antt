@@ -25,7 +25,7 @@ use Rattle.wild_layout.specs.Decide.{decided, decide_by}
 use Rattle.wild_layout.proofs.DecideLemmas.{IsField, IsMoved, IsLeft, decided_field, decided_moved, decided_left, decided_nothing}
 use Rattle.wild_slot.proofs.TreatmentLemmas.{has_value}
 use Rattle.wild_references.proofs.KnownRows.{RowFits, row_fits, none_is, call_is, call_known}
-use Rattle.wild_layout.proofs.DecisionLemmas.{IsOwn, IsKept, decide_nothing, decide_moved, decide_left, decide_field}
+use Rattle.wild_layout.proofs.DecisionLemmas.{IsOwn, IsKept, IsKeptAArch64, decide_nothing, decide_moved, decide_left, decide_field}
 use Rattle.wild_geometry.specs.Loaded.{HasDecision}
 use Rattle.wild_geometry.specs.MachineFacts.{RowsAreRead}
 use Rattle.wild_references.proofs.Treated.{treated_by}
@@ -113,6 +113,13 @@ pub record IsRowField (l : Layout) (s : Item) (i : ℕ) (r : InputRelocation) : 
   pub has : HasDecision l s i r (Field size value)
   pub kept : IsKept l s r (slice_get s.relocations (i + 1)) size value
 
+-- the same on AArch64: a branch, or the distance of a stub
+pub record IsBranchField (l : Layout) (s : Item) (i : ℕ) (r : InputRelocation) : Type 0 where
+  pub size : RelocationSize
+  pub value : ℕ
+  pub has : HasDecision l s i r (Field size value)
+  pub kept : IsKeptAArch64 l s i r size value
+
 -- such a call has a symbol: without one it is refused
 call_named : (l : Layout) (s : Item) (r : InputRelocation) (row : RelocationKindInfo) → row_of l.machine r.number ≡ Some row → row.kind ≡ kinds.TlsDescCall → decided l s r ≡ Ok Nothing → (i : ℕ) × (r.symbol ≡ Some i)
 unfolding decided
@@ -129,7 +136,7 @@ call_named l s r row known kind made =
 
 -- what a relocation writes that keeps its instruction
 abbrev pub Writes : Layout → Item → ℕ → InputRelocation → Type 0
-Writes l s i r = IsValue l s i r ⊎ (IsAddress l s i r ⊎ (IsLeftField l s i r ⊎ (IsCall l s i r ⊎ IsRowField l s i r)))
+Writes l s i r = IsValue l s i r ⊎ (IsAddress l s i r ⊎ (IsLeftField l s i r ⊎ (IsCall l s i r ⊎ (IsRowField l s i r ⊎ IsBranchField l s i r))))
 
 nothing_written : (l : Layout) (s : Item) (i : ℕ) (r : InputRelocation) → IsPlain l s i r Nothing → (r.number ≡ r_x86_64_none → ⊥) → IsCall l s i r
 nothing_written l s i r p some =
@@ -147,9 +154,10 @@ nothing_written l s i r p some =
           })
     ]
 
-field_written : (l : Layout) (s : Item) (i : ℕ) (r : InputRelocation) (z : RelocationSize) (v : ℕ) → RowsAreRead → HasDecision l s i r (Field z v) → IsOwn l s i r (Field z v) ⊎ IsKept l s r (slice_get s.relocations (i + 1)) z v → Writes l s i r
+field_written : (l : Layout) (s : Item) (i : ℕ) (r : InputRelocation) (z : RelocationSize) (v : ℕ) → RowsAreRead → HasDecision l s i r (Field z v) → IsOwn l s i r (Field z v) ⊎ (IsKept l s r (slice_get s.relocations (i + 1)) z v ⊎ IsKeptAArch64 l s i r z v) → Writes l s i r
 field_written l s i r z v agrees has (inl own) = inl (value_written l s i r z v agrees (record { has = has; own = own }))
-field_written l s i r z v agrees has (inr kept) = inr (inr (inr (inr (record { size = z; value = v; has = has; kept = kept }))))
+field_written l s i r z v agrees has (inr (inl kept)) = inr (inr (inr (inr (inl (record { size = z; value = v; has = has; kept = kept })))))
+field_written l s i r z v agrees has (inr (inr kept)) = inr (inr (inr (inr (inr (record { size = z; value = v; has = has; kept = kept })))))
 
 -- each but NONE writes a value or an address, is left to an entry, or is such a call
 pub relocation_written : (l : Layout) (s : Item) (i : ℕ) (r : InputRelocation) (d : Decision) → RowsAreRead → HasDecision l s i r d → KeepsInstruction d → (r.number ≡ r_x86_64_none → ⊥) → Writes l s i r

@@ -10,7 +10,7 @@
 --   KeptInstructionsDo   and does what is demanded
 --   OthersAreKept        every byte in no field and no instruction is the input's
 --   ItemsHold            all of this together
-use Rattle.std.specs.Prelude.{◌≡◌, ℕ, ◌+◌, ◌<◌, ◌≤◌, ◌⊎◌, List, length, Some, Contains}
+use Rattle.std.specs.Prelude.{◌≡◌, ℕ, ◌+◌, ◌<◌, ◌≤◌, ◌⊎◌, ◌∷◌, length, Some, Contains}
 use Rattle.wild_types.specs.declared.kind.Machine.{Machine}
 use Rattle.wild_types.specs.declared.kind.Machine.TheVariants as machine
 use Rattle.wild_types.specs.declared.input.InputRelocation.{InputRelocation}
@@ -25,11 +25,9 @@ use Rattle.wild_geometry.specs.Loaded.{IsDecided, HasDecision}
 use Rattle.wild_references.specs.Laws.{KeepsInstruction, IsKeptReference, FieldsHold, IsLoadedItem}
 use Rattle.wild_loader.specs.declared.memory.Memory.{Memory}
 use Rattle.wild_loader.specs.declared.world.World.{World}
-use Rattle.wild_loader.specs.Memory.{Holds}
 use Rattle.wild_types.specs.Item.{Item}
-use Rattle.wild_meaning.specs.Item.{place_at}
 use Rattle.wild_meaning.specs.Field.{formula_of, form_width, IsInputByte}
-use Rattle.wild_meaning.specs.Sequence.{Partner as CallField, Instruction, size_of, IsOwnByte}
+use Rattle.wild_meaning.specs.Sequence.{Instruction, size_of, IsOwnByte}
 use Rattle.wild_meaning.specs.Template.{IsOfSequence, IsTemplate, reads, DoesDemanded}
 use Rattle.wild_meaning.specs.Reference.{IsAsked, IsLinkedAlone, HoldsRewritten, IsTakenAlong, IsOther, ItemHolds}
 
@@ -73,20 +71,15 @@ abbrev pub InstructionsAreKept : Type 0
 InstructionsAreKept = (machine : Machine) (l : Layout) (w : World) (m : Memory) (s : Item) → IsLoadedItem machine l w m s → (i : ℕ) (r : InputRelocation) (d : Decision) → HasDecision l s i r d → KeepsInstruction d
     → (start : ℕ) (o : Instruction) (first : InputRelocation) → IsTemplate l s r start o first → (k : ℕ) → IsOwnByte o k → IsInputByte w m s (start + k)
 
--- the first relocation of a sequence keeps its instruction too, and memory has bytes at a further field
-pub record SequenceIsKept (l : Layout) (w : World) (m : Memory) (s : Item) (first : InputRelocation) (start : ℕ) (p : CallField) : Type 0 where
+-- a relocation of the item refers to something and keeps its instruction
+pub record IsKeptAt (l : Layout) (s : Item) (r : InputRelocation) : Type 0 where
   pub index : ℕ
-  pub decision : Decision
-  pub has : HasDecision l s index first decision
-  pub keeps : KeepsInstruction decision
-  pub bytes : List ℕ
-  pub wide : length bytes ≡ p.width
-  pub held : Holds m (place_at w s (start + p.field)) bytes
+  pub kept : IsKeptReference l s index r
 
--- so it is where one of its relocations keeps its instruction
+-- where one relocation of a sequence keeps it, each does
 abbrev pub SequencesAreKept : Type 0
-SequencesAreKept = (l : Layout) (w : World) (m : Memory) (s : Item) → IsLoadedItem machine.X86_64 l w m s → (i : ℕ) (r : InputRelocation) (d : Decision) → HasDecision l s i r d → KeepsInstruction d
-    → (start : ℕ) (o : Instruction) (first : InputRelocation) → IsOfSequence l s r start o first → (p : CallField) → Contains o.partners p → SequenceIsKept l w m s first start p
+SequencesAreKept = (machine : Machine) (l : Layout) (w : World) (m : Memory) (s : Item) → IsLoadedItem machine l w m s → (i : ℕ) (r : InputRelocation) → IsKeptReference l s i r
+    → (start : ℕ) (o : Instruction) (first : InputRelocation) → (t : IsOfSequence l s r start o first) → (p : InputRelocation) → Contains (first ∷ t.rest) p → IsKeptAt l s p
 
 -- every byte that is in no field and in no instruction of a reference is the input's
 abbrev pub OthersAreKept : Type 0
@@ -94,9 +87,9 @@ OthersAreKept = (machine : Machine) (l : Layout) (w : World) (m : Memory) (s : I
 
 -- an instruction that is kept, with its fields as their formulas have them, does what is demanded
 abbrev pub KeptInstructionsDo : Type 0
-KeptInstructionsDo = (l : Layout) (w : World) (m : Memory) (s : Item) → IsLoadedItem machine.X86_64 l w m s → FieldsHold l w m s → (i : ℕ) (r : InputRelocation) → IsKeptReference l s i r → IsAsked l w s r → (IsLinkedAlone l s r → ⊥)
+KeptInstructionsDo = (machine : Machine) (l : Layout) (w : World) (m : Memory) (s : Item) → IsLoadedItem machine l w m s → FieldsHold l w m s → (i : ℕ) (r : InputRelocation) → IsKeptReference l s i r → IsAsked l w s r → (IsLinkedAlone l s r → ⊥)
     → (start : ℕ) (o : Instruction) (first : InputRelocation) → IsTemplate l s r start o first → DoesDemanded (reads w m) l w m s first start o
 
 -- each reference of a loaded section holds, its instruction does what is demanded, and other bytes are the input's
 abbrev pub ItemsHold : Type 0
-ItemsHold = (l : Layout) (w : World) (m : Memory) (s : Item) → IsLoadedItem machine.X86_64 l w m s → FieldsHold l w m s → ItemHolds l w m s
+ItemsHold = (machine : Machine) (l : Layout) (w : World) (m : Memory) (s : Item) → IsLoadedItem machine l w m s → FieldsHold l w m s → ItemHolds l w m s

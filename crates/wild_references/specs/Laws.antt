@@ -8,6 +8,7 @@
 --   ThreadPlacesAreKnown  a symbol's place in the thread's data, and its distance from the thread pointer
 --   KeepsInstruction d    the relocation keeps its instruction
 --   FieldHolds ..         a field in memory reads as its formula; FieldIsLinked with the output's own symbol
+--   OutputsMoveByPages, ItemsHaveBytes   what AArch64 asks of an output and of its items
 --   FieldsHold ..         memory has an item's fields as the formulas have them, where they keep their instructions
 --   ItemFieldsHold          so it has each kept item that is there as it was decided
 use Rattle.std.specs.Prelude.{◌≡◌, ℕ, ◌+◌, ◌-◌, ◌%◌, ◌^◌, ◌<◌, ◌≢◌, ◌⊎◌, ⊤, FitsSigned, Bool, true, List, Some, Ok, All}
@@ -156,6 +157,14 @@ pub record IsLoadedItem (k : Machine) (l : Layout) (w : World) (m : Memory) (s :
   pub kept : IsKept l s
   pub decided : IsDecided l s
   pub item : HasItem l w m s InMemory
+
+-- what is asked of AArch64 outputs besides: in a legal world a laid out output moves by pages
+abbrev pub OutputsMoveByPages : Type 0
+OutputsMoveByPages = (l : Layout) (w : World) → NumbersFit l → IsLegal l w → IsLaidOut l → MovesByPages l.machine l w
+
+-- and what a kept item has is bytes
+abbrev pub ItemsHaveBytes : Type 0
+ItemsHaveBytes = (l : Layout) (s : Item) → NumbersFit l → IsKept l s → HasBytes l.machine s
 
 -- its fields hold
 abbrev pub ItemFieldsHold : Type 0

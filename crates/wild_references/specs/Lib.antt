@@ -3,4 +3,3 @@ pub mod Laws
 pub mod Stubs
 pub mod Filled
 pub mod EffectLaws
-pub mod WordsAArch64

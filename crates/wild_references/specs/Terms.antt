@@ -12,7 +12,6 @@ use Rattle.wild_types.specs.declared.kind.Machine.TheVariants as machine
 use Rattle.wild_types.specs.declared.input.InputRelocation.{InputRelocation}
 use Rattle.wild_types.specs.declared.layout.Layout.{Layout}
 use Rattle.wild_types.specs.declared.symbol.Symbol.{Symbol}
-use Rattle.wild_types.specs.SymbolSlots.{plt_of}
 use Rattle.wild_clauses.specs.SlotPlaces.{slot_is_even}
 use Rattle.wild_slot.specs.declared.treatment.Treatment.TheVariants as treatments
 use Rattle.wild_types.specs.Kinds.{is_position_independent}
@@ -56,13 +55,11 @@ pub record SymbolsFit (l : Layout) : Type 0 where
   pub numbers : All SymbolNumbers l.symbols
 
 -- an AArch64 output moves by whole pages of 4096 bytes, so that the bits of an address below its page stay (aaelf64, "Relocation
--- operations": Page); its slots stand at multiples of 8, and no stub ends at the last address, so that each stub reads its slot; the thread
--- control block, up to the alignment of the thread-local data, has a size of the machine; and no pair stands for these data: no type of
--- AArch64 takes one
+-- operations": Page); its slots stand at multiples of 8, so that each stub reads its slot; the thread control block, up to the
+-- alignment of the thread-local data, has a size of the machine; and no pair stands for these data: no type of AArch64 takes one
 pub record IsPaged (l : Layout) (w : World) : Type 0 where
   pub pages : w.base % 4096 ≡ 0
   pub even : All (λ (s : Symbol). slot_is_even s ≡ true) l.symbols
-  pub below : All (λ (s : Symbol). (p : ℕ) → plt_of s ≡ Some p → w.base + p + 16 < 2 ^ 64) l.symbols
   pub block : rounded_up control_block_size l.tls.align < 2 ^ 64
   pub single : l.tlsld ≡ None
 

@@ -2,15 +2,13 @@
 #![tactic(auto)]
 
 ghost use Rattle.wild_reloc.specs.declared.expression.Term.TheVariants as term;
-ghost use Rattle.wild_references.specs.Laws.{AddressesGive, AddressesGiveLinked, EntriesGive, ItemFieldsHold, PartsGive, PartsGiveLinked, SlotsGive, TermGives, TermGivesLinked, ThreadPlacesAreKnown};
+ghost use Rattle.wild_references.specs.Laws.{AddressesGive, AddressesGiveLinked, EntriesGive, ItemFieldsHold, ItemsHaveBytes, OutputsMoveByPages, PartsGive, PartsGiveLinked, SlotsGive, TermGives, TermGivesLinked, ThreadPlacesAreKnown};
 ghost use Rattle.wild_references.specs.Stubs.{StubsGoOn};
 ghost use Rattle.wild_references.specs.Filled.{FilledInstructionsDo};
-ghost use Rattle.wild_references.specs.WordsAArch64.{EachIsKept, KeptWordsDo, RunsAreKept};
 ghost use Rattle.wild_references.specs.EffectLaws.{InstructionsAreKept, ItemsHold, KeptInstructionsDo, OthersAreKept, PartnersHold, RewrittenAreFollowed, RewrittenHold, RewrittenStand, SequencesAreKept, WindowsAreAlone};
 
 use wild_geometry::machines_have_their_facts;
 use wild_loader::{stubs_are_read, stubs_of_words_are_read};
-use wild_meaning::wrong_words_are_refused;
 use wild_relax::{rewrites_keep_the_effect, rewrites_stay_in_their_patterns};
 use wild_reloc::widths_of_fields;
 
@@ -99,6 +97,12 @@ pub fn stubs_go_on()
     stubs_of_words_are_read();
 }
 
+/// A laid out output moves by pages in a legal world, and its items have bytes.
+pub fn outputs_move_by_pages()
+    ensures pages { OutputsMoveByPages }
+    ensures bytes { ItemsHaveBytes }
+{}
+
 /// Where memory has a kept section as it was decided, each of its references that keeps its instruction reads as its formula.
 pub fn item_fields_hold()
     ensures { ItemFieldsHold }
@@ -147,7 +151,7 @@ pub fn rewritten_instructions_are_followed()
     ensures { RewrittenAreFollowed }
 {}
 
-/// Both relocations of a sequence keep it, or none does. An instruction that is not rewritten keeps its bytes, whatever is
+/// All relocations of a sequence keep it, or none does. An instruction that is not rewritten keeps its bytes, whatever is
 /// rewritten beside it, and so does every byte in no field and no instruction.
 pub fn other_bytes_are_kept()
     ensures sequences { SequencesAreKept }
@@ -164,16 +168,6 @@ pub fn kept_instructions_do()
     ensures { KeptInstructionsDo }
 {
     other_bytes_are_kept();
-}
-
-/// No instruction of AArch64 is rewritten: all relocations of a sequence keep it, and an instruction of a single word does
-/// what it demands, by its field.
-pub fn kept_words_do()
-    ensures kept { EachIsKept }
-    ensures runs { RunsAreKept }
-    ensures does { KeptWordsDo }
-{
-    wrong_words_are_refused();
 }
 
 /// Each reference of a loaded section holds.

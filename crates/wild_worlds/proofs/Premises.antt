@@ -3,8 +3,8 @@ use Rattle.std.proofs.Common.{◌≡◌, ℕ, ◌+◌, ◌%◌, ◌^◌, ◌⊎�
 use Rattle.std.specs.Prelude.{Some, None, Contains, ◌≢◌, not, ◌&&◌, ◌||◌, ◌==◌}
 use Rattle.std.specs.List.{list_all}
 use Rattle.std.proofs.lemmas.Bool.{cases_Bool, and_parts, eqb-true}
-use Rattle.wild_words.proofs.Basics.{listed_passes}
-use Rattle.wild_records.specs.Abi.Relocation.{r_x86_64_gotpcrel, r_x86_64_gotpcrelx}
+use Rattle.wild_words.proofs.Basics.{implied, or_other, listed_passes}
+use Rattle.wild_records.specs.Abi.Relocation.{r_x86_64_gotpcrel, r_x86_64_gotpcrelx, r_aarch64_adr_prel_pg_hi21, r_aarch64_add_abs_lo12_nc}
 use Rattle.wild_records.specs.Abi.Section.{shf_execinstr}
 use Rattle.wild_types.specs.declared.kind.RelocationModel.TheVariants as model
 use Rattle.wild_types.specs.declared.kind.OutputKind.{OutputKind}
@@ -26,11 +26,13 @@ use Rattle.wild_meaning.specs.Item.{IsLoadedSlot, OfSection}
 use Rattle.wild_meaning.specs.Field.{formula_of}
 use Rattle.wild_meaning.specs.Formula.{IsPlaceRelative, TakesAddress, TakesOffset}
 use Rattle.wild_meaning.specs.Section.{IsSet}
-use Rattle.wild_meaning.specs.Sequence.{Sort, TargetInSlot, Partner, Instruction, instructions_of}
+use Rattle.wild_meaning.specs.Sequence.{Sort, TargetInSlot, Address, Partner, Instruction, instructions_of}
 use Rattle.wild_meaning.specs.Template.{IsTemplate}
 use Rattle.wild_meaning.specs.Reference.{HasPlace, CountsFromPlace, GoesByPlace, IsExcepted, IsAsked, IsLeftToLoader, IsStubbed, TakesItself, IsLinkedAlone}
 use Rattle.wild_meaning.proofs.BitLemmas.{bit_alloc, thread_local_bit}
 use Rattle.wild_meaning.proofs.PairLemmas.{are_several, as_double, counts_by_slot}
+use Rattle.wild_meaning.proofs.OneReference.{has}
+use Rattle.wild_meaning.proofs.InstructionsAArch64.{numbers_in, numbered}
 use Rattle.wild_worlds.specs.Worlds.{KindsAreLoaded}
 use Rattle.wild_worlds.specs.References.{SectionsAreKept, RelocationsRefer, ReferencesAreAsked, SlotsAreAsked, FewAreLinkedAlone, BlanksAreAsked, ResolversAreNotAbsolute}
 use Rattle.wild_worlds.specs.Symbols.{AddressesMove}
@@ -142,6 +144,57 @@ slot_number l item r x h = by_template l item r h.start h.instruction h.first x 
         let alone : not (are_several o.partners) ≡ true = (parts l o x t.sequence.stands.known (counts_by_slot l o x t.sequence.stands.known e)).0 in
         not_several o.partners _ calls alone
 
+-- ---- addresses of AArch64
+
+abbrev is_by_place : Sort → Bool
+is_by_place TargetInSlot = true
+is_by_place Address = true
+is_by_place other = false
+
+counts_by_place : (s : Sort) → CountsFromPlace s → is_by_place s ≡ true
+counts_by_place TargetInSlot h = refl
+counts_by_place Address h = refl
+counts_by_place other h = absurd h
+
+abbrev is_address_number : ℕ → Bool
+is_address_number n = n == r_aarch64_adr_prel_pg_hi21 || n == r_aarch64_add_abs_lo12_nc
+
+-- those that count from their own place have two fields, of two types
+abbrev is_address_pair : Instruction → Bool
+is_address_pair o = not (is_by_place o.sort) || (list_all is_address_number o.numbers && list_all is_address_number (numbers_in o))
+
+all_are_pairs : list_all is_address_pair (instructions_of machine.AArch64) ≡ true
+all_are_pairs = refl
+
+address_numbers : (n : ℕ) → is_address_number n ≡ true → Contains (r_aarch64_adr_prel_pg_hi21 ∷ r_aarch64_add_abs_lo12_nc ∷ []) n
+address_numbers n h =
+    elim (cases_Bool (n == r_aarch64_adr_prel_pg_hi21)) [
+      | inl t ↦ (0, omega arith, sym (eqb-true n r_aarch64_adr_prel_pg_hi21 t))
+      | inr f ↦ (1, omega arith, sym (eqb-true n r_aarch64_add_abs_lo12_nc (or_other (n == r_aarch64_adr_prel_pg_hi21) (n == r_aarch64_add_abs_lo12_nc) h f)))
+    ]
+
+has_passes : (t : ℕ → Bool) (n : ℕ) (xs : List ℕ) → list_all t xs ≡ true → has n xs ≡ true → t n ≡ true
+has_passes t n [] all h = absurd cc
+has_passes t n (x ∷ xs) all h =
+    let parts = and_parts (t x) (list_all t xs) all in
+    elim (cases_Bool (x == n)) [
+      | inl e ↦ subst (λ (y : ℕ). t y ≡ true) (eqb-true x n e) parts.0
+      | inr f ↦ has_passes t n xs parts.1 (or_other (x == n) (has n xs) h f)
+    ]
+
+-- such an instruction of a reference
+address_number : (l : Layout) (item : Item) (r : InputRelocation) → l.machine ≡ machine.AArch64 → GoesByPlace l item r → Contains (r_aarch64_adr_prel_pg_hi21 ∷ r_aarch64_add_abs_lo12_nc ∷ []) r.number
+address_number l item r x h = by_template h.start h.instruction h.first h.counts h.template
+  where
+    parts : (o : Instruction) → Contains (instructions_of l.machine) o → CountsFromPlace o.sort → (list_all is_address_number o.numbers ≡ true) × (list_all is_address_number (numbers_in o) ≡ true)
+    parts o known e =
+        let all = listed_passes is_address_pair (instructions_of machine.AArch64) o all_are_pairs (subst (λ (m : Machine). Contains (instructions_of m) o) x known) in
+        and_parts _ _ (implied (is_by_place o.sort) _ all (counts_by_place o.sort e))
+
+    by_template : (start : ℕ) (o : Instruction) (one : InputRelocation) → CountsFromPlace o.sort → IsTemplate l item r start o one → Contains (r_aarch64_adr_prel_pg_hi21 ∷ r_aarch64_add_abs_lo12_nc ∷ []) r.number
+    by_template start o one e (inl t) = address_numbers r.number (listed_passes is_address_number o.numbers r.number (parts o t.0.stands.known e).0 t.0.stands.number)
+    by_template start o one e (inr t) = address_numbers r.number (has_passes is_address_number r.number (numbers_in o) (parts o t.sequence.stands.known e).1 (numbered l item r start o one t))
+
 template_code : (l : Layout) (item : Item) (r : InputRelocation) (start : ℕ) (o : Instruction) (one : InputRelocation) → IsTemplate l item r start o one → IsSet item.flags shf_execinstr
 template_code l item r start o one (inl t) = t.0.stands.code
 template_code l item r start o one (inr t) = t.sequence.stands.code
@@ -149,6 +202,7 @@ template_code l item r start o one (inr t) = t.sequence.stands.code
 pub slots_asked : SlotsAreAsked
 slots_asked = record {
   numbers = λ l w item r f x known none other. placeless_asked l w item r (no_place l r f known none) (λ h. other (slot_number l item r x h));
+  words = λ l w item r f x known none other. placeless_asked l w item r (no_place l r f known none) (λ h. other (address_number l item r x h));
   elsewhere = λ l w item r f known none code. placeless_asked l w item r (no_place l r f known none) (λ h. code (template_code l item r h.start h.instruction h.first h.template));
 }
 

@@ -5,7 +5,8 @@ use Rattle.std.specs.List.{list_all}
 use Rattle.std.proofs.lemmas.Bool.{leb-true, le-leb}
 use Rattle.std.proofs.lemmas.Option.{slice_get_past}
 use Rattle.wild_words.proofs.Basics.{listed_passes}
-use Rattle.wild_records.specs.Abi.Relocation.{r_x86_64_none, r_x86_64_pc32, r_x86_64_plt32, r_x86_64_gotpcrel, r_x86_64_gotpcrelx, r_x86_64_rex_gotpcrelx, r_x86_64_tlsgd}
+use Rattle.wild_words.specs.Words.{number}
+use Rattle.wild_records.specs.Abi.Relocation.{r_x86_64_none, r_x86_64_pc32, r_x86_64_plt32, r_x86_64_gotpcrel, r_x86_64_gotpcrelx, r_x86_64_rex_gotpcrelx, r_x86_64_tlsgd, r_aarch64_call26}
 use Rattle.wild_types.specs.declared.kind.Machine.{Machine}
 use Rattle.wild_types.specs.declared.kind.Machine.TheVariants as machine
 use Rattle.wild_types.specs.declared.input.InputRelocation.{InputRelocation}
@@ -19,10 +20,13 @@ use Rattle.wild_loader.specs.Instruction.{stands}
 use Rattle.wild_meaning.specs.Field.{formula_of, form_width, InNoField}
 use Rattle.wild_meaning.specs.Sequence.{Instruction, size_of, instructions_of, IsOwnByte}
 use Rattle.wild_aarch64.specs.Effect.{words_of}
+use Rattle.wild_aarch64.specs.Code.{read, read_address, read_access, read_vector_access, read_literal, read_transfer, read_condition}
 use Rattle.wild_meaning.specs.Template.{AddsNothing, IsInstruction, IsSequence}
 use Rattle.wild_meaning.proofs.PairLemmas.{as_its_call}
+use Rattle.wild_meaning.proofs.InstructionsAArch64.{IsAlone, alone_template}
 use Rattle.wild_laws.proofs.Symbols.{not_both}
-use Rattle.wild_worlds.specs.Worked.{WorkedBranchesAreAsked, WorkedAddressesAreAsked, IsWorked, IsPaired, AsksForThreadAddress, worked_relocation, worked_item, direct_code, indirect_code, load_code, direct_branch, indirect_branch, load, general, pair_relocation, getter_relocation, general_item}
+use Rattle.wild_made.specs.Calling.{branch_reference, branch_bytes}
+use Rattle.wild_worlds.specs.Worked.{WorkedBranchesAreAsked, WorkedAddressesAreAsked, IsWorked, IsPaired, AsksForThreadAddress, worked_relocation, worked_item, direct_code, indirect_code, load_code, direct_branch, indirect_branch, load, general, branch_word, pair_relocation, getter_relocation, general_item}
 
 -- ---- one instruction
 
@@ -179,8 +183,38 @@ paired l address h = (record { listed = (0, omega arith, refl); refers = not_non
 getter : (l : Layout) (address : ℕ) → AsksForThreadAddress l → IsPaired l address getter_relocation
 getter l address h = (record { listed = (1, omega arith, refl); refers = not_none r_x86_64_plt32 (omega arith) }, inr (record { rest = getter_relocation ∷ []; sequence = general_sequence l address h; one = (1, omega arith, refl) }))
 
+-- ---- AArch64
+
+-- a word is a field as a whole
+no_byte : (k : ℕ) → k < 4 → (k < 0) ⊎ (4 ≤ k) → ⊥
+no_byte k lt (inl h) = omega (arith, h)
+no_byte k lt (inr h) = omega (arith, lt, h)
+
+word_alone : IsAlone r_aarch64_call26 branch_word
+word_alone = record { single = refl; at = refl; one = (refl, tt); none = tt }
+
+word_stands : (l : Layout) (address : ℕ) → l.machine ≡ machine.AArch64 → IsInstruction l (worked_item address branch_bytes (branch_reference ∷ [])) branch_reference 0 branch_word
+unfolding number read read_address read_access read_vector_access read_literal read_transfer read_condition
+word_stands l address x = record {
+  code = refl;
+  known = subst (λ (m : Machine). Contains (instructions_of m) branch_word) (sym x) (1, omega arith, refl);
+  number = (0, omega arith, refl);
+  field = refl;
+  inside = omega arith;
+  stands = refl;
+  words = refl;
+  counts = tt;
+  alone = λ k h. absurd (no_byte k h.inside h.beside);
+}
+
+worked_word : (l : Layout) (address : ℕ) → l.machine ≡ machine.AArch64 → IsWorked l address branch_bytes branch_reference branch_word
+worked_word l address x = (
+  record { listed = (0, omega arith, refl); refers = not_none r_aarch64_call26 (omega arith) },
+  alone_template l (worked_item address branch_bytes (branch_reference ∷ [])) branch_reference branch_word x word_alone (word_stands l address x),
+)
+
 pub branches_asked : WorkedBranchesAreAsked
-branches_asked = record { call = worked_call; jump = worked_jump; slot_call = worked_slot_call; slot_jump = worked_slot_jump }
+branches_asked = record { call = worked_call; jump = worked_jump; slot_call = worked_slot_call; slot_jump = worked_slot_jump; word = worked_word }
 
 pub addresses_asked : WorkedAddressesAreAsked
 addresses_asked = record { loads = worked_load; pairs = paired; getters = getter }

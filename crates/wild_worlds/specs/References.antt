@@ -5,7 +5,7 @@
 --   FewAreLinkedAlone      few of them take the output's own symbol
 --   BlanksAreAsked         sections without data are asked for zeros
 use Rattle.std.specs.Prelude.{◌≡◌, ◌≢◌, ℕ, ◌+◌, ◌<◌, ◌≤◌, true, false, [], ◌∷◌, Some, None, Contains}
-use Rattle.wild_records.specs.Abi.Relocation.{r_x86_64_none, r_x86_64_gotpcrel, r_x86_64_gotpcrelx}
+use Rattle.wild_records.specs.Abi.Relocation.{r_x86_64_none, r_x86_64_gotpcrel, r_x86_64_gotpcrelx, r_aarch64_adr_prel_pg_hi21, r_aarch64_add_abs_lo12_nc}
 use Rattle.wild_records.specs.Abi.Section.{shf_execinstr}
 use Rattle.wild_records.specs.Abi.Segment.{pt_load}
 use Rattle.wild_types.specs.declared.kind.Machine.TheVariants as machine
@@ -32,7 +32,7 @@ use Rattle.wild_laws.specs.FirstTypes.{IsLoadedSection}
 
 -- each loaded, allocated input section with data is kept, as its item
 abbrev pub SectionsAreKept : Type 0
-SectionsAreKept = (l : Layout) (s : InputSection) → IsLoadedSection l s → IsKept l (item_of s)
+SectionsAreKept = (l : Layout) (s : InputSection) (k : IsLoadedSection l s) → IsKept l (item_of l k.file s)
 
 -- each of an item's relocations but NONE is a reference
 abbrev pub RelocationsRefer : Type 0
@@ -53,9 +53,10 @@ pub record ReferencesAreAsked : Type 0 where
   pub placeless : (l : Layout) (w : World) (item : Item) (r : InputRelocation) → (HasPlace l r → ⊥) → (GoesByPlace l item r → ⊥) → IsAsked l w item r
 
 -- so a value that takes no place from an address, as a slot's distance, is asked unless the relocation's type is one that calls
--- and jumps through slots have, and it stands in code
+-- and jumps through slots have, or on AArch64 the two instructions that make an address, and it stands in code
 pub record SlotsAreAsked : Type 0 where
   pub numbers : (l : Layout) (w : World) (item : Item) (r : InputRelocation) (f : Formula) → l.machine ≡ machine.X86_64 → formula_of l.machine r.number ≡ Some f → (IsPlaceRelative f.value → ⊥) → (Contains (r_x86_64_gotpcrel ∷ r_x86_64_gotpcrelx ∷ []) r.number → ⊥) → IsAsked l w item r
+  pub words : (l : Layout) (w : World) (item : Item) (r : InputRelocation) (f : Formula) → l.machine ≡ machine.AArch64 → formula_of l.machine r.number ≡ Some f → (IsPlaceRelative f.value → ⊥) → (Contains (r_aarch64_adr_prel_pg_hi21 ∷ r_aarch64_add_abs_lo12_nc ∷ []) r.number → ⊥) → IsAsked l w item r
   pub elsewhere : (l : Layout) (w : World) (item : Item) (r : InputRelocation) (f : Formula) → formula_of l.machine r.number ≡ Some f → (IsPlaceRelative f.value → ⊥) → (IsSet item.flags shf_execinstr → ⊥) → IsAsked l w item r
 
 -- a reference takes the output's own symbol only where another module may have one: not of a symbol that is not replaceable, nor

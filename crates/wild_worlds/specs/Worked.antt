@@ -1,10 +1,10 @@
 -- Worked code is asked for what its instructions do.
 --   IsWorked ..               the code has a reference with that instruction
---   WorkedBranchesAreAsked    calls and jumps, direct and through slots
+--   WorkedBranchesAreAsked    calls and jumps, direct and through slots, of either machine
 --   WorkedAddressesAreAsked   an address in a slot, and a thread address
 use Rattle.std.specs.Prelude.{◌≡◌, ℕ, true, false, List, [], ◌∷◌, Some}
 use lib.IntN.{negsuc}
-use Rattle.wild_records.specs.Abi.Relocation.{r_x86_64_pc32, r_x86_64_plt32, r_x86_64_gotpcrel, r_x86_64_gotpcrelx, r_x86_64_rex_gotpcrelx, r_x86_64_tlsgd}
+use Rattle.wild_records.specs.Abi.Relocation.{r_x86_64_pc32, r_x86_64_plt32, r_x86_64_gotpcrel, r_x86_64_gotpcrelx, r_x86_64_rex_gotpcrelx, r_x86_64_tlsgd, r_aarch64_call26}
 use Rattle.wild_types.specs.declared.kind.Machine.TheVariants as machine
 use Rattle.wild_types.specs.declared.input.InputRelocation.{InputRelocation}
 use Rattle.wild_types.specs.declared.layout.Layout.{Layout}
@@ -18,9 +18,10 @@ use Rattle.wild_loader.specs.declared.instruction.Deed.{Deed}
 use Rattle.wild_loader.specs.declared.instruction.Deed.TheVariants.{Set, Call, Jump}
 use Rattle.wild_loader.specs.CodeX86_64.{rex, with_slot, branch}
 use Rattle.wild_loader.specs.ThreadCodeX86_64.{general_call}
-use Rattle.wild_meaning.specs.Sequence.{Instruction, Target, TargetInSlot, AddressInSlot, SymbolPair, of_field, of_sequence, of_symbol, by_call}
+use Rattle.wild_meaning.specs.Sequence.{Instruction, Target, TargetInSlot, AddressInSlot, SymbolPair, of_field, of_word, of_sequence, of_symbol, by_call}
 use Rattle.wild_meaning.specs.Partners.{NamesGetter}
 use Rattle.wild_meaning.specs.Template.{IsTemplate}
+use Rattle.wild_made.specs.Calling.{branch_reference, branch_bytes}
 
 -- the worked examples' code: an instruction with four bytes that a relocation fills, and two returns; and a sequence with two such
 -- fields
@@ -28,7 +29,7 @@ abbrev pub worked_relocation : ℕ → ℕ → ℕ → InputRelocation
 worked_relocation offset number symbol = record { offset = offset; number = number; symbol = Some symbol; addend = negsuc 3; malformed = false }
 
 abbrev pub worked_item : ℕ → List ℕ → List InputRelocation → Item
-worked_item address bytes rs = record { address = address; flags = 6; bytes = bytes; relocations = rs }
+worked_item address bytes rs = record { address = address; flags = 6; bytes = bytes; relocations = rs; thunk_block = 0 }
 
 -- `call` and `jmp`, and the same through a slot; `mov` of an address in a slot
 abbrev pub direct_code : ℕ → List ℕ
@@ -57,6 +58,10 @@ load = of_field (with_slot 0x8b Word Set rex) 3 AddressInSlot (r_x86_64_rex_gotp
 abbrev pub general : Instruction
 general = of_sequence general_call 4 SymbolPair r_x86_64_tlsgd of_symbol (by_call 12)
 
+-- `bl` of AArch64
+abbrev pub branch_word : Instruction
+branch_word = of_word Target r_aarch64_call26
+
 -- the code has a reference with that instruction
 abbrev pub IsWorked : Layout → ℕ → List ℕ → InputRelocation → Instruction → Type 0
 IsWorked l address bytes r o = IsReference (worked_item address bytes (r ∷ [])) r × IsTemplate l (worked_item address bytes (r ∷ [])) r 0 o r
@@ -66,6 +71,7 @@ pub record WorkedBranchesAreAsked : Type 0 where
   pub jump : (l : Layout) (address : ℕ) → l.machine ≡ machine.X86_64 → IsWorked l address (direct_code 0xe9) (worked_relocation 1 r_x86_64_plt32 0) (direct_branch 0xe9 Jump)
   pub slot_call : (l : Layout) (address : ℕ) → l.machine ≡ machine.X86_64 → IsWorked l address (indirect_code 0x15) (worked_relocation 2 r_x86_64_gotpcrelx 0) (indirect_branch 0x15 Call)
   pub slot_jump : (l : Layout) (address : ℕ) → l.machine ≡ machine.X86_64 → IsWorked l address (indirect_code 0x25) (worked_relocation 2 r_x86_64_gotpcrel 0) (indirect_branch 0x25 Jump)
+  pub word : (l : Layout) (address : ℕ) → l.machine ≡ machine.AArch64 → IsWorked l address branch_bytes branch_reference branch_word
 
 -- the two relocations of the sequence
 abbrev pub pair_relocation : InputRelocation

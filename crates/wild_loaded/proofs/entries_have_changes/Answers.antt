@@ -7,6 +7,6 @@ pub returns : goal.returns
 returns c = record {
   slots = λ l w i k s d e numbers legal laid slots there here is. slot_fills l w i k s d e c.entries_are_known.ensures numbers legal laid slots there here is;
   pair = λ l w d e legal there is. pair_fills l w d e c.entries_are_known.ensures legal there is;
-  left = λ l w s r z number symbol addend numbers legal laid listed input made. left_fills l w s r z number symbol addend numbers legal laid made;
+  left = λ l w s r z number symbol addend numbers legal laid made. left_fills l w s r z number symbol addend numbers legal laid made;
   copies = λ l w i raw answer numbers legal laid h. copy_fills l w i raw answer legal laid h;
 }

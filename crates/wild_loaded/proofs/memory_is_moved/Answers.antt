@@ -34,4 +34,5 @@ returns c = memory_moved (record {
   };
   stand = c.slots_stand.ensures;
   blanks = c.sections_are_stored.ensures.blanks;
+  thunks = c.thunks_are_there.ensures;
 })

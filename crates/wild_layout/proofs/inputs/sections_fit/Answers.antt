@@ -3,11 +3,11 @@ use Rattle.std.specs.Prelude.{All}
 use Rattle.std.proofs.lemmas.List.{take_all}
 use Rattle.std.proofs.lemmas.List.Elements.{All-more}
 use Rattle.wild_types.specs.declared.input.InputSection.{InputSection}
-use Rattle.wild_layout.specs.Numbers.{AddendFits}
-use Rattle.wild_layout.proofs.addends.sections_fit.Goals as goal
+use Rattle.wild_layout.specs.Numbers.{InputNumbers}
+use Rattle.wild_layout.proofs.inputs.sections_fit.Goals as goal
 
 abbrev Fits : InputSection → Type 0
-Fits x = (λ (s : InputSection). All AddendFits s.relocations) x
+Fits x = InputNumbers x
 
 pub loop-section-preserved : goal.loop-section-preserved
 loop-section-preserved c = All-more Fits _ _ c.section-item.result c.loop-section-test.true c.loop-section.invariant (subst Fits c.section-item.is c.section_fits.ensures)

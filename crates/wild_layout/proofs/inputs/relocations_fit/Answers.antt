@@ -4,7 +4,7 @@ use Rattle.std.proofs.lemmas.List.{take_all}
 use Rattle.std.proofs.lemmas.List.Elements.{All-more}
 use Rattle.wild_types.specs.declared.input.InputRelocation.{InputRelocation}
 use Rattle.wild_layout.specs.Numbers.{AddendFits}
-use Rattle.wild_layout.proofs.addends.relocations_fit.Goals as goal
+use Rattle.wild_layout.proofs.inputs.relocations_fit.Goals as goal
 
 abbrev Fits : InputRelocation → Type 0
 Fits x = AddendFits x

@@ -3,12 +3,11 @@ use Rattle.std.specs.Prelude.{All}
 use Rattle.std.proofs.lemmas.List.{take_all}
 use Rattle.std.proofs.lemmas.List.Elements.{All-more}
 use Rattle.wild_types.specs.declared.file.File.{File}
-use Rattle.wild_types.specs.declared.input.InputSection.{InputSection}
-use Rattle.wild_layout.specs.Numbers.{AddendFits}
-use Rattle.wild_layout.proofs.addends.files_fit.Goals as goal
+use Rattle.wild_layout.specs.Numbers.{InputNumbers}
+use Rattle.wild_layout.proofs.inputs.files_fit.Goals as goal
 
 abbrev Fits : File → Type 0
-Fits x = (λ (f : File). All (λ (s : InputSection). All AddendFits s.relocations) f.sections) x
+Fits x = (λ (f : File). All InputNumbers f.sections) x
 
 pub loop-file-preserved : goal.loop-file-preserved
 loop-file-preserved c = All-more Fits _ _ c.file-item.result c.loop-file-test.true c.loop-file.invariant (subst Fits c.file-item.is c.file_fits.ensures)

@@ -4,12 +4,11 @@ use Rattle.std.proofs.lemmas.List.{take_all}
 use Rattle.std.proofs.lemmas.List.Elements.{All-more}
 use Rattle.wild_types.specs.declared.file.Group.{Group}
 use Rattle.wild_types.specs.declared.file.File.{File}
-use Rattle.wild_types.specs.declared.input.InputSection.{InputSection}
-use Rattle.wild_layout.specs.Numbers.{AddendFits}
-use Rattle.wild_layout.proofs.addends.addends_fit.Goals as goal
+use Rattle.wild_layout.specs.Numbers.{InputNumbers}
+use Rattle.wild_layout.proofs.inputs.groups_fit.Goals as goal
 
 abbrev Fits : Group → Type 0
-Fits x = (λ (g : Group). All (λ (f : File). All (λ (s : InputSection). All AddendFits s.relocations) f.sections) g.files) x
+Fits x = (λ (g : Group). All (λ (f : File). All InputNumbers f.sections) g.files) x
 
 pub loop-group-preserved : goal.loop-group-preserved
 loop-group-preserved c = All-more Fits _ _ c.group-item.result c.loop-group-test.true c.loop-group.invariant (subst Fits c.group-item.is c.group_fits.ensures)

@@ -1,0 +1,149 @@
+-- Thunks in the memory of an image: as the file has them, whatever its tables fill.
+use Rattle.std.proofs.Common.{◌≡◌, ℕ, ◌+◌, ◌<◌, inl, inr, true, List, [], ◌∷◌, length, Some, flat_map, refl, sym, ap, ◌∙◌, arith, subst}
+use Rattle.std.specs.Prelude.{All, Contains, Result, slice_index}
+use Rattle.std.proofs.lemmas.List.Elements.{All-contains, Contains-append_right}
+use Rattle.wild_words.specs.Words.{Stands}
+use Rattle.wild_words.specs.Overlay.{Piece, Apart}
+use Rattle.wild_types.specs.declared.fault.Fault.{Fault}
+use Rattle.wild_types.specs.declared.part.Role.{Role}
+use Rattle.wild_types.specs.declared.input.InputSection.{InputSection}
+use Rattle.wild_types.specs.declared.file.File.{File}
+use Rattle.wild_types.specs.declared.file.Group.{Group}
+use Rattle.wild_types.specs.declared.layout.Thunk.{Thunk}
+use Rattle.wild_types.specs.declared.layout.Layout.{Layout}
+use Rattle.wild_types.specs.FileThunks.{thunk_size, thunks_of}
+use Rattle.wild_types.specs.Lookups.{is_filled, files_of}
+use Rattle.wild_types.specs.Parts.{is_loaded_role}
+use Rattle.wild_relax.specs.ThunkAArch64.{thunk_aarch64}
+use Rattle.wild_layout.specs.Thunks.{thunk_target, target_or_zero, thunk_bytes}
+use Rattle.wild_layout.specs.Image.{bytes, pieces, section_pieces, thunk_offset, thunk_piece, thunk_pieces, file_pieces, table_pieces, owned_pieces, group_pieces}
+use Rattle.wild_layout.specs.ThunkPlaces.{ThunkLies}
+use Rattle.wild_layout.specs.Geometry.{IsLaidOut}
+use Rattle.wild_layout.proofs.FaultLemmas.{CanGoOn, thunks_of_groups}
+use Rattle.wild_layout.proofs.SiteLemmas.{Contains-flat_map}
+use Rattle.wild_layout.proofs.ThunkLemmas.{length-thunk, length-thunk_bytes, GoesOnTo, goes_on}
+use Rattle.wild_loader.specs.declared.memory.Memory.{Memory}
+use Rattle.wild_loader.specs.declared.world.World.{World}
+use Rattle.wild_loader.specs.Memory.{Holds, byte_in}
+use Rattle.wild_loader.specs.SegmentLaws.{BytesAreLoaded}
+use Rattle.wild_meaning.specs.World.{IsLegal}
+use Rattle.wild_geometry.specs.Thunks.{HasThunks}
+use Rattle.wild_geometry.proofs.Rooms.{room_of, length-room, section_room, rooms_in}
+use Rattle.wild_loaded.specs.Memory.{IsStored, image_memory}
+use Rattle.wild_loaded.specs.Laws.{ThunksAreThere}
+use Rattle.wild_loaded.proofs.Carried.{Contains-flat_map_from}
+use Rattle.wild_loaded.proofs.PartsHeld.{byte_stands, byte_carried}
+use Rattle.wild_loaded.proofs.Loads.{piece_stands}
+use Rattle.wild_loaded.proofs.Homes.{Home, HasHome, HomesApart, homes_back}
+use Rattle.wild_loaded.proofs.SectionsApart.{all_sections, section_home, thunk_pieces_apart}
+use Rattle.wild_loaded.proofs.TableHomes.{role_home, room_apart}
+use Rattle.wild_loaded.proofs.FilledSections.{input_of}
+use Rattle.wild_loaded.proofs.MadeChanges.{IsMovedImage, kept_at}
+use Rattle.wild_loaded.proofs.OutsideTables.{run_misses}
+
+-- a file writes the thunk
+record IsOfFile (l : Layout) (t : Thunk) : Type 0 where
+  group : Group
+  file : File
+  grouped : Contains l.groups group
+  filed : Contains group.files file
+  own : Contains (thunks_of l file) t
+
+of_file : (l : Layout) (b : List Thunk) (t : Thunk) → IsLaidOut l → Contains l.thunk_blocks b → Contains b t → IsOfFile l t
+of_file l b t laid c d =
+    let o = laid.blocks b t c d in
+    record { group = o.group; file = o.file; grouped = o.listed; filed = o.holds; own = subst (λ (ts : List Thunk). Contains ts t) (sym o.own) d }
+
+-- what holds of the thunks of each file
+each_of : (l : Layout) (P : Thunk → Type 0) (t : Thunk) → All (λ (g : Group). All (λ (f : File). All P (thunks_of l f)) g.files) l.groups → IsOfFile l t → P t
+each_of l P t h k =
+    All-contains P (thunks_of l k.file) t (All-contains (λ (f : File). All P (thunks_of l f)) k.group.files k.file (All-contains (λ (g : Group). All (λ (f : File). All P (thunks_of l f)) g.files) l.groups k.group h k.grouped) k.filed) k.own
+
+-- ---- in the file
+
+abbrev thunk_at : Layout → Thunk → Piece
+thunk_at l t = record { at = thunk_offset l t; bytes = thunk_bytes l t }
+
+of_thunks : (l : Layout) (t : Thunk) (k : IsOfFile l t) → Contains (thunk_pieces l k.file) (thunk_at l t)
+of_thunks l t k = Contains-flat_map (thunk_piece l) (thunks_of l k.file) t (thunk_at l t) k.own (0, omega arith, refl)
+
+thunk_listed : (l : Layout) (t : Thunk) → IsOfFile l t → Contains (pieces l) (thunk_at l t)
+unfolding pieces
+thunk_listed l t k =
+    let owned = Contains-append_right (section_pieces l k.file) (thunk_pieces l k.file) (thunk_at l t) (of_thunks l t k) in
+    let in_group = Contains-flat_map (file_pieces l) k.group.files k.file (thunk_at l t) k.filed owned in
+    Contains-flat_map_from (group_pieces l) 0 l.groups k.group (thunk_at l t) k.grouped (λ n. Contains-append_right (table_pieces l n k.group) (owned_pieces l k.group) (thunk_at l t) in_group)
+
+thunk_stands : (l : Layout) (t : Thunk) → IsLaidOut l → IsOfFile l t → Stands (bytes l) (thunk_offset l t) (thunk_bytes l t)
+thunk_stands l t laid k = piece_stands l (thunk_at l t) laid (thunk_listed l t k)
+
+-- ---- in memory
+
+thunk_held : (l : Layout) (w : World) (t : Thunk) → BytesAreLoaded → IsLegal l w → IsLaidOut l → IsOfFile l t → Holds (image_memory l w) (w.base + t.address) (thunk_bytes l t)
+thunk_held l w t law legal laid k = λ i lt.
+    let n = length-thunk_bytes l t in
+    let c = (each_of l (ThunkLies l) t laid.thunks k).carried i (omega (arith, lt, n)) in
+    let e : w.base + (t.address + i) ≡ w.base + t.address + i = omega arith in
+    subst (λ (a : ℕ). byte_in (image_memory l w) a ≡ Some (slice_index (thunk_bytes l t) i)) e (byte_carried l w c.0 (thunk_offset l t + i) (t.address + i) (slice_index (thunk_bytes l t) i) law legal laid c.1 (byte_stands (bytes l) (thunk_offset l t) i (thunk_bytes l t) lt (thunk_stands l t laid k)))
+
+-- the bytes of a thunk with a target
+aimed : (l : Layout) (t : Thunk) (g : GoesOnTo t.address (thunk_target l t)) → thunk_bytes l t ≡ (thunk_aarch64 t.address g.target).bytes
+aimed l t g = ap (λ (r : Result ℕ Fault). (thunk_aarch64 t.address (target_or_zero r)).bytes) g.known
+
+pub thunks_there : BytesAreLoaded → ThunksAreThere
+thunks_there law = λ l w legal laid none b t c d.
+    let k = of_file l b t laid c d in
+    let g = goes_on t.address (thunk_target l t) (each_of l (CanGoOn l) t (thunks_of_groups l none) k) in
+    record { target = g.target; known = g.known; reaches = g.reaches; stands = subst (Holds (image_memory l w) (w.base + t.address)) (aimed l t g) (thunk_held l w t law legal laid k) }
+
+-- ---- behind what the tables fill
+
+-- where a thunk stands
+abbrev thunk_home : Layout → Thunk → Home
+thunk_home l t = record { address = t.address; offset = thunk_offset l t; size = thunk_size }
+
+home_there : (l : Layout) (t : Thunk) → ThunkLies l t → HasHome l (thunk_home l t)
+home_there l t h k lt = h.carried k lt
+
+-- a thunk shares no byte with a section
+section_apart : (l : Layout) (t : Thunk) (s : InputSection) → IsLaidOut l → IsOfFile l t → Contains (all_sections l) s → IsStored l s → HomesApart (thunk_home l t) (section_home l s)
+section_apart l t s laid k c stored =
+    let i = input_of l s c in
+    let own : Contains (section_room l s) (room_of l s) = subst (λ (ps : List Piece). Contains ps (room_of l s)) (sym (one l s stored.filled)) (0, omega arith, refl) in
+    let in_file = Contains-flat_map (section_room l) i.file.sections s (room_of l s) i.listed own in
+    let file = Contains-flat_map (λ (g : Group). g.files) l.groups i.group i.file i.grouped i.filed in
+    let section = Contains-flat_map (rooms_in l) (files_of l.groups) i.file (room_of l s) file in_file in
+    let home = Contains-flat_map (λ (g : Group). g.files) l.groups k.group k.file k.grouped k.filed in
+    let thunk = Contains-flat_map (thunk_pieces l) (files_of l.groups) k.file (thunk_at l t) home (of_thunks l t k) in
+    let all = All-contains (λ a. All (Apart a) (flat_map (thunk_pieces l) (files_of l.groups))) (flat_map (rooms_in l) (files_of l.groups)) (room_of l s) (thunk_pieces_apart l laid) section in
+    sides (All-contains (Apart (room_of l s)) (flat_map (thunk_pieces l) (files_of l.groups)) (thunk_at l t) all thunk) (length-room l s) (length-thunk_bytes l t)
+  where
+    one : (l : Layout) (s : InputSection) → is_filled l s ≡ true → section_room l s ≡ room_of l s ∷ []
+    one l s filled = rw filled refl
+
+    sides : Apart (room_of l s) (thunk_at l t) → length (room_of l s).bytes ≡ s.size → length (thunk_bytes l t) ≡ thunk_size → HomesApart (thunk_home l t) (section_home l s)
+    sides (inl le) fs ft = inr (omega (arith, le, fs))
+    sides (inr le) fs ft = inl (omega (arith, le, ft))
+
+-- nor with a table
+table_apart : (l : Layout) (t : Thunk) (r : Role) → IsLaidOut l → ThunkLies l t → is_loaded_role r ≡ true → HomesApart (thunk_home l t) (role_home l r)
+table_apart l t r laid h loaded = homes_back (role_home l r) (thunk_home l t) (room_apart l r l.primary_part t.address thunk_size h.stands.0 loaded laid h.stands.1)
+
+-- a byte of a thunk is filled by none of them
+thunk_kept : (l : Layout) (w : World) (m : Memory) (t : Thunk) (i : ℕ) → IsMovedImage l w m → IsOfFile l t → i < thunk_size → byte_in m (w.base + t.address + i) ≡ byte_in (image_memory l w) (w.base + t.address + i)
+thunk_kept l w m t i h k lt =
+    let lies = each_of l (ThunkLies l) t h.well.laid.thunks k in
+    let same = kept_at l w m (t.address + i) h (run_misses l w m (thunk_home l t) i h (home_there l t lies) (λ s c stored. section_apart l t s h.well.laid k c stored) (λ r loaded. table_apart l t r h.well.laid lies loaded) lt) in
+    let e : w.base + (t.address + i) ≡ w.base + t.address + i = omega arith in
+    subst (λ (a : ℕ). byte_in m a ≡ byte_in (image_memory l w) a) e same
+
+pub thunks_moved : (l : Layout) (w : World) (m : Memory) → ThunksAreThere → IsMovedImage l w m → HasThunks l w m
+thunks_moved l w m law h = λ b t c d.
+    let before = law l w h.well.legal h.well.laid h.well.none b t c d in
+    let n = length-thunk t.address before.target in
+    record {
+      target = before.target;
+      known = before.known;
+      reaches = before.reaches;
+      stands = λ i lt. thunk_kept l w m t i h (of_file l b t h.well.laid c d) (omega (arith, lt, n)) ∙ before.stands i lt;
+    }

@@ -1,0 +1,68 @@
+-- What is decided of the relocations of a run that is rewritten.
+--   word_written      where a row is chosen that changes its word, that is what is written
+--   asked_there       each word of a run asks the same question
+use Rattle.std.proofs.Common.{◌≡◌, ℕ, ◌+◌, ◌-◌, Bool, true, false, refl, sym, ap, ◌∙◌, subst, arith}
+use Rattle.std.specs.Prelude.{Option, Some, Result, Ok, Err, if◌then◌else◌, slice_get}
+use Rattle.wild_types.specs.declared.kind.Machine.{Machine}
+use Rattle.wild_types.specs.declared.kind.Machine.TheVariants as machine
+use Rattle.wild_types.specs.declared.fault.Fault.{Fault}
+use Rattle.wild_types.specs.declared.fault.Fault.TheVariants as faults
+use Rattle.wild_types.specs.declared.input.InputRelocation.{InputRelocation}
+use Rattle.wild_types.specs.declared.layout.Layout.{Layout}
+use Rattle.wild_types.specs.Item.{Item}
+use Rattle.wild_reloc.specs.Field.{allows}
+use Rattle.wild_relax.specs.declared.reference.UnknownSequence.{UnknownSequence}
+use Rattle.wild_relax.specs.declared.row.Row.{Row}
+use Rattle.wild_relax.specs.Linked.{keeps_bytes}
+use Rattle.wild_relax.specs.RewriteX86_64.{rewrite_of, info_written}
+use Rattle.wild_relax.specs.SequenceAArch64.{words_before}
+use Rattle.wild_relax.specs.TogetherAArch64.{asked_at}
+use Rattle.wild_layout.specs.declared.decision.Decision.{Decision}
+use Rattle.wild_layout.specs.declared.decision.Decision.TheVariants.{Field, Rewritten}
+use Rattle.wild_layout.specs.Choice.{infos_from, asked_of, question_around, choice_around, choice_on, is_partner}
+use Rattle.wild_layout.specs.Decide.{place_to, term_to, value_to, rewritten_to, decide_with, decide}
+use Rattle.wild_layout.specs.Values.{value_in}
+use Rattle.wild_references.proofs.RewrittenOffsets.{IsWrittenWord}
+
+-- ---- the decision
+
+-- the word is written with some value, which is what is decided
+pub record IsDecidedWord (l : Layout) (s : Item) (i : ℕ) (r : InputRelocation) (row : Row) (d : Decision) : Type 0 where
+  pub value : ℕ
+  pub is : d ≡ Rewritten row value
+  pub written : IsWrittenWord l s i r row value
+
+pub word_written : (l : Layout) (s : Item) (i : ℕ) (r : InputRelocation) (row : Row) (d : Decision) → l.machine ≡ machine.AArch64 → slice_get s.relocations i ≡ Some r → choice_around l s i r ≡ Ok (Some row) → keeps_bytes row ≡ false → is_partner l s i ≡ false → decide l s i ≡ Ok d → IsDecidedWord l s i r row d
+unfolding decide
+word_written l s i r row d on listed chosen changes alone h = by_term (term_to l r (info_written row) (place_to s r row)) refl made
+  where
+    with_choice : decide_with l s r (choice_on l.machine l s i r) ≡ Ok d
+    with_choice = rw (alone, listed) at h
+
+    on_machine : decide_with l s r (choice_around l s i r) ≡ Ok d
+    on_machine = subst (λ (m : Machine). decide_with l s r (choice_on m l s i r) ≡ Ok d) on with_choice
+
+    made : rewritten_to l s r row ≡ Ok d
+    made = subst (λ (c : Result (Option Row) UnknownSequence). decide_with l s r c ≡ Ok d) chosen on_machine
+
+    by_test : (a v : ℕ) (b : Bool) → term_to l r (info_written row) (place_to s r row) ≡ Ok a → value_in l (info_written row) a ((rewrite_of row).addend r.addend) (place_to s r row) ≡ v → allows (info_written row) v ≡ b
+        → (if b then Ok (if keeps_bytes row then Field (info_written row).size v else Rewritten row v) else Err (faults.OutOfRange v)) ≡ Ok d → IsDecidedWord l s i r row d
+    by_test a v false given value allowed e = cc
+    by_test a v true given value allowed e =
+        let same : Ok (Rewritten row v) ≡ Ok d = rw changes at e in
+        let is : d ≡ Rewritten row v = cc in
+        record { value = v; is = is; written = record { has = record { listed = listed; decided = h ∙ ap (λ (x : Decision). Ok x) is }; term = a; given = given; value = value; allowed = allowed } }
+
+    by_term : (t : Result ℕ Fault) → term_to l r (info_written row) (place_to s r row) ≡ t → value_to l s r row t ≡ Ok d → IsDecidedWord l s i r row d
+    by_term (Err f) given e = cc
+    by_term (Ok a) given e = by_test a (value_in l (info_written row) a ((rewrite_of row).addend r.addend) (place_to s r row)) (allows (info_written row) (value_in l (info_written row) a ((rewrite_of row).addend r.addend) (place_to s r row))) given refl refl e
+
+-- ---- the question
+
+-- the relocation of word j of a run that begins with relocation index asks what those of the others ask
+pub asked_there : (l : Layout) (s : Item) (i index k j symbol : ℕ) (r p : InputRelocation) → i ≡ index + k → words_before r.number ≡ k → words_before p.number ≡ j → asked_at (question_around l s i r symbol) j ≡ question_around l s (index + j) p symbol
+asked_there l s i index k j symbol r p at mine its =
+    let first : i - words_before r.number ≡ index = ap (λ (n : ℕ). i - n) mine ∙ omega (arith, at) in
+    let other : index + j - words_before p.number ≡ index = ap (λ (n : ℕ). index + j - n) its ∙ omega arith in
+    let place : j ≡ index + j - (index + j - words_before p.number) = (let e : index + j - index ≡ j = omega arith in sym (ap (λ (n : ℕ). index + j - n) other ∙ e)) in
+    ap (λ (n : ℕ). asked_of l s symbol (infos_from s.relocations n) j) (first ∙ sym other) ∙ ap (λ (n : ℕ). asked_of l s symbol (infos_from s.relocations (index + j - words_before p.number)) n) place
