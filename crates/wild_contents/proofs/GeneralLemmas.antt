@@ -13,7 +13,6 @@ use Rattle.wild_types.specs.declared.file.File.{File}
 use Rattle.wild_types.specs.declared.layout.Layout.{Layout}
 use Rattle.wild_needs.specs.Entries.{is_left_to_entry, left_relocations}
 use Rattle.wild_types.specs.FileSymbols.{copies_of}
-use Rattle.wild_types.specs.Item.{item_of}
 use Rattle.wild_types.specs.Lookups.{is_read}
 use Rattle.wild_slot.specs.Treatment.{treatment}
 use Rattle.wild_tables.specs.Entries.{rela_bytes}
@@ -36,7 +35,7 @@ kept p e (x ∷ xs) = kept_bytes p e x (filter p xs) (p x) ∙ ap (λ (bs : List
 
 pub section_left : (l : Layout) (s : InputSection) → is_read s ≡ true → section_general_bytes l s ≡ flat_map (left_bytes l s) s.relocations
 unfolding section_general_bytes section_generals left_relocations left_bytes left_in
-section_left l s h = rw h (kept (λ r. is_left_to_entry (treatment l s.flags r)) (left_entry l (item_of s)) s.relocations)
+section_left l s h = rw h (kept (λ r. is_left_to_entry (treatment l s.flags r)) (left_entry l s.address s.flags) s.relocations)
 
 section_unread : (l : Layout) (s : InputSection) → is_read s ≡ false → section_general_bytes l s ≡ []
 unfolding section_general_bytes section_generals left_relocations

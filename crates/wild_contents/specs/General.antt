@@ -8,7 +8,6 @@ use Rattle.wild_records.specs.declared.relocations.Rela.{Rela}
 use Rattle.wild_types.specs.declared.input.InputRelocation.{InputRelocation}
 use Rattle.wild_types.specs.declared.input.InputSection.{InputSection}
 use Rattle.wild_types.specs.declared.layout.Layout.{Layout}
-use Rattle.wild_types.specs.Item.{item_of}
 use Rattle.wild_needs.specs.Entries.{is_left_to_entry}
 use Rattle.wild_slot.specs.Treatment.{treatment}
 use Rattle.wild_tables.specs.Entries.{rela_bytes}
@@ -16,7 +15,7 @@ use Rattle.wild_layout.specs.Left.{left_entry, section_generals, copy_entry}
 
 -- the entry of a relocation, where its field is left to one
 unfoldable pub left_in : Layout → InputSection → InputRelocation → Option Rela
-left_in l s r = if is_left_to_entry (treatment l s.flags r) then Some (left_entry l (item_of s) r) else None
+left_in l s r = if is_left_to_entry (treatment l s.flags r) then Some (left_entry l s.address s.flags r) else None
 
 unfoldable pub left_bytes : Layout → InputSection → InputRelocation → List ℕ
 left_bytes l s r = rela_bytes (option_to_list (left_in l s r))

@@ -1,9 +1,8 @@
 //! What symbols that are copied into the output lack of their entries.
-ghost use Rattle.std.specs.Prelude.{◌≡◌, Some, ◌++◌};
+ghost use Rattle.std.specs.Prelude.{◌≡◌, Some};
 ghost use Rattle.std.specs.List.{flat_map};
-ghost use Rattle.wild_types.specs.FileSymbols.{copies_of};
 ghost use Rattle.wild_types.specs.Faults.{Answers};
-ghost use Rattle.wild_layout.specs.Faults.{copy_fault, copy_errors, slot_errors};
+ghost use Rattle.wild_layout.specs.Faults.{copy_fault, copy_errors, entry_errors};
 ghost use Rattle.wild_layout.specs.SymbolValues.{raw_address};
 ghost use Rattle.wild_layout.specs.SlotValues.{index_of};
 
@@ -68,7 +67,7 @@ pub fn check_entries<A: Arch>(
     place: InputPlace,
     file: &File,
 ) -> Result<(), Error>
-    ensures { Answers result (flat_map (copy_errors resolved.now.layout.now place.group place.file) (copies_of file.now) ++ slot_errors resolved.now.layout.now place.group place.file file.now) }
+    ensures { Answers result (entry_errors resolved.now.layout.now place.group place.file file.now) }
 {
     check_copies(resolved, place, file.copied())?;
     check_slots(resolved.layout, place, file)

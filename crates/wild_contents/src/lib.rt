@@ -1,5 +1,5 @@
 //! What each group gives to each table: entries, words of slots, stubs, names, symbols, hash tables, versions and the dynamic section, and
-//! its input sections' bytes.
+//! the bytes of its input sections and thunks.
 #![tactic(auto)]
 
 mod copies;
@@ -19,6 +19,7 @@ mod symbols;
 mod symtab;
 mod symtab_faults;
 mod tables;
+mod thunks;
 mod versions;
 mod words;
 
@@ -27,3 +28,4 @@ pub use dynamic::has_last;
 pub use listed::check_symbol_tables;
 pub use part_bytes::PartBytes;
 pub use tables::add_content;
+pub use thunks::add_thunks;

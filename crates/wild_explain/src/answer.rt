@@ -1,6 +1,5 @@
 //! What is said of the bytes of a plan.
 ghost use Rattle.std.specs.Prelude.{◌≡◌, IfOk, string_bytes, length};
-ghost use Rattle.wild_types.specs.declared.kind.Machine.TheVariants.{X86_64};
 ghost use Rattle.wild_text.specs.Means.{plan};
 ghost use Rattle.wild_text.specs.Answer.{image_line, no_plan_text};
 ghost use Rattle.wild_explain.specs.Explain.{Begins, IsTold, IsExplained, IsRefusedAs, IsAnswerOf};
@@ -12,10 +11,10 @@ use std::thread::Threads;
 use wild_explain_reasons::{
     push_advice, push_fields, push_image, push_needs, push_owner, push_reason,
 };
-use wild_image::{ElfX86_64, write};
+use wild_image::write_layout;
 use wild_plan::{Error, Fault, Layout};
 use wild_program::{LINKED, NO_PLAN, REFUSED};
-use wild_text::{PlanFault, no_plan_answer, plans_are_read, read_plan, refusal_answer};
+use wild_text::{PlanFault, no_plan_answer, read_plan, refusal_answer};
 
 /// The status and the text for a fault, with its reason; for want of memory there is none.
 fn refusal_of(alloc: Global, layout: &Layout, error: Error) -> Result<(u8, String), AllocError>
@@ -83,10 +82,9 @@ fn explained(
     layout: &Layout,
     view: View,
 ) -> Result<(u8, String), AllocError>
-    requires machine { layout.now.machine ≡ X86_64 }
     ensures { IfOk result (λ a. IsExplained layout.now a.0 (string_bytes a.1)) }
 {
-    match write::<ElfX86_64>(rt, alloc, layout, 1) {
+    match write_layout(rt, alloc, layout, 1) {
         Ok(made) => {
             let text = image_answer(alloc, layout, made.out.as_slice(), view)?;
             Ok((LINKED, text))
@@ -102,7 +100,6 @@ fn layout_answer(
     layout: &Layout,
     command: Command,
 ) -> Result<(u8, String), AllocError>
-    requires machine { layout.now.machine ≡ X86_64 }
     ensures { IfOk result (λ a. IsTold command (plan layout.now) a.0 (string_bytes a.1)) }
 {
     match command {
@@ -154,7 +151,6 @@ pub(crate) fn plan_answer(
             return Ok((NO_PLAN, text));
         }
     };
-    plans_are_read();
     let answer = layout_answer(rt, alloc, &layout, command)?;
     Ok(answer)
 }

@@ -1,7 +1,8 @@
 //! Faults of relocations, slots, copies and symbols, in words.
 
-use crate::items::{Item, SectionPlace, push_decided, push_item, section_at};
+use crate::items::{Item, SectionPlace, push_decided, push_found, push_item, section_at};
 use crate::names::{push_name, push_symbol, push_type};
+use crate::thunks::refused_thunk;
 use std::alloc::AllocError;
 use std::fmt::Write;
 use wild_slot::{SlotFault, SymbolSlots};
@@ -61,9 +62,17 @@ fn fault_words(fault: Fault) -> (&'static str, &'static str) {
             "an entry stores what a resolver answers, and has nothing to add to it",
             "take the function's address itself, and add in code",
         ),
+        Fault::NoThunk { .. } => (
+            "the target of a branch is out of its range, and the block of its file has no thunk of the symbol's definition",
+            "give the block one, or move the sections nearer",
+        ),
         Fault::ThunkOutOfRange { .. } => (
-            "the target of a thunk is 4 GiB or more from it",
-            "move the sections nearer",
+            "a thunk is out of the range of a branch, or its target is 4 GiB or more from it",
+            "move the sections nearer, or give the file a block of its own",
+        ),
+        Fault::ThunkAddend { .. } => (
+            "the target of a branch is out of its range, and a thunk has nothing to add to it",
+            "branch to a symbol at the place itself, or move the sections nearer",
         ),
         Fault::PltTooFar { .. } => (
             "a stub is too far from its slot",
@@ -111,7 +120,7 @@ pub fn push_relocation(
     };
     let offset = relocation.offset;
     let addend = relocation.addend;
-    push_type(out, relocation.number)?;
+    push_type(out, layout.machine, relocation.number)?;
     write!(out, " at offset {offset} of ")?;
     push_name(out, section.name.as_slice())?;
     write!(out, ", addend {addend}")?;
@@ -129,7 +138,10 @@ pub fn push_relocation(
 /// Adds the numbers of a fault.
 fn push_numbers(out: &mut String, layout: &Layout, fault: Fault) -> Result<(), AllocError> {
     match fault {
-        Fault::OutOfRange { value } | Fault::PltTooFar { value } => {
+        Fault::OutOfRange { value }
+        | Fault::NoThunk { value }
+        | Fault::ThunkOutOfRange { value }
+        | Fault::PltTooFar { value } => {
             let signed = value.cast_signed();
             write!(out, "; value {signed}")?;
         }
@@ -139,6 +151,7 @@ fn push_numbers(out: &mut String, layout: &Layout, fault: Fault) -> Result<(), A
         }
         Fault::OverlappingSites { byte } => write!(out, "; byte {byte}")?,
         Fault::IfuncAddend { addend } => write!(out, "; addend {addend}, expected 0")?,
+        Fault::ThunkAddend { addend } => write!(out, "; addend {addend}, expected 0")?,
         _ => {}
     }
     writeln!(out)?;
@@ -165,8 +178,22 @@ fn refused_slot(layout: &Layout, at: At, fault: Fault) -> Option<usize> {
     None
 }
 
+/// The thunk of a file that is refused with that value.
+fn thunk_at(layout: &Layout, at: At, value: u64) -> Option<Item> {
+    let found = layout.groups.as_slice().get(at.group?)?;
+    refused_thunk(layout, found.files.as_slice().get(at.file?)?, value)
+}
+
 /// Adds where a fault is that is in no section.
 fn push_outside(out: &mut String, layout: &Layout, fault: Fault, at: At) -> Result<(), AllocError> {
+    if let Fault::ThunkOutOfRange { value } = fault
+        && let Some(thunk) = thunk_at(layout, at, value)
+    {
+        write!(out, "where: ")?;
+        push_item(out, thunk)?;
+        write!(out, "\nfound: ")?;
+        return push_found(out, layout, thunk);
+    }
     let symbol = match fault {
         Fault::MissingResolution { symbol, .. } | Fault::StaticTlsDesc { symbol } => Some(symbol),
         _ => refused_slot(layout, at, fault),

@@ -5,8 +5,12 @@ use crate::items::{Item, SectionPlace, push_item};
 use crate::names::push_resolution;
 use std::alloc::AllocError;
 use std::fmt::Write;
+use wild_records::abi::relocation::R_AARCH64_TLSDESC_CALL;
+use wild_reloc::RelocationSize;
 use wild_slot::{Treatment, treatment_of};
-use wild_types::{InputRelocation, InputSection, Layout, Resolution, SymbolIndex, field_bytes};
+use wild_types::{
+    InputRelocation, InputSection, Layout, Machine, Resolution, SymbolIndex, field_bytes, row_of,
+};
 
 /// What is done with a relocation that keeps its instruction.
 fn treatment_word(treatment: Treatment) -> &'static str {
@@ -46,8 +50,30 @@ fn push_bytes(out: &mut String, bytes: &[u8], offset: u64, count: u64) -> Result
     Ok(())
 }
 
+/// The word of a list at an offset.
+fn word_at(bytes: &[u8], offset: u64) -> u32 {
+    let mut word = [0; 4];
+    for (i, byte) in word.iter_mut().enumerate() {
+        *byte = byte_at(bytes, offset.saturating_add(i as u64));
+    }
+    u32::from_le_bytes(word)
+}
+
+/// Whether a word of AArch64 with a field of that type is another in the image, but for the field.
+fn is_other_word(number: u32, old: u32, new: u32) -> bool {
+    match row_of(Machine::AArch64, number) {
+        Some(row) => match row.size {
+            RelocationSize::BitMasking(field) => {
+                field.instruction.insert(old, 0) != field.instruction.insert(new, 0)
+            }
+            RelocationSize::ByteSize(_) => number == R_AARCH64_TLSDESC_CALL && old != new,
+        },
+        None => false,
+    }
+}
+
 /// Whether one of the three bytes ahead of a field is another in the image.
-fn is_rewritten(section: &InputSection, image: &[u8], start: u64, offset: u64) -> bool {
+fn is_changed_ahead(section: &InputSection, image: &[u8], start: u64, offset: u64) -> bool {
     let first = offset.saturating_sub(3);
     for i in first..offset {
         let now = byte_at(image, start.saturating_add(i));
@@ -56,6 +82,25 @@ fn is_rewritten(section: &InputSection, image: &[u8], start: u64, offset: u64) -
         }
     }
     false
+}
+
+/// Whether the instruction of a relocation is another in the image, where the section begins at `start`.
+fn is_rewritten(
+    machine: Machine,
+    section: &InputSection,
+    relocation: &InputRelocation,
+    image: &[u8],
+    start: u64,
+) -> bool {
+    let offset = relocation.offset;
+    match machine {
+        Machine::X86_64 => is_changed_ahead(section, image, start, offset),
+        Machine::AArch64 => is_other_word(
+            relocation.number,
+            word_at(section.bytes.as_slice(), offset),
+            word_at(image, start.saturating_add(offset)),
+        ),
+    }
 }
 
 /// The resolution of the definition of a symbol.
@@ -76,7 +121,7 @@ fn push_written(
     let offset = relocation.offset;
     let width = field_bytes(layout.machine, relocation.number) as u64;
     let word = treatment_word(treatment_of(layout, section.flags, relocation));
-    if is_rewritten(section, image, start, offset) {
+    if is_rewritten(layout.machine, section, relocation, image, start) {
         write!(out, "; its instruction was rewritten")?;
     } else {
         write!(out, "; {word}")?;

@@ -2,8 +2,8 @@
 
 use std::alloc::AllocError;
 use std::fmt::Write;
-use wild_reloc::x86_64::rel_type_to_string;
-use wild_types::{Layout, Resolution, Role, place_of};
+use wild_reloc::{aarch64, x86_64};
+use wild_types::{Layout, Machine, Resolution, Role, place_of};
 
 /// The roles by the words of plans, each at its place in the list of roles.
 const ROLES: [(&str, Role); 30] = [
@@ -109,9 +109,13 @@ pub(crate) fn push_symbol(
     Ok(())
 }
 
-/// Adds the name of a relocation type of x86-64.
-pub fn push_type(out: &mut String, number: u32) -> Result<(), AllocError> {
-    match rel_type_to_string(number).name() {
+/// Adds the name of a relocation type of a machine.
+pub fn push_type(out: &mut String, machine: Machine, number: u32) -> Result<(), AllocError> {
+    let name = match machine {
+        Machine::X86_64 => x86_64::rel_type_to_string(number),
+        Machine::AArch64 => aarch64::rel_type_to_string(number),
+    };
+    match name.name() {
         Some(name) => write!(out, "{name} ({number})")?,
         None => write!(out, "type {number}")?,
     }

@@ -4,6 +4,7 @@ use crate::faults::push_relocation;
 use crate::headers::given_before;
 use crate::items::{Item, SectionPlace, push_item, section_at};
 use crate::names::{push_section, role_word};
+use crate::thunks::thunk_with;
 use std::alloc::AllocError;
 use std::fmt::Write;
 use wild_types::{InputSection, Layout, Part, Role, field_bytes, has_role};
@@ -60,7 +61,28 @@ fn push_input(
     Ok(())
 }
 
-/// Adds which group has a byte of a part, and which input section.
+/// Adds which input section of a group has an address in a part, or which thunk.
+fn push_owned(
+    out: &mut String,
+    layout: &Layout,
+    group: usize,
+    part: usize,
+    address: u64,
+) -> Result<(), AllocError> {
+    if let Some(at) = section_with(layout, group, part, address) {
+        return push_input(out, layout, at, address);
+    }
+    if part == layout.primary_part
+        && let Some((thunk, byte)) = thunk_with(layout, group, address)
+    {
+        write!(out, "owner: byte {byte} of ")?;
+        push_item(out, thunk)?;
+        writeln!(out)?;
+    }
+    Ok(())
+}
+
+/// Adds which group has a byte of a part, and which input section or thunk.
 fn push_in_part(
     out: &mut String,
     layout: &Layout,
@@ -80,10 +102,8 @@ fn push_in_part(
         if before <= byte && byte < through {
             let own = byte - before;
             writeln!(out, "group: byte {own} of the share of /groups/{group}")?;
-            if has_role(Role::Raw, part)
-                && let Some(at) = section_with(layout, group, index, address)
-            {
-                push_input(out, layout, at, address)?;
+            if has_role(Role::Raw, part) {
+                push_owned(out, layout, group, index, address)?;
             }
         }
     }

@@ -63,6 +63,10 @@ pub(crate) fn test_plan(layout: &Layout, index: usize, test: PlanTest) -> Verdic
         PlanTest::PageSize => due(!page.is_power_of_two() || page < 4096 || page > 65536, 4096),
         PlanTest::ThreadAlign => plain(!layout.tls.align.is_power_of_two()),
         PlanTest::ThreadEnd => plain(layout.tls.end < layout.tls.start),
+        PlanTest::ThreadStart => {
+            let align = layout.tls.align;
+            plain(align == 0 || layout.tls.start % align != 0)
+        }
         PlanTest::NoSection => plain(layout.sections.len() == 0),
         PlanTest::NoGroup => plain(layout.groups.len() == 0),
         PlanTest::Missing(role) => plain(!is_there(role, parts)),
@@ -94,7 +98,7 @@ pub(crate) fn test_plan(layout: &Layout, index: usize, test: PlanTest) -> Verdic
         }
         PlanTest::SearchPath => plain(has_zero(&layout.options.rpath)),
         PlanTest::OwnName => plain(has_zero(&layout.options.soname)),
-        PlanTest::ThreadStart | PlanTest::TooMany | PlanTest::NoTable | PlanTest::Versions => {
+        PlanTest::NoPair | PlanTest::TooMany | PlanTest::NoTable | PlanTest::Versions => {
             plain(true)
         }
         _ => match layout.gnu_hash {
@@ -138,7 +142,7 @@ pub(crate) fn push_plan(
             write!(out, "part {part} of {parts} parts")?;
         }
         PlanTest::StaticDynamic | PlanTest::NoTable => push_table(out, layout, index)?,
-        PlanTest::Pair => {
+        PlanTest::Pair | PlanTest::NoPair => {
             let pair = layout.tlsld.unwrap_or(0);
             write!(out, "{pair}")?;
         }

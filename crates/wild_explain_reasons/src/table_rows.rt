@@ -17,7 +17,7 @@ const SHAPE: &str = "the shape of the GNU hash table";
 const ZERO: &str = "a name has a zero byte; the one that ends a string is added when it is written";
 
 /// Those of the clauses on indexes, slots, tables and names.
-pub(crate) const TABLE_ROWS: [Row; 68] = [
+pub(crate) const TABLE_ROWS: [Row; 69] = [
     (
         9,
         Test::Part(PartTest::Section),
@@ -266,6 +266,12 @@ pub(crate) const TABLE_ROWS: [Row; 68] = [
         Test::Plan(PlanTest::ThreadStart),
         "the start of the thread-local data is no multiple of their alignment",
         "/tls/start",
+    ),
+    (
+        15,
+        Test::Plan(PlanTest::NoPair),
+        "AArch64 has no module pair of its own for local-dynamic references",
+        "/tlsld",
     ),
     (
         16,

@@ -9,6 +9,7 @@ pub(crate) enum PlanTest {
     ThreadAlign,
     ThreadEnd,
     ThreadStart,
+    NoPair,
     NoSection,
     NoGroup,
     TooMany,

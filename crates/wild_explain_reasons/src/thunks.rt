@@ -3,7 +3,8 @@
 use crate::items::{Item, SectionPlace};
 use crate::tests::ThunkTest;
 use crate::verdict::{Finding, due, plain};
-use wild_types::{Group, Layout, Thunk};
+use wild_slot::page_of;
+use wild_types::{File, Group, Layout, Thunk};
 
 /// The bytes of a thunk.
 const THUNK_SIZE: u64 = 12;
@@ -121,4 +122,46 @@ pub(crate) fn find_thunk(layout: &Layout, index: usize, test: ThunkTest) -> Opti
         item: Item::Thunk(index, found),
         verdict: plain(true),
     })
+}
+
+/// Where a thunk goes on to: the stub of its symbol, or where that has none its address.
+fn target_of(layout: &Layout, thunk: &Thunk) -> Option<u64> {
+    let definition = layout.canonical(thunk.symbol);
+    let found = layout.symbols.as_slice().get(definition.0)?;
+    match found.resolution {
+        Some(resolution) => resolution.plt_address.or(layout.raw_value(thunk.symbol)),
+        None => layout.raw_value(thunk.symbol),
+    }
+}
+
+/// How far the page of its target is from its own, modulo 2^64.
+fn pages_apart(layout: &Layout, thunk: &Thunk) -> Option<u64> {
+    let target = target_of(layout, thunk)?;
+    Some(page_of(target).wrapping_sub(page_of(thunk.address)))
+}
+
+/// The first thunk that a file writes whose target is so far away.
+pub(crate) fn refused_thunk(layout: &Layout, file: &File, value: u64) -> Option<Item> {
+    for (i, thunk) in layout.thunks_of(file).iter().enumerate() {
+        if pages_apart(layout, thunk) == Some(value) {
+            return Some(Item::Thunk(file.thunk_block, i));
+        }
+    }
+    None
+}
+
+/// The thunk of a group that has the address, and how far behind its start that is.
+pub(crate) fn thunk_with(layout: &Layout, group: usize, address: u64) -> Option<(Item, u64)> {
+    let found = layout.groups.as_slice().get(group)?;
+    for file in found.files.as_slice() {
+        for (i, thunk) in layout.thunks_of(file).iter().enumerate() {
+            let behind = address.checked_sub(thunk.address);
+            if let Some(byte) = behind
+                && byte < THUNK_SIZE
+            {
+                return Some((Item::Thunk(file.thunk_block, i), byte));
+            }
+        }
+    }
+    None
 }

@@ -1,22 +1,29 @@
 -- Laws of bytes that are taken from the front of others.
-use Rattle.std.proofs.Common.{◌≡◌, ℕ, ◌+◌, ◌<◌, ◌≤◌, true, false, List, [], ◌++◌, length, take, drop, get_or, refl, sym, ap, ◌∙◌, arith, subst}
-use Rattle.std.specs.Prelude.{Bool, Some, slice_get}
+use Rattle.std.proofs.Common.{◌≡◌, ℕ, ◌+◌, ◌<◌, ◌≤◌, true, false, List, [], ◌++◌, length, take, drop, get_or, sym, ap, ◌∙◌, arith, subst}
+use Rattle.std.specs.Prelude.{Some, slice_get}
 use Rattle.std.specs.List.{flat_map}
-use Rattle.std.proofs.lemmas.Bool.{and_parts}
 use Rattle.std.proofs.lemmas.List.{append_assoc, get_or_default, drop_more, drop_at, take_at, length-append, append-nil, drop_all}
 use Rattle.std.proofs.lemmas.Option.{slice_get-get_or}
 use Rattle.wild_words.specs.Words.{place}
 use Rattle.wild_words.specs.Overlay.{overlay}
 use Rattle.wild_types.specs.declared.input.InputSection.{InputSection}
+use Rattle.wild_types.specs.declared.file.File.{File}
 use Rattle.wild_types.specs.declared.file.Group.{Group}
+use Rattle.wild_types.specs.declared.layout.Thunk.{Thunk}
 use Rattle.wild_types.specs.declared.layout.Layout.{Layout}
-use Rattle.wild_types.specs.Lookups.{is_filled, is_loaded, is_read}
+use Rattle.wild_types.specs.Lookups.{is_filled}
 use Rattle.wild_layout.specs.Sites.{section_bytes}
-use Rattle.wild_layout.specs.Image.{offset_in, section_piece}
+use Rattle.wild_layout.specs.Thunks.{thunk_bytes}
+use Rattle.wild_layout.specs.Image.{offset_in, section_piece, thunk_offset, thunk_piece}
 use Rattle.wild_layout.specs.SectionPlaces.{SectionLies}
-use Rattle.wild_geometry.proofs.SiteLemmas.{length-section_bytes}
-use Rattle.wild_image.specs.Pieces.{section_owned, group_tables, group_sections, group_bytes}
-use Rattle.wild_image.specs.Append.{BeginsWith, GoesOn}
+use Rattle.wild_layout.specs.Geometry.{IsLaidOut}
+use Rattle.wild_geometry.proofs.Rooms.{lies_size}
+use Rattle.wild_image.specs.Pieces.{section_owned, group_tables, group_files, group_bytes}
+use Rattle.wild_image.specs.Append.{BeginsWith, GoesOn, EachFileLies}
+
+-- in a layout that is laid out the sections and thunks of each file lie in their parts
+pub each_file_lies : (l : Layout) → IsLaidOut l → EachFileLies l
+each_file_lies l laid = λ i g m. (λ k f n. record { sections = laid.inputs i g m k f n; thunks = laid.thunks i g m k f n })
 
 -- what is left behind the first i items, whatever stands behind them all
 abbrev pub StandsBehind : {X : Type 0} → (X → List ℕ) → List X → List ℕ → List ℕ → ℕ → Type 0
@@ -69,41 +76,51 @@ cut_off own bytes n long begins = record {
 }
 
 -- a section that owns bytes has as many as its size
-pub length_owned : (l : Layout) (s : InputSection) → SectionLies l s → is_filled l s ≡ true → length (section_owned l s) ≡ s.size
-length_owned l s h filled = rw filled (by l s s.nobits refl h filled)
-  where
-    by : (l : Layout) (s : InputSection) (nobits : Bool) → s.nobits ≡ nobits → SectionLies l s → is_filled l s ≡ true → length (section_bytes l s) ≡ s.size
-    by l s true e h filled = length-section_bytes l s (λ n. cc) h.fields
-    by l s false e h filled =
-        let parts = and_parts (is_loaded s.slot) _ filled in
-        let read : is_read s ≡ true = rw (parts.0, e) refl in
-        let long = h.bytes read in
-        length-section_bytes l s (λ n. long) h.fields
+pub length_owned : (l : Layout) (f : File) (s : InputSection) → SectionLies l s → is_filled l s ≡ true → length (section_owned l f s) ≡ s.size
+length_owned l f s h filled = rw filled (lies_size l s h filled f)
 
 -- the bytes of the section, put
-pub section_appended : (l : Layout) (s : InputSection) (at : ℕ) (own out next : List ℕ) → is_filled l s ≡ true → at ≡ offset_in (slice_get l.parts s.part) s.address → own ≡ section_owned l s → next ≡ place at own out → next ≡ overlay (section_piece l s) out
-section_appended l s at own out next filled is bytes e =
-    let same : own ≡ section_bytes l s = rw filled at bytes in
+pub section_appended : (l : Layout) (f : File) (s : InputSection) (at : ℕ) (own out next : List ℕ) → is_filled l s ≡ true → at ≡ offset_in (slice_get l.parts s.part) s.address → own ≡ section_owned l f s → next ≡ place at own out → next ≡ overlay (section_piece l f s) out
+section_appended l f s at own out next filled is bytes e =
+    let same : own ≡ section_bytes l f s = rw filled at bytes in
     e ∙ rw filled (ap (λ (n : ℕ). place n own out) is ∙ ap (λ (r : List ℕ). place (offset_in (slice_get l.parts s.part) s.address) r out) same)
 
 -- a section that owns nothing takes nothing
-pub section_stays : (l : Layout) (s : InputSection) (bytes : List ℕ) → is_filled l s ≡ false → GoesOn (section_owned l s) bytes bytes
-section_stays l s bytes none = λ rest e. rw none at e
+pub section_stays : (l : Layout) (f : File) (s : InputSection) (bytes : List ℕ) → is_filled l s ≡ false → GoesOn (section_owned l f s) bytes bytes
+section_stays l f s bytes none = λ rest e. rw none at e
+
+-- the bytes of the thunk, put
+pub thunk_appended : (l : Layout) (t : Thunk) (at : ℕ) (own out next : List ℕ) → at ≡ thunk_offset l t → own ≡ thunk_bytes l t → next ≡ place at own out → next ≡ overlay (thunk_piece l t) out
+thunk_appended l t at own out next is bytes e = e ∙ ap (λ (n : ℕ). place n own out) is ∙ ap (λ (r : List ℕ). place (thunk_offset l t) r out) bytes
+
+-- ---- what stands one behind the other
+
+-- two lists begin with the first
+pub both_begin : (xs ys bytes : List ℕ) → BeginsWith (xs ++ ys) bytes → BeginsWith xs bytes
+both_begin xs ys bytes begins = (ys ++ begins.0, begins.1 ∙ append_assoc xs ys begins.0)
+
+-- and go on with the second
+pub both_go_on : (xs ys bytes rest : List ℕ) → BeginsWith (xs ++ ys) bytes → GoesOn xs bytes rest → BeginsWith ys rest
+both_go_on xs ys bytes rest begins goes = (begins.0, goes (ys ++ begins.0) (begins.1 ∙ append_assoc xs ys begins.0))
+
+-- behind the second stands what stands behind both
+pub both_end : (xs ys bytes between rest : List ℕ) → GoesOn xs bytes between → GoesOn ys between rest → GoesOn (xs ++ ys) bytes rest
+both_end xs ys bytes between rest first second = λ after e. second after (first (ys ++ after) (e ∙ append_assoc xs ys after))
 
 -- all bytes of a group begin with what it gives to the tables
 pub group_begins : (l : Layout) (g : Group) (bytes : List ℕ) → BeginsWith (group_bytes l g) bytes → BeginsWith (group_tables l g) bytes
 unfolding group_bytes
-group_begins l g bytes begins = (group_sections l g ++ begins.0, begins.1 ∙ append_assoc (group_tables l g) (group_sections l g) begins.0)
+group_begins l g bytes begins = both_begin (group_tables l g) (group_files l g) bytes begins
 
--- and go on with its input sections
-pub group_goes_on : (l : Layout) (g : Group) (bytes rest : List ℕ) → BeginsWith (group_bytes l g) bytes → GoesOn (group_tables l g) bytes rest → BeginsWith (group_sections l g) rest
+-- and go on with its files
+pub group_goes_on : (l : Layout) (g : Group) (bytes rest : List ℕ) → BeginsWith (group_bytes l g) bytes → GoesOn (group_tables l g) bytes rest → BeginsWith (group_files l g) rest
 unfolding group_bytes
-group_goes_on l g bytes rest begins goes = (begins.0, goes (group_sections l g ++ begins.0) (begins.1 ∙ append_assoc (group_tables l g) (group_sections l g) begins.0))
+group_goes_on l g bytes rest begins goes = both_go_on (group_tables l g) (group_files l g) bytes rest begins goes
 
 -- behind both stands what stands behind the group
-pub group_ends : (l : Layout) (g : Group) (bytes sections rest : List ℕ) → GoesOn (group_tables l g) bytes sections → GoesOn (group_sections l g) sections rest → GoesOn (group_bytes l g) bytes rest
+pub group_ends : (l : Layout) (g : Group) (bytes files rest : List ℕ) → GoesOn (group_tables l g) bytes files → GoesOn (group_files l g) files rest → GoesOn (group_bytes l g) bytes rest
 unfolding group_bytes
-group_ends l g bytes sections rest tables goes = λ after e. goes after (tables (group_sections l g ++ after) (e ∙ append_assoc (group_tables l g) (group_sections l g) after))
+group_ends l g bytes files rest tables goes = both_end (group_tables l g) (group_files l g) bytes files rest tables goes
 
 -- bytes that are all of some items begin with those
 pub begins_all : (own bytes : List ℕ) → bytes ≡ own → BeginsWith own bytes

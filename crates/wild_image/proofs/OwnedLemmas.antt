@@ -1,5 +1,5 @@
 -- Laws of what a group owns of each part.
-use Rattle.std.proofs.Common.{◌≡◌, ℕ, ◌+◌, ◌<◌, inl, inr, true, List, [], ◌∷◌, ◌++◌, length, map, take, set, get_or, refl, sym, ap, ◌∙◌, arith, subst}
+use Rattle.std.proofs.Common.{◌≡◌, ℕ, ◌+◌, ◌<◌, inl, inr, ◌==◌, if◌then◌else◌, true, List, [], ◌∷◌, ◌++◌, length, map, take, set, get_or, refl, sym, ap, ◌∙◌, arith, subst}
 use Rattle.std.specs.Prelude.{Option, Some, slice_get}
 use Rattle.std.specs.List.{flat_map}
 use Rattle.wild_words.proofs.Basics.{slice_get_inside}
@@ -10,6 +10,7 @@ use Rattle.std.proofs.lemmas.Option.{get_or_from_slice_get, slice_get_within}
 use Rattle.std.proofs.lemmas.List.FromFn.{fill_by_all}
 use Rattle.wild_types.specs.declared.part.Part.{Part}
 use Rattle.wild_types.specs.declared.input.InputSection.{InputSection}
+use Rattle.wild_types.specs.declared.file.File.{File}
 use Rattle.wild_types.specs.declared.file.Group.{Group}
 use Rattle.wild_types.specs.declared.layout.Layout.{Layout}
 use Rattle.wild_types.specs.Lookups.{is_filled}
@@ -18,18 +19,38 @@ use Rattle.wild_layout.specs.Content.{content}
 use Rattle.wild_image.specs.Pieces.{role_of, group_given, owned_in, group_owned, group_part, group_parts}
 
 -- bytes behind those of one part
-pub part_extended : (l : Layout) (s : InputSection) (parts : List (List ℕ)) (d new : List ℕ) → is_filled l s ≡ true → s.part < length parts → new ≡ get_or parts s.part d ++ section_bytes l s
-    → (k : ℕ) → k < length parts → get_or (set parts s.part new) k [] ≡ get_or parts k [] ++ owned_in l k s
-part_extended l s parts d new filled inside is k low =
+pub part_extended : (l : Layout) (f : File) (s : InputSection) (parts : List (List ℕ)) (d new : List ℕ) → is_filled l s ≡ true → s.part < length parts → new ≡ get_or parts s.part d ++ section_bytes l f s
+    → (k : ℕ) → k < length parts → get_or (set parts s.part new) k [] ≡ get_or parts k [] ++ owned_in l f k s
+part_extended l f s parts d new filled inside is k low =
     elim (cases_eq k s.part) [
       | inl same ↦
           (let t = eq-eqb s.part s.part refl in
           let here : get_or parts s.part d ≡ get_or parts s.part [] = get_or_default parts s.part d [] inside in
-          rw (same, filled, t) (get_or-set_same parts s.part new [] inside ∙ is ∙ ap (λ (xs : List ℕ). xs ++ section_bytes l s) here))
+          rw (same, filled, t) (get_or-set_same parts s.part new [] inside ∙ is ∙ ap (λ (xs : List ℕ). xs ++ section_bytes l f s) here))
       | inr other ↦
           (let t = ne_eqb s.part k (λ e. other (sym e)) in
           rw (filled, t) (get_or-set_other parts s.part k new [] other ∙ sym (append-nil (get_or parts k []))))
     ]
+
+-- the same, of bytes that stand there or nowhere
+pub part_taken : (part : ℕ) (bytes : List ℕ) (parts : List (List ℕ)) (d new : List ℕ) → part < length parts → new ≡ get_or parts part d ++ bytes
+    → (k : ℕ) → k < length parts → get_or (set parts part new) k [] ≡ get_or parts k [] ++ (if part == k then bytes else [])
+part_taken part bytes parts d new inside is k low =
+    elim (cases_eq k part) [
+      | inl same ↦
+          (let t = eq-eqb part part refl in
+          let here : get_or parts part d ≡ get_or parts part [] = get_or_default parts part d [] inside in
+          rw (same, t) (get_or-set_same parts part new [] inside ∙ is ∙ ap (λ (xs : List ℕ). xs ++ bytes) here))
+      | inr other ↦
+          (let t = ne_eqb part k (λ e. other (sym e)) in
+          rw t (get_or-set_other parts part k new [] other ∙ sym (append-nil (get_or parts k []))))
+    ]
+
+-- two, one behind the other
+pub both_owned : (f g : ℕ → List ℕ) (base now next : List (List ℕ)) → length now ≡ length base → ((k : ℕ) → k < length base → get_or now k [] ≡ get_or base k [] ++ f k) → ((k : ℕ) → k < length now → get_or next k [] ≡ get_or now k [] ++ g k)
+    → (k : ℕ) → k < length base → get_or next k [] ≡ get_or base k [] ++ (f k ++ g k)
+both_owned f g base now next long first second k low =
+    second k (omega arith) ∙ ap (λ (ys : List ℕ). ys ++ g k) (first k low) ∙ append_assoc (get_or base k []) (f k) (g k)
 
 -- one more item's bytes, for an item that a loop read
 pub owned_read : {X : Type 0} (f : ℕ → X → List ℕ) (xs : List X) (i : ℕ) (x : X) (base now next : List (List ℕ)) → i < length xs → x ≡ get_or xs i x → length next ≡ length now

@@ -9,19 +9,21 @@ ghost use Rattle.wild_types.specs.Faults.{Answers};
 ghost use Rattle.wild_types.specs.Lookups.{image_size};
 ghost use Rattle.wild_types.specs.Parts.{has_role};
 ghost use Rattle.wild_types.specs.FilePlaces.{given};
+ghost use Rattle.wild_types.specs.FileThunks.{thunks_of};
 ghost use Rattle.wild_layout.specs.Content.{content};
-ghost use Rattle.wild_layout.specs.Image.{section_piece, file_pieces, owned_pieces, given_before, table_piece, table_pieces, group_pieces};
+ghost use Rattle.wild_layout.specs.Image.{section_piece, section_pieces, thunk_piece, thunk_pieces, file_pieces, owned_pieces, given_before, table_piece, table_pieces, group_pieces};
 ghost use Rattle.wild_layout.specs.SectionPlaces.{SectionLies};
-ghost use Rattle.wild_layout.specs.Geometry.{EachSection};
-ghost use Rattle.wild_image.specs.Pieces.{section_owned, file_sections, group_tables, group_sections, group_bytes};
-ghost use Rattle.wild_image.specs.Append.{BeginsWith, GoesOn, HasStarts, EachPartLies};
+ghost use Rattle.wild_layout.specs.ThunkPlaces.{ThunkLies};
+ghost use Rattle.wild_layout.specs.Thunks.{thunk_bytes, file_thunks};
+ghost use Rattle.wild_image.specs.Pieces.{section_owned, file_sections, file_bytes, group_tables, group_files, group_bytes};
+ghost use Rattle.wild_image.specs.Append.{BeginsWith, GoesOn, HasStarts, EachPartLies, FileLies, EachFileLies};
 ghost use Rattle.wild_image.specs.Batches.{AreBatches, IsWithin, GivesBatch, batch_errors, batch_pieces, batch_bytes};
 ghost use Rattle.wild_image.specs.declared.job.Outcome.{Outcome};
 
 use crate::batch::Batch;
 use crate::job::Outcome;
 use wild_sections::offset_of;
-use wild_types::{Error, File, Group, InputSection, Layout, Part, Role};
+use wild_types::{Error, File, Group, InputSection, Layout, Part, Role, THUNK_SIZE, Thunk};
 use wild_words::put;
 
 /// Puts the bytes of a section, the first of these, into the image, and tells what stands behind them.
@@ -33,25 +35,25 @@ fn append_section<'b>(
 ) -> &'b [u8]
     requires lies { SectionLies layout.now section.now }
     requires room { length out.old ≡ image_size layout.now }
-    requires own { BeginsWith (section_owned layout.now section.now) bytes.now }
-    ensures image { out.new ≡ overlay (section_piece layout.now section.now) out.old }
-    ensures rest { GoesOn (section_owned layout.now section.now) bytes.now result.now }
+    requires own { (f : File) × BeginsWith (section_owned layout.now f section.now) bytes.now }
+    ensures image { (f : File) → BeginsWith (section_owned layout.now f section.now) bytes.now → out.new ≡ overlay (section_piece layout.now f section.now) out.old }
+    ensures rest { (f : File) → BeginsWith (section_owned layout.now f section.now) bytes.now → GoesOn (section_owned layout.now f section.now) bytes.now result.now }
 {
     if !section.is_filled(layout) {
         return bytes;
     }
-    let start = offset_of(layout.parts.as_slice(), section) as usize;
+    let start = offset_of(layout.parts.as_slice(), section.part, section.address) as usize;
     let (own, rest) = bytes.split_at(section.size as usize);
     put(out, start, own);
     rest
 }
 
 /// Puts the bytes of the sections of a file into the image, and tells what stands behind them.
-fn append_file<'b>(layout: &Layout, file: &File, bytes: &'b [u8], out: &mut [u8]) -> &'b [u8]
+fn append_sections<'b>(layout: &Layout, file: &File, bytes: &'b [u8], out: &mut [u8]) -> &'b [u8]
     requires lies { All (SectionLies layout.now) file.now.sections }
     requires room { length out.old ≡ image_size layout.now }
     requires own { BeginsWith (file_sections layout.now file.now) bytes.now }
-    ensures image { out.new ≡ overlay (file_pieces layout.now file.now) out.old }
+    ensures image { out.new ≡ overlay (section_pieces layout.now file.now) out.old }
     ensures rest { GoesOn (file_sections layout.now file.now) bytes.now result.now }
 {
     let mut rest = bytes;
@@ -61,13 +63,54 @@ fn append_file<'b>(layout: &Layout, file: &File, bytes: &'b [u8], out: &mut [u8]
     rest
 }
 
-/// Puts the bytes of a group's input sections into the image, and tells what stands behind them.
+/// Puts a thunk, the first of these bytes, into the image, and tells what stands behind it.
+fn append_thunk<'b>(layout: &Layout, thunk: &Thunk, bytes: &'b [u8], out: &mut [u8]) -> &'b [u8]
+    requires lies { ThunkLies layout.now thunk.now }
+    requires room { (length out.old ≡ image_size layout.now) × (image_size layout.now ≤ 2 ^ 62) }
+    requires own { BeginsWith (thunk_bytes layout.now thunk.now) bytes.now }
+    ensures image { out.new ≡ overlay (thunk_piece layout.now thunk.now) out.old }
+    ensures rest { GoesOn (thunk_bytes layout.now thunk.now) bytes.now result.now }
+{
+    let at = offset_of(layout.parts.as_slice(), layout.primary_part, thunk.address);
+    let (own, rest) = bytes.split_at(THUNK_SIZE as usize);
+    put(out, at as usize, own);
+    rest
+}
+
+/// Puts the thunks that a file writes into the image, and tells what stands behind them.
+fn append_thunks<'b>(layout: &Layout, file: &File, bytes: &'b [u8], out: &mut [u8]) -> &'b [u8]
+    requires lies { All (ThunkLies layout.now) (thunks_of layout.now file.now) }
+    requires room { (length out.old ≡ image_size layout.now) × (image_size layout.now ≤ 2 ^ 62) }
+    requires own { BeginsWith (file_thunks layout.now file.now) bytes.now }
+    ensures image { out.new ≡ overlay (thunk_pieces layout.now file.now) out.old }
+    ensures rest { GoesOn (file_thunks layout.now file.now) bytes.now result.now }
+{
+    let mut rest = bytes;
+    for thunk in layout.thunks_of(file) {
+        rest = append_thunk(layout, thunk, rest, out);
+    }
+    rest
+}
+
+/// Puts the bytes of the sections of a file and its thunks into the image, and tells what stands behind them.
+fn append_file<'b>(layout: &Layout, file: &File, bytes: &'b [u8], out: &mut [u8]) -> &'b [u8]
+    requires lies { FileLies layout.now file.now }
+    requires room { (length out.old ≡ image_size layout.now) × (image_size layout.now ≤ 2 ^ 62) }
+    requires own { BeginsWith (file_bytes layout.now file.now) bytes.now }
+    ensures image { out.new ≡ overlay (file_pieces layout.now file.now) out.old }
+    ensures rest { GoesOn (file_bytes layout.now file.now) bytes.now result.now }
+{
+    let rest = append_sections(layout, file, bytes, out);
+    append_thunks(layout, file, rest, out)
+}
+
+/// Puts the bytes of a group's files into the image, and tells what stands behind them.
 fn append_files<'b>(layout: &Layout, group: &Group, bytes: &'b [u8], out: &mut [u8]) -> &'b [u8]
-    requires lies { All (λ (f : File). All (SectionLies layout.now) f.sections) group.now.files }
-    requires room { length out.old ≡ image_size layout.now }
-    requires own { BeginsWith (group_sections layout.now group.now) bytes.now }
+    requires lies { All (FileLies layout.now) group.now.files }
+    requires room { (length out.old ≡ image_size layout.now) × (image_size layout.now ≤ 2 ^ 62) }
+    requires own { BeginsWith (group_files layout.now group.now) bytes.now }
     ensures image { out.new ≡ overlay (owned_pieces layout.now group.now) out.old }
-    ensures rest { GoesOn (group_sections layout.now group.now) bytes.now result.now }
+    ensures rest { GoesOn (group_files layout.now group.now) bytes.now result.now }
 {
     let mut rest = bytes;
     for file in group.files.as_slice() {
@@ -162,7 +205,7 @@ fn append_group<'b>(
     starts: &[u64],
     out: &mut [u8],
 ) -> &'b [u8]
-    requires inputs { All (λ (f : File). All (SectionLies layout.now) f.sections) group.now.files }
+    requires inputs { All (FileLies layout.now) group.now.files }
     requires lies { EachPartLies layout.now }
     requires group { slice_get layout.now.groups index ≡ Some group.now }
     requires own { BeginsWith (group_bytes layout.now group.now) bytes.now }
@@ -177,7 +220,7 @@ fn append_group<'b>(
 
 /// Puts all that a batch has into the image, and moves the parts' starts behind it.
 fn append_batch(layout: &Layout, batch: &Batch, bytes: &[u8], starts: &mut [u64], out: &mut [u8])
-    requires inputs { All (λ (g : Group). All (λ (f : File). All (SectionLies layout.now) f.sections) g.files) batch.now.groups.now }
+    requires inputs { All (λ (g : Group). All (FileLies layout.now) g.files) batch.now.groups.now }
     requires lies { EachPartLies layout.now }
     requires within { IsWithin layout.now.groups batch.now }
     requires small { batch.now.first + length batch.now.groups.now < 2 ^ 64 }
@@ -203,7 +246,7 @@ pub(crate) fn append_all(
     starts: &mut [u64],
     out: &mut [u8],
 ) -> Result<(), Error>
-    requires inputs { EachSection layout.now (SectionLies layout.now) }
+    requires inputs { EachFileLies layout.now }
     requires lies { EachPartLies layout.now }
     requires few { length layout.now.groups < 2 ^ 32 }
     requires batches { AreBatches layout.now.groups batches.now }

@@ -1,5 +1,5 @@
 //! All bytes of a group in one buffer: what it gives to the tables, part by part, and behind that its input
-//! sections' bytes in the order of processing.
+//! sections' bytes and its thunks in the order of processing.
 ghost use Rattle.std.specs.Prelude.{◌≡◌, ◌+◌, ◌<◌, ◌^◌, ◌++◌, true, false, length, replicate, Some, slice_get, IfOk, OnOk, All};
 ghost use Rattle.wild_types.specs.declared.file.File.{File};
 ghost use Rattle.wild_types.specs.declared.file.Group.{Group};
@@ -9,14 +9,14 @@ ghost use Rattle.wild_layout.specs.Faults.{flat_map_from, section_errors, file_e
 ghost use Rattle.wild_layout.specs.Content.{content};
 ghost use Rattle.wild_layout.specs.SectionPlaces.{SectionLies};
 ghost use Rattle.wild_image.specs.Append.{GivesItsShares};
-ghost use Rattle.wild_image.specs.Pieces.{section_owned, file_sections, group_sections, group_tables, group_bytes};
+ghost use Rattle.wild_image.specs.Pieces.{section_owned, file_sections, file_bytes, group_files, group_tables, group_bytes};
 ghost use Rattle.wild_contents.specs.Given.{NeedsFit};
 ghost use Rattle.wild_image.specs.Batches.{batch_errors, batch_bytes};
 
 use crate::append::table_size;
 use crate::batch::Batch;
 use std::alloc::{AllocError, Global};
-use wild_contents::{PartBytes, add_content, check_entries, check_symbol_tables};
+use wild_contents::{PartBytes, add_content, add_thunks, check_entries, check_symbol_tables};
 use wild_relax::Arch;
 use wild_sections::{InputPlace, Resolved, write_data};
 use wild_types::{Error, File, Group, InputSection, Layout, Part};
@@ -58,21 +58,23 @@ fn add_group_tables<A: Arch>(
     Ok(())
 }
 
-/// Answers the first fault of a section whose relocations are read and that owns no bytes.
+/// Answers the first fault of a section of that file whose relocations are read and that owns no bytes.
 #[tactic(auto, unfolding(wild_layout::specs::Faults::section_errors))]
 fn check_data<A: Arch>(
     alloc: Global,
     resolved: &Resolved<A>,
     place: InputPlace,
+    file: &File,
     section: &InputSection,
 ) -> Result<(), Error>
     requires read { is_read section.now ≡ true }
     requires none { is_filled resolved.now.layout.now section.now ≡ false }
     requires lies { SectionLies resolved.now.layout.now section.now }
-    ensures faults { Answers result (section_errors resolved.now.layout.now place.group place.file place.section section.now) }
+    ensures faults { Answers result (section_errors resolved.now.layout.now place.group place.file file.now place.section section.now) }
 {
     let mut room = [0; 0];
-    write_data(alloc, resolved, place, &section.item(), &mut room)
+    let item = section.item(resolved.layout, file);
+    write_data(alloc, resolved, place, &item, &mut room)
 }
 
 /// So many zeros.
@@ -82,24 +84,26 @@ fn zeros(alloc: Global, count: usize) -> Result<Vec<u8>, AllocError>
     Ok(vec![in alloc; 0u8; count]?)
 }
 
-/// Adds the bytes of a section, or answers its first fault.
+/// Adds the bytes of a section of that file, or answers its first fault.
 #[tactic(auto, unfolding(wild_layout::specs::Faults::section_errors, wild_layout::specs::Sites::section_bytes))]
 fn add_section<A: Arch>(
     alloc: Global,
     resolved: &Resolved<A>,
     place: InputPlace,
+    file: &File,
     section: &InputSection,
     bytes: &mut PartBytes,
 ) -> Result<(), Error>
     requires lies { SectionLies resolved.now.layout.now section.now }
-    ensures faults { Answers result (section_errors resolved.now.layout.now place.group place.file place.section section.now) }
-    ensures bytes { OnOk result (bytes.new ≡ bytes.old ++ section_owned resolved.now.layout.now section.now) }
+    ensures faults { Answers result (section_errors resolved.now.layout.now place.group place.file file.now place.section section.now) }
+    ensures bytes { OnOk result (bytes.new ≡ bytes.old ++ section_owned resolved.now.layout.now file.now section.now) }
 {
     if section.is_read() {
         if section.is_filled(resolved.layout) {
-            return bytes.add_data(alloc, resolved, place, &section.item());
+            let item = section.item(resolved.layout, file);
+            return bytes.add_data(alloc, resolved, place, &item);
         }
-        return check_data(alloc, resolved, place, section);
+        return check_data(alloc, resolved, place, file, section);
     }
     if section.is_filled(resolved.layout) {
         let zeros = zeros(alloc, section.size as usize)?;
@@ -118,7 +122,7 @@ fn add_file_sections<A: Arch>(
     bytes: &mut PartBytes,
 ) -> Result<(), Error>
     requires lies { All (SectionLies resolved.now.layout.now) file.now.sections }
-    ensures faults { Answers result (flat_map_from (section_errors resolved.now.layout.now place.group place.file) 0 file.now.sections) }
+    ensures faults { Answers result (flat_map_from (section_errors resolved.now.layout.now place.group place.file file.now) 0 file.now.sections) }
     ensures bytes { OnOk result (bytes.new ≡ bytes.old ++ file_sections resolved.now.layout.now file.now) }
 {
     for (i, section) in file.sections.as_slice().iter().enumerate() {
@@ -126,13 +130,13 @@ fn add_file_sections<A: Arch>(
             section: i,
             ..place
         };
-        add_section(alloc, resolved, here, section, bytes)?;
+        add_section(alloc, resolved, here, file, section, bytes)?;
     }
     Ok(())
 }
 
-/// Adds the bytes of the sections of a file, or answers its first fault: that of its sections, or else of
-/// its copies and slots.
+/// Adds the bytes of the sections of a file and its thunks, or answers its first fault: that of its sections, or else of
+/// its copies and slots, or else of its thunks.
 #[tactic(auto, using(wild_sections::proofs::FaultLemmas::first_of_both), unfolding(wild_layout::specs::Faults::file_errors))]
 fn add_file<A: Arch>(
     alloc: Global,
@@ -143,13 +147,14 @@ fn add_file<A: Arch>(
 ) -> Result<(), Error>
     requires lies { All (SectionLies resolved.now.layout.now) file.now.sections }
     ensures faults { Answers result (file_errors resolved.now.layout.now place.group place.file file.now) }
-    ensures bytes { OnOk result (bytes.new ≡ bytes.old ++ file_sections resolved.now.layout.now file.now) }
+    ensures bytes { OnOk result (bytes.new ≡ bytes.old ++ file_bytes resolved.now.layout.now file.now) }
 {
     add_file_sections(alloc, resolved, place, file, bytes)?;
-    check_entries(resolved, place, file)
+    check_entries(resolved, place, file)?;
+    add_thunks(resolved, place, file, bytes)
 }
 
-/// Adds the bytes of the sections of a group's files, or answers their first fault.
+/// Adds the bytes of a group's files, or answers their first fault.
 #[tactic(auto, using(wild_sections::proofs::FaultLemmas::first_from))]
 fn add_files<A: Arch>(
     alloc: Global,
@@ -160,7 +165,7 @@ fn add_files<A: Arch>(
 ) -> Result<(), Error>
     requires lies { All (λ (f : File). All (SectionLies resolved.now.layout.now) f.sections) group.now.files }
     ensures faults { Answers result (flat_map_from (file_errors resolved.now.layout.now index) 0 group.now.files) }
-    ensures bytes { OnOk result (bytes.new ≡ bytes.old ++ group_sections resolved.now.layout.now group.now) }
+    ensures bytes { OnOk result (bytes.new ≡ bytes.old ++ group_files resolved.now.layout.now group.now) }
 {
     for (i, file) in group.files.as_slice().iter().enumerate() {
         let place = InputPlace {
@@ -173,10 +178,9 @@ fn add_files<A: Arch>(
     Ok(())
 }
 
-/// Adds the bytes of a group's input sections, or answers its first fault: that of its files, or else of the symbols that
-/// other modules see.
+/// Adds the bytes of a group's files, or answers its first fault: that of its files, or else of the symbols that other modules see.
 #[tactic(auto, using(wild_sections::proofs::FaultLemmas::first_of_both), unfolding(wild_layout::specs::Faults::group_errors))]
-fn add_group_sections<A: Arch>(
+fn add_group_files<A: Arch>(
     alloc: Global,
     resolved: &Resolved<A>,
     index: usize,
@@ -185,7 +189,7 @@ fn add_group_sections<A: Arch>(
 ) -> Result<(), Error>
     requires lies { All (λ (f : File). All (SectionLies resolved.now.layout.now) f.sections) group.now.files }
     ensures faults { Answers result (group_errors resolved.now.layout.now index group.now) }
-    ensures bytes { OnOk result (bytes.new ≡ bytes.old ++ group_sections resolved.now.layout.now group.now) }
+    ensures bytes { OnOk result (bytes.new ≡ bytes.old ++ group_files resolved.now.layout.now group.now) }
 {
     add_files(alloc, resolved, index, group, bytes)?;
     check_symbol_tables(resolved, index, group.files.as_slice())
@@ -225,7 +229,7 @@ pub(crate) fn add_group<A: Arch>(
     ensures bytes { OnOk result (bytes.new ≡ bytes.old ++ group_bytes resolved.now.layout.now group.now) }
 {
     add_group_tables(alloc, resolved, group, bytes)?;
-    add_group_sections(alloc, resolved, index, group, bytes)
+    add_group_files(alloc, resolved, index, group, bytes)
 }
 
 /// All bytes of a batch, or its first fault.

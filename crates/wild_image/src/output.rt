@@ -22,9 +22,9 @@ use wild_clauses::well_formed;
 use wild_crew::{Gate, OpenGate, gather};
 use wild_geometry::layouts_are_laid_out;
 use wild_needs::elf_entry_address;
-use wild_relax::Arch;
+use wild_relax::{Arch, ElfAArch64, ElfX86_64};
 use wild_sections::Resolved;
-use wild_types::{At, EntryWarning, Error, Fault, Layout};
+use wild_types::{At, EntryWarning, Error, Fault, Layout, Machine};
 use wild_words::{Bytes, Items};
 
 /// An image, what is said beside it, and how many relocations of each section were read for it.
@@ -169,4 +169,23 @@ where
     ensures counts { IfOk result (λ o. o.counts ≡ counts layout.now) }
 {
     write_gated::<A>(rt, alloc, layout, workers, &OpenGate)
+}
+
+/// The image of a layout for the machine that it names, or its first fault, by so many workers.
+pub fn write_layout(
+    rt: &(impl Threads + Sync),
+    alloc: Global,
+    layout: &Layout,
+    workers: u8,
+) -> Result<SizedOutput, Error>
+    requires { (1 ≤ workers) × (workers ≤ 64) }
+    ensures faults { Answers result (errors layout.now) }
+    ensures image { IfOk result (λ o. o.out ≡ bytes layout.now) }
+    ensures warnings { IfOk result (λ o. o.warnings ≡ warnings layout.now) }
+    ensures counts { IfOk result (λ o. o.counts ≡ counts layout.now) }
+{
+    match layout.machine {
+        Machine::X86_64 => write::<ElfX86_64>(rt, alloc, layout, workers),
+        Machine::AArch64 => write::<ElfAArch64>(rt, alloc, layout, workers),
+    }
 }

@@ -1,12 +1,10 @@
 //! What a group has of each part.
 ghost use Rattle.std.specs.Prelude.{◌≡◌, [], ℕ, ◌<◌, ◌^◌, length, IfOk, All, Ok};
-ghost use Rattle.wild_types.specs.declared.file.File.{File};
 ghost use Rattle.wild_types.specs.Faults.{Answers};
 ghost use Rattle.wild_types.specs.Lookups.{section_of};
 ghost use Rattle.wild_clauses.specs.WellFormed.{first_clause};
 ghost use Rattle.wild_layout.specs.Faults.{flat_map_from, part_errors, group_errors};
-ghost use Rattle.wild_layout.specs.SectionPlaces.{SectionLies};
-ghost use Rattle.wild_image.specs.Append.{GivesItsShares};
+ghost use Rattle.wild_image.specs.Append.{GivesItsShares, FileLies};
 ghost use Rattle.wild_image.specs.Pieces.{group_parts, group_pairs};
 ghost use Rattle.wild_image.specs.Jobs.{GivesPiece};
 ghost use Rattle.wild_contents.specs.Given.{NeedsFit};
@@ -23,7 +21,7 @@ use wild_types::{Error, Group, Layout};
 use wild_words::Items;
 
 /// What a group has of each part of an image, one list of bytes a part: what it gives to the tables, and behind
-/// that its input sections' bytes; and pairs of a section and a number of relocations that were read.
+/// that the bytes of its input sections and thunks; and pairs of a section and a number of relocations that were read.
 #[derive(Drop)]
 pub struct GroupPiece {
     pub parts: Items<PartBytes>,
@@ -37,7 +35,7 @@ fn piece_of<A: Arch>(
     index: usize,
     group: &Group,
 ) -> Result<GroupPiece, Error>
-    requires inputs { All (λ (f : File). All (SectionLies resolved.now.layout.now) f.sections) group.now.files }
+    requires inputs { All (FileLies resolved.now.layout.now) group.now.files }
     requires gives { GivesItsShares resolved.now.layout.now group.now }
     requires few { NeedsFit group.now }
     requires sections { (part : ℕ) → section_of resolved.now.layout.now part < 2 ^ 32 }

@@ -46,7 +46,7 @@ image_of t l layout plan_bytes text sound reads fits left meant means none is =
     let one = one_meaning meant.0 (plan l) (plan layout) own (subst (λ (b : List ℕ). Means b (plan layout)) same means) in
     let target = reads own.0 l own.2 in
     let shown : text ≡ image_text l (bytes l) (warnings l) (counts l) = is ∙ ap (errors_text l) none in
-    subst (λ (k : Layout). IsLinkedText k text) (same_layout l layout one) (bytes l, warnings l, counts l, shown, sound l target.machine fits target.own none)
+    subst (λ (k : Layout). IsLinkedText k text) (same_layout l layout one) (bytes l, warnings l, counts l, shown, sound l fits target.own none)
 
 said_image : (t : Turn) (u : Told) (said : ℕ) (a : Answer) (words : List (String Global)) → ImagesAreSound → PlansAreRead → AnswerFits a → IsDue words t a
     → said ≡ status a → Appends u.taken_before u.taken_after (text_of a) → IsHeadline words t u said

@@ -1,6 +1,5 @@
 //! All that the program does, over any source and sink.
 ghost use Rattle.std.specs.Prelude.{◌≡◌, ◌≢◌, ◌≤◌, Some, None, IfOk, OnErr};
-ghost use Rattle.wild_types.specs.declared.kind.Machine.TheVariants.{X86_64};
 ghost use Rattle.wild_outside.specs.Memory.{sure_left};
 ghost use Rattle.wild_program.specs.Exit.{read_fault, cut_short};
 ghost use Rattle.wild_program.specs.Program.{IsLink, layout_status, layout_text, turn, told, IsSaid, IsAnswered};
@@ -14,7 +13,7 @@ use crate::words::command_of;
 use serde_json::Value;
 use std::alloc::{AllocError, Global};
 use std::thread::Threads;
-use wild_image::{ElfX86_64, write};
+use wild_image::write_layout;
 use wild_laws::images_are_sound;
 use wild_layout::numbers_fit;
 use wild_outside::{ReadFault, Sink, Source, SureSink, SureSource, read_whole, write_whole};
@@ -44,11 +43,10 @@ fn layout_answer(
     layout: &Layout,
     workers: u8,
 ) -> Result<(u8, Vec<u8>), AllocError>
-    requires machine { layout.now.machine ≡ X86_64 }
-    requires workers { (1 ≤ workers) × (workers ≤ 64) }
+    requires { (1 ≤ workers) × (workers ≤ 64) }
     ensures { IfOk result (λ a. (a.0 ≡ layout_status layout.now) × (a.1.items ≡ layout_text layout.now)) }
 {
-    match write::<ElfX86_64>(rt, alloc, layout, workers) {
+    match write_layout(rt, alloc, layout, workers) {
         Ok(made) => {
             let text = image_answer(
                 alloc,
@@ -103,7 +101,6 @@ fn plan_answer(
             return Ok((NO_PLAN, text.into_bytes()));
         }
     };
-    plans_are_read();
     numbers_fit(&layout);
     let answer = layout_answer(rt, alloc, &layout, workers)?;
     Ok(answer)

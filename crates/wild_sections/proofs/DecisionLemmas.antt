@@ -1,6 +1,6 @@
 -- What is decided of a relocation, and its faults, where it is read.
 use Rattle.std.proofs.Common.{◌≡◌, ℕ, ◌<◌, List, [], false, length, get_or, refl, ap, subst}
-use Rattle.std.specs.Prelude.{Option, Some, None, Result, Ok, Err, ◌+◌, slice_get}
+use Rattle.std.specs.Prelude.{Option, Some, None, Result, Ok, Err, slice_get}
 use Rattle.std.proofs.lemmas.Option.{slice_get_read}
 use Rattle.wild_records.specs.Abi.Relocation.{r_x86_64_pc32}
 use Rattle.wild_types.specs.declared.input.InputRelocation.{InputRelocation}
@@ -22,7 +22,7 @@ pub common_keeps : (l : Layout) (s : Item) (i : ℕ) (r : InputRelocation) → s
 unfolding decide
 common_keeps l s i r listed number before =
     let alone = none_before l s i before in
-    let none = no_choice l s r (slice_get s.relocations (i + 1)) r.symbol number in
+    let none = no_choice l s i r listed number in
     rw (alone, listed, none) refl
 
 -- ---- the relocation that is asked about

@@ -1,14 +1,16 @@
-//! Which rewrite of instructions stands at a relocation. Rows are asked of two relocations at most, which stand on the stack.
+//! Which rewrite of instructions stands at a relocation. Rows are asked of four relocations at most, which stand on the stack.
 ghost use Rattle.std.specs.Prelude.{◌≡◌, ◌<◌, ◌+◌, length, slice_get};
 ghost use Rattle.wild_relax.specs.Relaxation.{chosen_of};
-ghost use Rattle.wild_layout.specs.Choice.{same_names, is_getter, info_of, nameless, asked_of, infos_of, choice, takes_next, is_partner, may_take_next, may_be_partner};
+ghost use Rattle.wild_layout.specs.Choice.{same_names, is_getter, info_of, nameless, asked_of, infos_of, info_at, question_around, choice, takes_next, is_partner, may_take_next, may_be_partner};
 ghost use Rattle.wild_types.specs.Item.{item_now};
 
 use crate::values::Resolved;
 use wild_records::abi::relocation::{R_X86_64_PC32, R_X86_64_TLSGD, R_X86_64_TLSLD};
-use wild_relax::{Arch, Reference, Relaxation, RelocationInfo, Row, UnknownSequence};
+use wild_relax::{
+    Arch, NO_RELOCATION, Reference, Relaxation, RelocationInfo, Row, UnknownSequence, words_before,
+};
 use wild_slot::flags_at;
-use wild_types::{InputRelocation, ItemRef, Layout, SymbolIndex};
+use wild_types::{InputRelocation, ItemRef, Layout, Machine, SymbolIndex};
 
 /// The function that tells the address of a thread-local symbol ("ELF Handling For Thread-Local Storage", "Run-Time Handling
 /// of TLS").
@@ -65,19 +67,30 @@ fn info_of(layout: &Layout, relocation: &InputRelocation) -> RelocationInfo
     }
 }
 
-/// The row that stands at the first of these relocations, which names that symbol, or why it is refused.
+/// What they ask of the relocation in that place; without one, of a relocation that does nothing.
+fn info_at(relocations: &[InputRelocation], index: usize) -> RelocationInfo
+    ensures { result ≡ info_at relocations.now index }
+{
+    match relocations.get(index) {
+        Some(relocation) => nameless(relocation),
+        None => NO_RELOCATION,
+    }
+}
+
+/// The row that stands at one of these relocations, which names that symbol, or why it is refused.
 fn asked<A: Arch>(
     resolved: &Resolved<A>,
     item: &ItemRef,
     symbol: SymbolIndex,
     relocations: &[RelocationInfo],
+    at: usize,
 ) -> Result<Option<Row>, UnknownSequence>
-    ensures { result ≡ chosen_of resolved.now.layout.now.machine (asked_of resolved.now.layout.now (item_now item.now) symbol relocations.now) }
+    ensures { result ≡ chosen_of resolved.now.layout.now.machine (asked_of resolved.now.layout.now (item_now item.now) symbol relocations.now at) }
 {
     let layout = resolved.layout;
     let reference = Reference {
         relocations,
-        at: 0,
+        at,
         bytes: item.bytes,
         flags: flags_at(layout, symbol),
         kind: layout.kind,
@@ -110,7 +123,7 @@ fn choice_with_next<A: Arch>(
 ) -> Result<Option<Row>, UnknownSequence>
     requires index { index < length item.now.relocations.now }
     ensures { result ≡ chosen_of resolved.now.layout.now.machine (asked_of resolved.now.layout.now (item_now item.now) symbol
-        (infos_of resolved.now.layout.now (slice_get item.now.relocations.now index) (slice_get item.now.relocations.now (index + 1)))) }
+        (infos_of resolved.now.layout.now (slice_get item.now.relocations.now index) (slice_get item.now.relocations.now (index + 1))) 0) }
 {
     let relocations = item.relocations;
     let own = info_of(resolved.layout, &relocations[index]);
@@ -121,14 +134,37 @@ fn choice_with_next<A: Arch>(
                 item,
                 symbol,
                 &[own, info_of(resolved.layout, next)],
+                0,
             )
         }
-        None => asked(resolved, item, symbol, &[own]),
+        None => asked(resolved, item, symbol, &[own], 0),
     }
 }
 
-/// The row that stands at a relocation of an item, or why it is refused. The next one and the names are looked at where a
-/// row of the type asks for them.
+/// The row that stands at that relocation, with those of its sequence in sight: from the first on, so that each is asked of the same.
+fn choice_around<A: Arch>(
+    resolved: &Resolved<A>,
+    item: &ItemRef,
+    index: usize,
+    relocation: &InputRelocation,
+    symbol: SymbolIndex,
+) -> Result<Option<Row>, UnknownSequence>
+    requires index { index < length item.now.relocations.now }
+    ensures { result ≡ chosen_of resolved.now.layout.now.machine (question_around resolved.now.layout.now (item_now item.now) index relocation.now symbol) }
+{
+    let relocations = item.relocations;
+    let first = index.saturating_sub(words_before(relocation.number));
+    let infos = [
+        info_at(relocations, first),
+        info_at(relocations, first + 1),
+        info_at(relocations, first + 2),
+        info_at(relocations, first + 3),
+    ];
+    asked(resolved, item, symbol, &infos, index - first)
+}
+
+/// The row that stands at a relocation of an item, or why it is refused. Others and names are looked at where a row of the type
+/// asks for them.
 pub(crate) fn choice<A: Arch>(
     resolved: &Resolved<A>,
     item: &ItemRef,
@@ -145,10 +181,12 @@ pub(crate) fn choice<A: Arch>(
     if relocation.number == R_X86_64_PC32 {
         return Ok(None);
     }
-    if may_take_next(relocation.number) {
-        choice_with_next(resolved, item, index, symbol)
-    } else {
-        asked(resolved, item, symbol, &[nameless(relocation)])
+    match resolved.layout.machine {
+        Machine::AArch64 => choice_around(resolved, item, index, relocation, symbol),
+        Machine::X86_64 if may_take_next(relocation.number) => {
+            choice_with_next(resolved, item, index, symbol)
+        }
+        Machine::X86_64 => asked(resolved, item, symbol, &[nameless(relocation)], 0),
     }
 }
 

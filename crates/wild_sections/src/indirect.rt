@@ -66,7 +66,7 @@ pub(crate) fn is_chosen(layout: &Layout, symbol: SymbolIndex) -> bool
 }
 
 /// Where the symbol's stub stands.
-fn stub_of(layout: &Layout, symbol: SymbolIndex) -> Option<u64>
+pub fn stub_of(layout: &Layout, symbol: SymbolIndex) -> Option<u64>
     ensures { result ≡ stub_of layout.now symbol }
 {
     match resolution_of(layout, symbol) {

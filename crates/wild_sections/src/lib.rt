@@ -16,7 +16,7 @@ mod section;
 mod values;
 
 pub use home::{Home, section_in_file};
-pub use indirect::{decided_address, index_of};
+pub use indirect::{decided_address, index_of, stub_of};
 pub use place::InputPlace;
 pub use relocation::added;
 pub use resolve::{moved_value, or_zero, raw_address};

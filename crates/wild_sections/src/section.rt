@@ -21,7 +21,7 @@ use crate::values::Resolved;
 use std::alloc::Global;
 use wild_layout::Decision;
 use wild_relax::Arch;
-use wild_types::{Error, Fault, InputSection, ItemRef, Part};
+use wild_types::{Error, Fault, ItemRef, Part};
 
 /// What is decided of a relocation of an item of the section at that place, or its fault.
 #[inline(always)]
@@ -209,13 +209,13 @@ pub fn write_data<A: Arch>(
     write_apart(alloc, resolved, place, item, room)
 }
 
-/// The file offset of a section that owns bytes.
-pub fn offset_of(parts: &[Part], section: &InputSection) -> u64
-    requires { offset_in (slice_get parts.now section.now.part) section.now.address < 2 ^ 64 }
-    ensures { result ≡ offset_in (slice_get parts.now section.now.part) section.now.address }
+/// The file offset of an address in a part.
+pub fn offset_of(parts: &[Part], part: usize, address: u64) -> u64
+    requires { offset_in (slice_get parts.now part) address < 2 ^ 64 }
+    ensures { result ≡ offset_in (slice_get parts.now part) address }
 {
-    match parts.get(section.part) {
-        Some(part) => part.offset + section.address.saturating_sub(part.address),
+    match parts.get(part) {
+        Some(part) => part.offset + address.saturating_sub(part.address),
         None => 0,
     }
 }

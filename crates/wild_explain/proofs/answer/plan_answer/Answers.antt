@@ -22,9 +22,6 @@ returns-in-Err-At g c =
       told_is = (refl, subst (λ (p : List ℕ). Begins (no_plan_text p) (string_bytes c.in_ok-text-in-Err-At.text)) same c.in_ok-text-in-Err-At.ensures);
     }
 
-pub layout_answer-requires-clause-machine : goal.layout_answer-requires-clause-machine
-layout_answer-requires-clause-machine g c κs within = (c.plans_are_read.ensures (view c.in-Ok.value) c.in-Ok-read_plan.layout c.in-Ok-read_plan.ensures).machine
-
 pub returns : goal.returns
 returns g c = record {
   meaning = plan c.in-Ok-read_plan.layout;

@@ -1,10 +1,9 @@
 use Rattle.std.proofs.Common.{◌≡◌, ◌∙◌, ap, length, rules, arith, refl, sym}
 use Rattle.std.specs.Prelude.{slice_get, Some, All}
 use Rattle.std.proofs.lemmas.Option.{slice_get_read}
-use Rattle.wild_types.specs.declared.file.File.{File}
 use Rattle.wild_types.specs.declared.file.Group.{Group}
-use Rattle.wild_layout.specs.SectionPlaces.{SectionLies}
 use Rattle.wild_image.specs.declared.job.Outcome.{Outcome}
+use Rattle.wild_image.specs.Append.{FileLies}
 use Rattle.wild_image.specs.Batches.{batch_errors, batch_pieces}
 use Rattle.wild_sections.proofs.PieceLemmas.{overlay_read}
 use Rattle.wild_sections.proofs.FaultLemmas.{none_more, refuses_read}
@@ -19,7 +18,7 @@ append_batch-requires-clause-inputs c =
     let bs = c.args.batches.now in
     let b = c.index-batches-i.result in
     let at : slice_get bs c.loop-i.i ≡ Some b = slice_get_read bs (length bs) c.loop-i.i b (search rules) c.loop-i-test.true c.index-batches-i.is in
-    holds_within (λ (g : Group). All (λ (f : File). All (SectionLies l) f.sections) g.files) l.groups b (batches_within l.groups l.groups 0 bs c.loop-i.i b refl (cut_of c.args.layout.now.groups c.args.batches.now c.requires.batches) at) c.requires.inputs
+    holds_within (λ (g : Group). All (FileLies l) g.files) l.groups b (batches_within l.groups l.groups 0 bs c.loop-i.i b refl (cut_of c.args.layout.now.groups c.args.batches.now c.requires.batches) at) c.requires.inputs
 
 pub append_batch-requires-clause-within : goal.append_batch-requires-clause-within
 append_batch-requires-clause-within c =

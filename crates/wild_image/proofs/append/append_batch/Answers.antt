@@ -1,12 +1,16 @@
-use Rattle.std.proofs.Common.{◌≡◌, ◌+◌, length, arith, rules, subst}
-use Rattle.std.specs.Prelude.{slice_get, Some, ℕ}
+use Rattle.std.proofs.Common.{◌≡◌, ◌+◌, length, arith, rules, sym, subst}
+use Rattle.std.specs.Prelude.{All, slice_get, Some, ℕ}
 use Rattle.std.proofs.lemmas.Option.{slice_get_read}
+use Rattle.wild_types.specs.declared.file.Group.{Group}
 use Rattle.wild_layout.specs.Image.{group_pieces}
-use Rattle.wild_image.specs.Append.{HasStarts}
+use Rattle.wild_image.specs.Append.{HasStarts, FileLies}
 use Rattle.wild_image.specs.Pieces.{group_bytes}
 use Rattle.wild_image.proofs.AppendLemmas.{begins_all, next_begins, stands_more}
 use Rattle.wild_image.proofs.BatchLemmas.{overlay_behind}
 use Rattle.wild_image.proofs.append.append_batch.Goals as goal
+
+pub append_group-rest-requires-clause-inputs : goal.append_group-rest-requires-clause-inputs
+append_group-rest-requires-clause-inputs c = subst (λ (g : Group). All (FileLies c.args.layout.now) g.files) (sym c.group-item.is) (c.requires.inputs c.loop-i.i c.group-item.result c.loop-i-test.true)
 
 pub append_group-rest-requires-clause-group : goal.append_group-rest-requires-clause-group
 append_group-rest-requires-clause-group c =

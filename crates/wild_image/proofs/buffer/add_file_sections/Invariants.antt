@@ -6,5 +6,5 @@ use Rattle.wild_image.proofs.buffer.add_file_sections.Given as goal
 
 abbrev pub invariant-loop-i : goal.invariant-loop-i
 invariant-loop-i g l =
-    (flat_map_from (section_errors l.resolved.layout.now l.place.group l.place.file) 0 (take l.i l.section-items) ≡ [])
-    × (l.bytes ≡ l.initial.bytes ++ flat_map (section_owned l.resolved.layout.now) (take l.i l.section-items))
+    (flat_map_from (section_errors l.resolved.layout.now l.place.group l.place.file l.file) 0 (take l.i l.section-items) ≡ [])
+    × (l.bytes ≡ l.initial.bytes ++ flat_map (section_owned l.resolved.layout.now l.file) (take l.i l.section-items))

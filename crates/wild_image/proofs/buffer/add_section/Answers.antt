@@ -8,5 +8,5 @@ returns-in_ok-extend-clause-bytes g c =
     let l = c.args.resolved.now.layout.now in
     let s = c.args.section.now in
     let filled : is_filled l s ≡ true = search rules in
-    let zeros = c.deref.ensures.value ∙ c.in_ok-zeros.ensures ∙ section_zeros l s (search rules) filled in
+    let zeros = c.deref.ensures.value ∙ c.in_ok-zeros.ensures ∙ section_zeros l c.args.file.now s (search rules) filled in
     rw filled (c.in_ok-extend.ensures ∙ ap (λ (ys : List ℕ). c.args.bytes.now ++ ys) zeros)

@@ -1,18 +1,10 @@
-use Rattle.wild_image.specs.Pieces.{section_owned, owned_in}
-use Rattle.wild_image.proofs.AppendLemmas.{next_begins, stands_more}
-use Rattle.wild_image.proofs.OwnedLemmas.{owned_read}
+use Rattle.wild_layout.specs.Thunks.{file_thunks}
+use Rattle.wild_image.specs.Pieces.{file_sections}
+use Rattle.wild_image.proofs.AppendLemmas.{both_begin, both_go_on}
 use Rattle.wild_image.proofs.cut.cut_file.Goals as goal
 
-pub cut_section-requires-clause-own : goal.cut_section-requires-clause-own
-cut_section-requires-clause-own c =
-    let h = rw c.as_slice-section-items.ensures at c.loop-section-test.true in
-    let read = rw c.as_slice-section-items.ensures at c.section-item.is in
-    next_begins (section_owned c.args.layout.now) c.args.file.now.sections c.loop-section.section-index c.section-item.result c.args.bytes.now c.loop-section.rest.now h read c.requires.own c.loop-section.invariant.1
+pub cut_sections-requires-clause-own : goal.cut_sections-requires-clause-own
+cut_sections-requires-clause-own c = both_begin (file_sections c.args.layout.now c.args.file.now) (file_thunks c.args.layout.now c.args.file.now) c.args.bytes.now c.requires.own
 
-pub loop-section-preserved : goal.loop-section-preserved
-loop-section-preserved c =
-    let h = rw c.as_slice-section-items.ensures at c.loop-section-test.true in
-    let read = rw c.as_slice-section-items.ensures at c.section-item.is in (
-      owned_read (owned_in c.args.layout.now) c.args.file.now.sections c.loop-section.section-index c.section-item.result c.args.parts.now c.loop-section.parts c.cut_section.new.parts h read c.cut_section.auto.parts c.loop-section.invariant.0 c.in_ok-rest.ensures.owned,
-      stands_more (section_owned c.args.layout.now) c.args.file.now.sections c.loop-section.section-index c.section-item.result c.args.bytes.now c.loop-section.rest.now _ h read c.loop-section.invariant.1 c.in_ok-rest.ensures.rest,
-    )
+pub cut_thunks-requires-clause-own : goal.cut_thunks-requires-clause-own
+cut_thunks-requires-clause-own c = both_go_on (file_sections c.args.layout.now c.args.file.now) (file_thunks c.args.layout.now c.args.file.now) c.args.bytes.now _ c.requires.own c.in_ok-rest.ensures.rest

@@ -1,18 +1,26 @@
-use Rattle.wild_image.specs.Pieces.{file_sections, file_owned}
+use Rattle.std.proofs.Common.{sym, subst}
+use Rattle.wild_image.specs.Pieces.{file_bytes, file_owned}
+use Rattle.wild_image.specs.Append.{FileLies}
 use Rattle.wild_image.proofs.AppendLemmas.{next_begins, stands_more}
 use Rattle.wild_image.proofs.OwnedLemmas.{owned_read}
 use Rattle.wild_image.proofs.cut.cut_files.Goals as goal
+
+pub cut_file-requires-clause-lies : goal.cut_file-requires-clause-lies
+cut_file-requires-clause-lies c =
+    let h = rw c.as_slice-file-items.ensures at c.loop-file-test.true in
+    let read = rw c.as_slice-file-items.ensures at c.file-item.is in
+    subst (FileLies c.args.layout.now) (sym read) (c.requires.lies c.loop-file.file-index c.file-item.result h)
 
 pub cut_file-requires-clause-own : goal.cut_file-requires-clause-own
 cut_file-requires-clause-own c =
     let h = rw c.as_slice-file-items.ensures at c.loop-file-test.true in
     let read = rw c.as_slice-file-items.ensures at c.file-item.is in
-    next_begins (file_sections c.args.layout.now) c.args.group.now.files c.loop-file.file-index c.file-item.result c.args.bytes.now c.loop-file.rest.now h read c.requires.own c.loop-file.invariant.1
+    next_begins (file_bytes c.args.layout.now) c.args.group.now.files c.loop-file.file-index c.file-item.result c.args.bytes.now c.loop-file.rest.now h read c.requires.own c.loop-file.invariant.1
 
 pub loop-file-preserved : goal.loop-file-preserved
 loop-file-preserved c =
     let h = rw c.as_slice-file-items.ensures at c.loop-file-test.true in
     let read = rw c.as_slice-file-items.ensures at c.file-item.is in (
       owned_read (file_owned c.args.layout.now) c.args.group.now.files c.loop-file.file-index c.file-item.result c.args.parts.now c.loop-file.parts c.cut_file.new.parts h read c.cut_file.auto.parts c.loop-file.invariant.0 c.in_ok-rest.ensures.owned,
-      stands_more (file_sections c.args.layout.now) c.args.group.now.files c.loop-file.file-index c.file-item.result c.args.bytes.now c.loop-file.rest.now _ h read c.loop-file.invariant.1 c.in_ok-rest.ensures.rest,
+      stands_more (file_bytes c.args.layout.now) c.args.group.now.files c.loop-file.file-index c.file-item.result c.args.bytes.now c.loop-file.rest.now _ h read c.loop-file.invariant.1 c.in_ok-rest.ensures.rest,
     )

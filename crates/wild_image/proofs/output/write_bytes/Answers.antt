@@ -5,9 +5,13 @@ use Rattle.wild_types.specs.declared.fault.Error.{Error}
 use Rattle.wild_types.specs.Faults.{Answers}
 use Rattle.wild_layout.specs.Image.{group_pieces}
 use Rattle.wild_layout.specs.Faults.{group_errors}
+use Rattle.wild_image.proofs.AppendLemmas.{each_file_lies}
 use Rattle.wild_image.proofs.BatchLemmas.{cut_of, joined}
 use Rattle.wild_image.proofs.OutputLemmas.{image_is}
 use Rattle.wild_image.proofs.output.write_bytes.Goals as goal
+
+pub append_all-requires-clause-inputs : goal.append_all-requires-clause-inputs
+append_all-requires-clause-inputs g c = each_file_lies c.args.layout.now c.requires.laid_out
 
 pub returns-clause-faults : goal.returns-clause-faults
 returns-clause-faults g c =

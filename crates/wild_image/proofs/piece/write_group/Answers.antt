@@ -1,12 +1,14 @@
 use Rattle.std.proofs.Common.{◌≡◌, length, rules, arith, subst, sym}
-use Rattle.std.specs.Prelude.{slice_get, Some}
+use Rattle.std.specs.Prelude.{slice_get, Some, All}
 use Rattle.std.proofs.lemmas.Option.{slice_get_read}
+use Rattle.wild_types.specs.declared.file.Group.{Group}
 use Rattle.wild_types.specs.declared.layout.Layout.{Layout}
 use Rattle.wild_layout.specs.Geometry.{IsLaidOut}
-use Rattle.wild_image.specs.Append.{GivesItsShares}
+use Rattle.wild_image.specs.Append.{GivesItsShares, FileLies}
 use Rattle.wild_image.specs.Jobs.{GivesPiece}
 use Rattle.wild_image.proofs.GatherLemmas.{section_below}
 use Rattle.wild_image.proofs.OutputLemmas.{FieldsFit-IsLaidOut}
+use Rattle.wild_image.proofs.AppendLemmas.{each_file_lies}
 use Rattle.wild_image.proofs.TableLemmas.{gives_its_shares}
 use Rattle.wild_words.proofs.ListLemmas.{holds_at}
 use Rattle.wild_contents.specs.Given.{NeedsFit}
@@ -16,6 +18,14 @@ use Rattle.wild_image.proofs.piece.write_group.Goals as goal
 
 pub new-requires-clause-fits : goal.new-requires-clause-fits
 new-requires-clause-fits g c = FieldsFit-IsLaidOut c.args.layout.now (c.layouts_are_laid_out.ensures c.args.layout.now c.requires.clauses c.requires.shares)
+
+pub piece_of-requires-clause-inputs : goal.piece_of-requires-clause-inputs
+piece_of-requires-clause-inputs g c =
+    let l = c.args.layout.now in
+    let all = each_file_lies l (c.layouts_are_laid_out.ensures l c.requires.clauses c.requires.shares) in
+    let found = c.index-as_slice-group.result in
+    let at : slice_get l.groups c.args.group ≡ Some found = slice_get_read l.groups (length l.groups) c.args.group found (search rules) c.requires.group (search rules) in
+    subst (λ (m : Layout). All (FileLies m) found.files) (sym c.in_ok-resolved.ensures) (holds_at (λ (x : Group). All (FileLies l) x.files) l.groups c.args.group found at all)
 
 pub piece_of-requires-clause-few : goal.piece_of-requires-clause-few
 piece_of-requires-clause-few g c =
