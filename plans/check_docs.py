@@ -7,7 +7,7 @@
 
 - A block of commands is run where the paragraph behind it tells a status: what stands there in backticks behind "prints" is in its output.
 - A row under "Change | Answer" is the plan with the changes: its first line is the answer, for 1 and for 64 workers. Of one that is refused `explain` names a place.
-- A row under "Its program" is an image that is run.
+- A row under "Its program" is an image that is run, one of another machine by qemu.
 - Of each member of docs/PLAN.md the example is read, and a float is refused at its path; plans with all defaults written out mean the same.
 - An indented block behind a paragraph that names a plan is in the output of `explain`, or of the words that the paragraph names, for the plan with the
   paragraph's changes. This is left out, and said so, where that program is not there: `cd crates/wild_explain_main && rt run` makes it.
@@ -19,11 +19,14 @@ import glob
 import itertools
 import json
 import os
+import platform
 import re
+import shutil
 import subprocess
 import sys
 import tempfile
 
+import make_aarch64
 import readable
 
 TOP = os.path.dirname(os.path.dirname(os.path.abspath(__file__)))
@@ -187,6 +190,12 @@ def changes():
                 same(f"{where}, explained", (said, True), (text.split("\n")[0], "\nwhere: /" in text))
 
 
+def runner_of(plan):
+    """The words that run an image of a plan's machine."""
+    machine = json.loads(read(plan)).get("machine", "x86_64")
+    return [] if machine == platform.machine() else [f"qemu-{machine}"]
+
+
 def programs():
     """Rows of plans whose programs run."""
     for where, _, _, heads, cells in rows("docs/PLAN.md"):
@@ -194,9 +203,13 @@ def programs():
         if heads[-1] != "Its program" or not told:
             continue
         plan = re.search(r"plans/\w+\.json", cells[0])[0]
+        runner = runner_of(plan)
+        if runner and not shutil.which(runner[0]):
+            print(f"left out: {plan}: there is no {runner[0]}")
+            continue
         with tempfile.TemporaryDirectory() as folder:
             image(read(plan), f"{folder}/program")
-            status, text = run([f"{folder}/program"], folder)
+            status, text = run([*runner, f"{folder}/program"], folder)
         printed = re.search(r"prints `([^`]*)`", cells[-1])
         same(where, (int(told[1]), printed[1] if printed else ""), (status, text.strip()))
 
@@ -365,7 +378,11 @@ def makers():
         for name, text in re.findall(r'const (\w+): &str =\s+r#"(.*?)"#;', read(path)):
             same(path, json.loads(read(f"plans/{name.lower()}.json")), json.loads(text))
     for words, plan in [(["make_hello.py"], "hello"), (["make_pie.py"], "pie"), (["make_slots.py"], "slots"), (["make_rewrites.py"], "rewrites"),
+                        (["make_aarch64.py"], "aarch64"),
                         *((["make_shared.py", name], name) for name in ("shared", "uses_shared", "symbols"))]:
+        if plan == "aarch64" and not shutil.which(make_aarch64.ASSEMBLER):
+            print(f"left out: plans/{words[0]}: there is no {make_aarch64.ASSEMBLER}")
+            continue
         made = subprocess.run([f"{TOP}/plans/{words[0]}", *words[1:]], stdout=subprocess.PIPE, stderr=subprocess.STDOUT, text=True)
         if made.stdout != read(f"plans/{plan}.json"):
             differs(f"plans/{words[0]} {plan}", f"plans/{plan}.json", "another plan" if made.returncode == 0 else made.stdout[-300:])

@@ -52,9 +52,9 @@ class Object:
             yield offset, info & 0xFFFFFFFF, info >> 32, addend
 
 
-def assemble(source):
+def assemble(source, assembler="as"):
     with tempfile.TemporaryDirectory() as room:
-        subprocess.run(["as", "-o", f"{room}/object", source], check=True)
+        subprocess.run([assembler, "-o", f"{room}/object", source], check=True)
         with open(f"{room}/object", "rb") as it:
             return Object(it.read())
 

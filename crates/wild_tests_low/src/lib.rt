@@ -28,4 +28,6 @@ mod stubs;
 #[cfg(test)]
 mod tables;
 #[cfg(test)]
+mod words;
+#[cfg(test)]
 mod workers;

@@ -53,8 +53,13 @@ pub const PROGRAM: &str =
 pub const TABLED: &str =
     r#"{"machine":"x86_64","kind":"static","page_size":4096,"parts":[{"role":"file_header","size":64,"address":4194304,"align":8},{"role":"program_headers","offset":64,"address":4194368,"size":56,"align":8},{"role":"raw","section":1,"offset":128,"address":4194432,"size":7,"align":16},{"role":"shstrtab","section":2,"offset":135,"size":17,"align":1},{"role":"strtab","offset":152,"size":3},{"role":"symtab_local","offset":160,"size":24,"align":8},{"role":"symtab_global","offset":184,"size":24,"align":8},{"role":"section_headers","offset":208,"size":192,"align":8}],"sections":[{},{"name":"2e74657874","kind":1,"flags":6,"address":4194432,"offset":128,"size":7,"align":16},{"name":"2e7368737472746162","kind":3,"offset":135,"size":17,"align":1}],"segments":[{"kind":1,"flags":5,"address":4194304,"physical":4194304,"file_size":135,"mem_size":135,"align":4096}],"symbols":[{"name":"66","info":18,"place":{"section":0},"value":6,"emit":true,"flags":["NON_INTERPOSABLE"],"resolution":{"raw_value":4194438}}],"groups":[{"files":[{"role":"prelude"},{"role":"object","symbol_count":1,"sections":[{"slot":"loaded","part":2,"address":4194432,"size":7,"flags":6,"bytes":"e800000000c3c3","relocations":[{"offset":1,"number":2,"symbol":0,"addend":-4}]}]},{"role":"epilogue"}],"part_sizes":[64,56,7,17,3,24,24,192]}],"entry":{"address":4194432}}"#;
 
+/// An executable for AArch64: code that calls its function `f`, which stands further away than a branch reaches, and a thunk that goes on to
+/// it; `g` is a word behind the call.
+pub const AARCH64: &str =
+    r#"{"machine":"aarch64","kind":"static","options":{"strip_all":true},"page_size":4096,"parts":[{"role":"file_header","size":64,"address":4194304,"align":8},{"role":"program_headers","offset":64,"address":4194368,"size":112,"align":8},{"role":"raw","section":1,"offset":176,"address":4194480,"size":20,"align":4},{"role":"raw","section":2,"offset":196,"address":268435652,"size":4,"align":4},{"role":"shstrtab","section":3,"offset":200,"size":22,"align":1},{"role":"section_headers","offset":224,"size":256,"align":8}],"sections":[{},{"name":"2e74657874","kind":1,"flags":6,"address":4194480,"offset":176,"size":20,"align":4},{"name":"2e666172","kind":1,"flags":6,"address":268435652,"offset":196,"size":4,"align":4},{"name":"2e7368737472746162","kind":3,"offset":200,"size":22,"align":1}],"segments":[{"kind":1,"flags":5,"address":4194304,"physical":4194304,"file_size":196,"mem_size":196,"align":4096},{"kind":1,"flags":5,"offset":196,"address":268435652,"physical":268435652,"file_size":4,"mem_size":4,"align":4096}],"primary_part":2,"symbols":[{"name":"66","info":2,"place":{"section":1},"flags":["NON_INTERPOSABLE"],"resolution":{"raw_value":268435652}},{"name":"67","info":2,"place":{"section":0},"value":4,"flags":["NON_INTERPOSABLE"],"resolution":{"raw_value":4194484}}],"groups":[{"files":[{"role":"prelude"},{"role":"object","symbol_count":2,"sections":[{"slot":"loaded","part":2,"address":4194480,"size":8,"flags":6,"bytes":"00000094c0035fd6","relocations":[{"offset":0,"number":283,"symbol":0}]},{"slot":"loaded","part":3,"address":268435652,"size":4,"flags":6,"bytes":"c0035fd6","relocations":[]}],"owns_thunk_block":true},{"role":"epilogue"}],"part_sizes":[64,112,20,4,22,256]}],"thunk_blocks":[[{"symbol":0,"address":4194488}]],"entry":{"address":4194480}}"#;
+
 /// The plans by their names.
-pub const PLANS: [(&str, &str); 11] = [
+pub const PLANS: [(&str, &str); 12] = [
     ("smallest", SMALLEST),
     ("wide", WIDE),
     ("three", THREE),
@@ -66,4 +71,5 @@ pub const PLANS: [(&str, &str); 11] = [
     ("library", LIBRARY),
     ("program", PROGRAM),
     ("tabled", TABLED),
+    ("aarch64", AARCH64),
 ];

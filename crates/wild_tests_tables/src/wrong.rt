@@ -33,7 +33,7 @@ const WRONG: [(&str, &str); 59] = [
         r#"{"options":{"strip_all":true,"auxiliary":["61",null]}}"#,
         "/options/auxiliary/1",
     ),
-    (r#"{"machine":"aarch64"}"#, "/machine"),
+    (r#"{"machine":"aarch32"}"#, "/machine"),
     (r#"{"kind":"partial","machine":"x86_64"}"#, "/kind"),
     (r#"{"page_size":-1}"#, "/page_size"),
     (r#"{"page_size":-0}"#, "/page_size"),

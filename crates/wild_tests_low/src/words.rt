@@ -1,0 +1,91 @@
+//! Sequences of AArch64's words as they are rewritten, each word by the row of its own relocation.
+
+use crate::rewrites::{FIXED, OTHERS, OWN};
+use std::test::Fail;
+use wild_relax::{Reference, RelocationInfo, Row, choose_aarch64};
+use wild_types::ValueFlags;
+
+/// The flags of sections of code.
+const CODE: u64 = 6;
+
+/// The relocation types, the symbol's flags and its address, the words' address, the number that the field of each word takes, the words, and
+/// what becomes of them, as `as` 2.40 (aarch64-linux-gnu) writes those instructions.
+type Words = (
+    &'static [u32],
+    ValueFlags,
+    u64,
+    u64,
+    &'static [u64],
+    &'static [u8],
+    &'static [u8],
+);
+
+#[rattlefmt::skip]
+const WORDS: &[Words] = &[
+    // A symbol 24 bytes behind the thread pointer: `nop`, `nop`, `movz x0, #0, lsl #16`, `movk x0, #0x18`.
+    (&[562, 563, 564, 569], OWN, 0x3_0008, 0x1_0000, &[0, 0, 0x18, 0x18],
+        b"\0\0\0\x90\x01\0\x40\xf9\0\0\0\x91\x20\0\x3f\xd6",
+        b"\x1f\x20\x03\xd5\x1f\x20\x03\xd5\0\0\xa0\xd2\0\x03\x80\xf2"),
+    // One of another module, with its offset in a slot at 0x40010: `adrp x0, 0x40000`, `ldr x0, [x0, #0x10]`.
+    (&[562, 563, 564, 569], OTHERS, 0, 0x1_0000, &[0, 0, 0x3_0000, 0x4_0010],
+        b"\0\0\0\x90\x01\0\x40\xf9\0\0\0\x91\x20\0\x3f\xd6",
+        b"\x1f\x20\x03\xd5\x1f\x20\x03\xd5\x80\x01\0\x90\0\x08\x40\xf9"),
+    // `adrp x3`, `ldr x3, [x3]`: `movz x3, #1, lsl #16`, `movk x3, #0x18`; of xzr nothing.
+    (&[541, 542], OWN, 0x3_0008, 0x1_0000, &[0x1_0018, 0x1_0018], b"\x03\0\0\x90\x63\0\x40\xf9", b"\x23\0\xa0\xd2\x03\x03\x80\xf2"),
+    (&[541, 542], OWN, 0x3_0008, 0x1_0000, &[0x1_0018, 0x1_0018], b"\x1f\0\0\x90\xff\x03\x40\xf9", b"\x1f\0\0\x90\xff\x03\x40\xf9"),
+    // `adrp x0`, `add x0, x0`: `nop`, `adr x0, .+0x100`; and as far as `adr` reaches, but no further.
+    (&[275, 277], OWN, 0x1_0104, 0x1_0000, &[0, 0x100], b"\0\0\0\x90\0\0\0\x91", b"\x1f\x20\x03\xd5\0\x08\0\x10"),
+    (&[275, 277], OWN, 0x11_0003, 0x1_0000, &[0, 0xf_ffff], b"\0\0\0\x90\0\0\0\x91", b"\x1f\x20\x03\xd5\xe0\xff\x7f\x70"),
+    (&[275, 277], OWN, 0x11_0004, 0x1_0000, &[0, 0x10_0000], b"\0\0\0\x90\0\0\0\x91", b"\0\0\0\x90\0\0\0\x91"),
+];
+
+/// Writes the word of a row, where it lies in the bytes.
+fn write_word(row: Row, value: u64, bytes: &mut [u8], start: usize) -> Result<(), Fail> {
+    let size = row.pattern_size() as usize;
+    if row.keeps_bytes() || !row.fits() || bytes.len() < size || bytes.len() - size < start {
+        Err("no word")?;
+    }
+    row.write_template(value, bytes, start);
+    Ok(())
+}
+
+#[test]
+fn of_sequences(rt: HostRuntime) -> Result<(), Fail> {
+    for (types, flags, symbol, address, values, input, output) in WORDS {
+        let mut relocations = Vec::new(rt.alloc());
+        let mut offset = 0u64;
+        for number in *types {
+            relocations.push(RelocationInfo {
+                number: *number,
+                offset,
+                symbol: Some(0),
+                addend: 0,
+                names_tls_get_addr: false,
+            })?;
+            offset = offset.saturating_add(4);
+        }
+        let mut bytes = input.to_vec(rt.alloc())?;
+        let mut at = 0;
+        for value in *values {
+            let found = choose_aarch64(&Reference {
+                relocations: relocations.as_slice(),
+                at,
+                bytes: *input,
+                flags: *flags,
+                kind: FIXED,
+                section_flags: CODE,
+                relax: true,
+                value: Some(*symbol),
+                address: *address,
+            });
+            match found {
+                Ok(Some(row)) => write_word(row, *value, &mut bytes, at.saturating_mul(4))?,
+                Ok(None) => {}
+                Err(_) => Err("no sequence")?,
+            }
+            at = at.saturating_add(1);
+        }
+        assert!(rt; bytes.as_slice() == *output, "{symbol:x}");
+    }
+    Ok(())
+}
