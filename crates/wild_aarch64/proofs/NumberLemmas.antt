@@ -1,5 +1,6 @@
 -- Distances that are cut into bits, and land where they should.
 use Rattle.std.proofs.Common.{◌≡◌, ℕ, ◌+◌, ◌-◌, ◌*◌, ◌/◌, ◌%◌, ◌^◌, ◌<◌, ◌≤◌, ◌⊎◌, ◌==◌, inl, inr, true, false, ap, ◌∙◌, arith}
+use Rattle.std.proofs.lemmas.Bool.{cases_lt}
 use Rattle.std.proofs.lemmas.Bool.Decides.{nat_tests}
 use Rattle.wild_aarch64.specs.Slice.{signed}
 use Rattle.wild_aarch64.specs.Machine.{sum_64, page}
@@ -30,26 +31,7 @@ added_21 b x s h up down = grind (arith, nat_tests)
 added_28 : (b x s : ℕ) → x < 2 ^ 28 → (x < 2 ^ 27 → sum_64 b x ≡ s) → (2 ^ 27 ≤ x → sum_64 b (x + (2 ^ 64 - 2 ^ 28)) ≡ s) → sum_64 b (signed 28 x) ≡ s
 added_28 b x s h up down = grind (arith, nat_tests)
 
--- from page k to page i
-pages_land : (b i k : ℕ) → i < k + 2 ^ 20 → k ≤ i + 2 ^ 20 → b + i * 4096 < 2 ^ 64 → b + k * 4096 < 2 ^ 64
-    → sum_64 (b + k * 4096) (signed 33 ((i * 4096 + (2 ^ 64 - k * 4096)) % 2 ^ 64 % 2 ^ 33 / 2 ^ 12 % 2 ^ 21 * 4096)) ≡ b + i * 4096
-pages_land b i k up down h l =
-    let x = (i * 4096 + (2 ^ 64 - k * 4096)) % 2 ^ 64 % 2 ^ 33 / 2 ^ 12 % 2 ^ 21 * 4096 in
-    added_33 (b + k * 4096) x (b + i * 4096) (omega arith) (λ s. omega arith) (λ s. omega arith)
-
--- from the page of a to that of x
-pub page_lands : (base a x : ℕ) → base % 4096 ≡ 0 → Within (2 ^ 32) (page a) (page x) → base + a < 2 ^ 64 → base + x < 2 ^ 64
-    → sum_64 ((base + a) / 4096 * 4096) (signed 33 (distance (page a) (page x) % 2 ^ 33 / 2 ^ 12 % 2 ^ 21 * 4096)) ≡ base + page x
-page_lands base a x e w h l =
-    let start : (base + a) / 4096 * 4096 ≡ base + a / 4096 * 4096 = omega arith in
-    let up : x / 4096 < a / 4096 + 2 ^ 20 = omega (arith, w.below) in
-    let down : a / 4096 ≤ x / 4096 + 2 ^ 20 = omega (arith, w.above) in
-    rw start (pages_land base (x / 4096) (a / 4096) up down (omega arith) (omega arith))
-
-pub low_lands : (base x : ℕ) → base + x < 2 ^ 64 → sum_64 (base + page x) (x % 4096 % 2 ^ 12) ≡ base + x
-low_lands base x l = omega arith
-
--- ---- the same modulo 2^64
+-- ---- sums modulo 2^64
 
 landed : (b p s : ℕ) → p ≤ 2 ^ 64 → (b + p + distance p s) % 2 ^ 64 ≡ (b + s) % 2 ^ 64
 landed b p s h = omega (arith, h)
@@ -87,6 +69,17 @@ page_goes base a x e w =
     ap (λ (i : ℕ). sum_64 (page (base + a)) (signed 33 i)) (page_bits d (pages_apart a x))
     ∙ (ap (λ (i : ℕ). sum_64 i (signed 33 (d % 2 ^ 33))) start
     ∙ (back_33 (base + page a) d low w.near ∙ landed base (page a) (page x) w.origin))
+
+-- pages that are near as numbers are so as addresses
+pub near_pages : (a x : ℕ) → a ≤ 2 ^ 64 → Within (2 ^ 32) (page a) (page x) → IsNear (2 ^ 32) (page a) (page x)
+near_pages a x h w = record { origin = omega (arith, h); near = by (cases_lt (page x) (page a)) }
+  where
+    by : (page x < page a) ⊎ (page a ≤ page x) → (distance (page a) (page x) < 2 ^ 32) ⊎ (2 ^ 64 ≤ distance (page a) (page x) + 2 ^ 32)
+    by (inl l) = inr (omega (arith, h, l, w.above))
+    by (inr l) = inl (omega (arith, h, l, w.below))
+
+pub low_goes : (base x : ℕ) → sum_64 ((base + page x) % 2 ^ 64) (x % 4096 % 2 ^ 12) ≡ (base + x) % 2 ^ 64
+low_goes base x = omega arith
 
 pub slot_goes : (base x : ℕ) → x % 8 ≡ 0 → sum_64 ((base + page x) % 2 ^ 64) (x % 2 ^ 12 / 2 ^ 3 % 2 ^ 12 * 8) ≡ (base + x) % 2 ^ 64
 slot_goes base x e = omega (arith, e)

@@ -44,9 +44,9 @@ StubsJump = (base p g : ℕ) → HasSlot p g → StandsAt base p g → meaning (
 abbrev pub MarkedStubsJump : Type 0
 MarkedStubsJump = (base p g : ℕ) → HasSlot (p + 4) g → StandsAt base p g → meaning (base + p) (marked_stub p g) ≡ Some (jump_through (base + g))
 
--- the pages of a thunk and its target are less than 2^32 apart, or 2^32 backwards
+-- the pages of a thunk and its target are less than 2^32 apart, or 2^32 backwards; the target is counted modulo 2^64
 abbrev pub ThunksReach : Type 0
-ThunksReach = (base p t : ℕ) → Within (2 ^ 32) (page p) (page t) → StandsAt base p t → meaning (base + p) (thunk p t) ≡ Some (jump_to (base + t))
+ThunksReach = (base p t : ℕ) → Within (2 ^ 32) (page p) (page t) → base % 4096 ≡ 0 → base + p + 12 ≤ 2 ^ 64 → meaning (base + p) (thunk p t) ≡ Some (jump_to ((base + t) % 2 ^ 64))
 
 -- each is one step, whatever stands behind it
 abbrev pub StubsAreSteps : Type 0
@@ -56,4 +56,5 @@ abbrev pub MarkedStubsAreSteps : Type 0
 MarkedStubsAreSteps = (base p g : ℕ) (rest : List ℕ) → HasSlot (p + 4) g → StandsAt base p g → step_of (base + p) (marked_stub p g ++ rest) ≡ Some (taking 4 (jump_through (base + g)))
 
 abbrev pub ThunksAreSteps : Type 0
-ThunksAreSteps = (base p t : ℕ) (rest : List ℕ) → Within (2 ^ 32) (page p) (page t) → StandsAt base p t → step_of (base + p) (thunk p t ++ rest) ≡ Some (taking 3 (jump_to (base + t)))
+ThunksAreSteps = (base p t : ℕ) (rest : List ℕ) → Within (2 ^ 32) (page p) (page t) → base % 4096 ≡ 0 → base + p + 12 ≤ 2 ^ 64
+    → step_of (base + p) (thunk p t ++ rest) ≡ Some (taking 3 (jump_to ((base + t) % 2 ^ 64)))

@@ -1,5 +1,5 @@
 -- What words of code in memory of an AArch64 image do.
-use Rattle.std.proofs.Common.{◌≡◌, ℕ, zero, suc, ◌+◌, ◌-◌, ◌*◌, ◌/◌, ◌%◌, ◌^◌, ◌<◌, ◌≤◌, inl, inr, List, [], ◌∷◌, ◌++◌, length, refl, sym, ap, ◌∙◌, arith, subst}
+use Rattle.std.proofs.Common.{◌≡◌, ℕ, zero, suc, ◌+◌, ◌-◌, ◌*◌, ◌/◌, ◌%◌, ◌^◌, ◌<◌, ◌≤◌, inl, inr, List, [], ◌∷◌, ◌++◌, length, refl, ap, ◌∙◌, arith, subst}
 use Rattle.std.specs.Prelude.{⊤, Option, Some, option_map, option_and_then}
 use Rattle.wild_words.specs.Words.{word, number}
 use Rattle.wild_words.proofs.WordLemmas.{length-word, number-word_4}
@@ -21,7 +21,7 @@ use Rattle.wild_loader.specs.declared.instruction.Deed.TheVariants.{Jump}
 use Rattle.wild_loader.specs.Memory.{number_in, Holds}
 use Rattle.wild_loader.specs.InstructionAArch64.{action_of}
 use Rattle.wild_loader.specs.Effect.{words_at, narrowed, effect_in, step, step_of, step_aarch64}
-use Rattle.wild_loader.specs.StepLawsAArch64.{spelled, jumps, StubsAreRead, MarkedStubsAreRead, ThunksAreRead, JumpsReach}
+use Rattle.wild_loader.specs.StepLawsAArch64.{spelled, StubsAreRead, MarkedStubsAreRead, ThunksAreRead, JumpsReach}
 use Rattle.wild_loader.proofs.Held.{held-behind, number-front}
 
 -- ---- words that memory has
@@ -89,9 +89,9 @@ marked_stubs-read = λ m base p g v machine slot at held read.
     ∙ ap (λ (o : Option ℕ). jump_with o) read
 
 pub thunks-read : ThunksAreRead
-thunks-read = λ m base p t machine near at held.
+thunks-read = λ m base p t machine near pages code held.
     let small : AreWords (thunk p t) = (imm21-small (distance (page p) (page t) / 4096 % 2 ^ 21) 0x90000010 (omega arith), (imm12-small (t % 4096) 0x91000210 (omega arith), (omega arith, tt))) in
-    stepped m (base + p) (thunk p t) (taking 3 (jump_to (base + t))) machine (omega arith) small held (λ more. steps.thunks_are_steps base p t more near at)
+    stepped m (base + p) (thunk p t) (taking 3 (jump_to ((base + t) % 2 ^ 64))) machine (omega arith) small held (λ more. steps.thunks_are_steps base p t more near pages code)
 
 pub jumps-reach : JumpsReach
 jumps-reach = λ m a v e known goes. inr (v, record { effect = e; known = known; jump = goes }, inl refl)

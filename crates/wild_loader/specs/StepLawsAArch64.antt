@@ -2,7 +2,7 @@
 --   StubsAreRead, MarkedStubsAreRead, ThunksAreRead   a stub is a jump to the address in its slot, a thunk one to its target
 --   RunsAreMeant                                      whatever is known at an address is what its words mean
 --   JumpsReach                                        code that jumps reaches where it goes on, on either machine
-use Rattle.std.specs.Prelude.{◌≡◌, ℕ, ◌+◌, ◌^◌, List, length, Some}
+use Rattle.std.specs.Prelude.{◌≡◌, ℕ, ◌+◌, ◌%◌, ◌^◌, ◌≤◌, List, length, Some}
 use Rattle.std.specs.List.{flat_map}
 use Rattle.wild_words.specs.Words.{word}
 use Rattle.wild_aarch64.specs.Machine.{page}
@@ -40,9 +40,10 @@ abbrev pub MarkedStubsAreRead : Type 0
 MarkedStubsAreRead = (m : Memory) (base p g v : ℕ) → m.machine ≡ machines.AArch64 → HasSlot (p + 4) g → StandsAt base p g → Holds m (base + p) (spelled (marked_stub p g)) → number_in m (base + g) 8 ≡ Some v
     → step m (base + p) ≡ Some (jumps 16 v)
 
--- and a thunk is a jump to its target
+-- and a thunk is a jump to its target, which is counted modulo 2^64
 abbrev pub ThunksAreRead : Type 0
-ThunksAreRead = (m : Memory) (base p t : ℕ) → m.machine ≡ machines.AArch64 → Within (2 ^ 32) (page p) (page t) → StandsAt base p t → Holds m (base + p) (spelled (thunk p t)) → step m (base + p) ≡ Some (jumps 12 (base + t))
+ThunksAreRead = (m : Memory) (base p t : ℕ) → m.machine ≡ machines.AArch64 → Within (2 ^ 32) (page p) (page t) → base % 4096 ≡ 0 → base + p + 12 ≤ 2 ^ 64 → Holds m (base + p) (spelled (thunk p t))
+    → step m (base + p) ≡ Some (jumps 12 ((base + t) % 2 ^ 64))
 
 -- a descriptor's offset is read as it was noted
 abbrev pub ReadsDescriptors : Memory → Reader → Type 0

@@ -160,11 +160,11 @@ thunk_refused m read item r a t bytes long named at held goes asked done here th
 
 far_goes : (m : Memory) → m.machine ≡ processors.AArch64 → Holds m 0x11060 far_thunk → step m 0x11060 ≡ Some (jumps 12 0x12200)
 unfolding word insert_bits
-far_goes m x held = thunks-read m 0 0x11060 0x12200 x (record { above = omega arith; below = omega arith }) (record { pages = refl; code = omega arith; top = omega arith }) held
+far_goes m x held = thunks-read m 0 0x11060 0x12200 x (record { above = omega arith; below = omega arith }) refl (omega arith) held
 
 right_goes : (m : Memory) → m.machine ≡ processors.AArch64 → Holds m 0x11060 right_thunk → step m 0x11060 ≡ Some (jumps 12 0x11200)
 unfolding word insert_bits
-right_goes m x held = thunks-read m 0 0x11060 0x11200 x (record { above = omega arith; below = omega arith }) (record { pages = refl; code = omega arith; top = omega arith }) held
+right_goes m x held = thunks-read m 0 0x11060 0x11200 x (record { above = omega arith; below = omega arith }) refl (omega arith) held
 
 call_kept : IsKept words_static call_item
 call_kept = OfSection call_code (record { input = record { group = _; grouped = (0, omega arith, refl); file = _; filed = (0, omega arith, refl); listed = (2, omega arith, refl) }; loaded = tt; room = refl; has_data = refl }) refl

@@ -278,7 +278,7 @@ thunk_held = held_from words_memory 0x11060 (0x10 ∷ 0 ∷ 0 ∷ 0x90 ∷ 0x10 
 
 thunk_goes : step words_memory 0x11060 ≡ Some (jumps 12 0x11200)
 unfolding insert_bits
-thunk_goes = thunks-read words_memory 0 0x11060 0x11200 refl (record { above = omega arith; below = omega arith }) (record { pages = refl; code = omega arith; top = omega arith }) thunk_held
+thunk_goes = thunks-read words_memory 0 0x11060 0x11200 refl (record { above = omega arith; below = omega arith }) refl (omega arith) thunk_held
 
 by_thunk : IsReferent words_static.machine StubDistance words_static words_world words_memory call_item call_reference 0x11060
 by_thunk = inr ((λ h. not_absent h.1), record { symbol = 0x11200; denoted = inl function_value; comes = inr (0x11200, record { effect = jumps 12 0x11200; known = thunk_goes; jump = refl }, refl) })

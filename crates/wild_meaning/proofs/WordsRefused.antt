@@ -260,11 +260,11 @@ pairs_excepted = λ l item r first start i t movable named absolute. record { mo
 
 right_thunk : (m : Memory) → m.machine ≡ processors.AArch64 → Holds m 0x1000 (flat_map (word 4) (0x90000030 ∷ 0x9119e210 ∷ 0xd61f0200 ∷ [])) → step m 0x1000 ≡ Some (jumps 12 0x5678)
 unfolding insert_bits
-right_thunk m x held = thunks-read m 0 0x1000 0x5678 x (record { above = omega arith; below = omega arith }) (record { pages = refl; code = omega arith; top = omega arith }) held
+right_thunk m x held = thunks-read m 0 0x1000 0x5678 x (record { above = omega arith; below = omega arith }) refl (omega arith) held
 
 far_thunk : (m : Memory) → m.machine ≡ processors.AArch64 → Holds m 0x1000 (flat_map (word 4) (0xb0000030 ∷ 0x9119e210 ∷ 0xd61f0200 ∷ [])) → step m 0x1000 ≡ Some (jumps 12 0x6678)
 unfolding insert_bits
-far_thunk m x held = thunks-read m 0 0x1000 0x6678 x (record { above = omega arith; below = omega arith }) (record { pages = refl; code = omega arith; top = omega arith }) held
+far_thunk m x held = thunks-read m 0 0x1000 0x6678 x (record { above = omega arith; below = omega arith }) refl (omega arith) held
 
 -- where no word is loaded, no code is known
 no_code : (m : Memory) (a : ℕ) → m.machine ≡ processors.AArch64 → number_in m a 4 ≡ None → step m a ≡ None

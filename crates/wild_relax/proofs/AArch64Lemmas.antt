@@ -90,6 +90,6 @@ within p t h =
     record { above = omega (arith, low); below = omega (arith, high) }
 
 pub thunks_reach : ThunksReach
-thunks_reach base thunk target h s =
-    subst (λ (ws : List ℕ). meaning (base + thunk) ws ≡ Some (jump_to (base + target))) (sym (thunk_is ((page target + (2 ^ 64 - page thunk)) % 2 ^ 64) target))
-    (reach.thunks_reach base thunk target (within thunk target h) s)
+thunks_reach base thunk target h pages code =
+    subst (λ (ws : List ℕ). meaning (base + thunk) ws ≡ Some (jump_to ((base + target) % 2 ^ 64))) (sym (thunk_is ((page target + (2 ^ 64 - page thunk)) % 2 ^ 64) target))
+    (reach.thunks_reach base thunk target (within thunk target h) pages code)

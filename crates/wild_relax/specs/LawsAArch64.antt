@@ -1,7 +1,7 @@
 -- What is written for AArch64 does what is asked of it.
 --   StubsOfAArch64Jump   a stub jumps to the address in its slot
 --   ThunksReach          a thunk jumps to its target
-use Rattle.std.specs.Prelude.{◌≡◌, ℕ, ◌+◌, ◌%◌, Bool, true, Some}
+use Rattle.std.specs.Prelude.{◌≡◌, ℕ, ◌+◌, ◌%◌, ◌^◌, ◌≤◌, Bool, true, Some}
 use Rattle.wild_aarch64.specs.Machine.{meaning, jump_to, jump_through}
 use Rattle.wild_aarch64.specs.Effect.{words_of}
 use Rattle.wild_aarch64.specs.Stub.{StandsAt}
@@ -13,7 +13,7 @@ abbrev pub StubsOfAArch64Jump : Type 0
 StubsOfAArch64Jump = (base slot stub : ℕ) (bti : Bool) → (stub_aarch64 slot stub bti).reaches ≡ true → slot % 8 ≡ 0 → StandsAt base stub slot
     → meaning (base + stub) (words_of (stub_aarch64 slot stub bti).bytes) ≡ Some (jump_through (base + slot))
 
--- a thunk that reaches its target jumps there, at every such base
+-- a thunk that reaches its target jumps there, at every such base; the target is counted modulo 2^64
 abbrev pub ThunksReach : Type 0
-ThunksReach = (base thunk target : ℕ) → (thunk_aarch64 thunk target).reaches ≡ true → StandsAt base thunk target
-    → meaning (base + thunk) (words_of (thunk_aarch64 thunk target).bytes) ≡ Some (jump_to (base + target))
+ThunksReach = (base thunk target : ℕ) → (thunk_aarch64 thunk target).reaches ≡ true → base % 4096 ≡ 0 → base + thunk + 12 ≤ 2 ^ 64
+    → meaning (base + thunk) (words_of (thunk_aarch64 thunk target).bytes) ≡ Some (jump_to ((base + target) % 2 ^ 64))
