@@ -3,9 +3,8 @@
 use wild_aarch64::{
     Action, Code, Deed, Operand, Shift, Step, branch_of, code_of, longest_step, meaning_of,
 };
-use wild_relax::aarch64::{
-    THUNKS, ThunkOutOfRange, fill_nop_padding, is_symbol_variant_pcs, write_thunk,
-};
+use wild_relax::aarch64::{THUNKS, ThunkOutOfRange, is_symbol_variant_pcs, write_thunk};
+use wild_relax::{Arch, ElfAArch64};
 use wild_slot::{PltTooFar, write_stub};
 use wild_types::Machine;
 
@@ -205,7 +204,7 @@ fn thunks(rt: HostRuntime) {
 #[test]
 fn padding(rt: HostRuntime) {
     let mut room = [0xcc; 6];
-    fill_nop_padding(&mut room);
+    ElfAArch64::fill_nop_padding(&mut room);
     assert!(rt; room == *b"\x1f\x20\x03\xd5\x1f\x20");
     assert!(rt; is_symbol_variant_pcs(0x82) && !is_symbol_variant_pcs(0x02));
 }

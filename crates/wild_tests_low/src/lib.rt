@@ -1,10 +1,12 @@
-//! Tests of the crates up to the loader's model, the rewrites, the hash tables, the workers and the ends.
+//! Tests of the crates up to the loader's model, the rewrites, the hash tables, the frames, the workers and the ends.
 #![tactic(auto)]
 
 #[cfg(test)]
 mod aarch64;
 #[cfg(test)]
 mod fields;
+#[cfg(test)]
+mod frames;
 #[cfg(test)]
 mod hashes;
 #[cfg(test)]

@@ -1,0 +1,5 @@
+pub mod Frames
+pub mod Faults
+pub mod Walks
+pub mod Reading
+pub mod Table

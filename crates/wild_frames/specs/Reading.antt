@@ -1,0 +1,126 @@
+-- A reader of frames, which goes by lengths (LSB, "The .eh_frame section").
+--   IsRead bytes e             an entry of that size and id stands at its place
+--   AreRead bytes at es end    entries stand one behind the other from there to an end
+use Rattle.std.specs.Prelude.{◌≡◌, ℕ, ◌+◌, ◌<◌, ◌≤◌, ◌⊎◌, ◌==◌, ◌||◌, Bool, true, false, List, [], ◌∷◌, length, map, take, drop, All, Contains, slice_index}
+use Rattle.std.specs.List.{filter, flat_map}
+use Rattle.wild_words.specs.Words.{number_at, Stands}
+use Rattle.wild_types.specs.Lists.{total}
+use Rattle.wild_frames.specs.declared.frames.Target.{Target}
+use Rattle.wild_frames.specs.declared.frames.Target.TheVariants as target
+use Rattle.wild_frames.specs.declared.entry.KeptEntry.{KeptEntry}
+use Rattle.wild_frames.specs.declared.entry.Found.{Found}
+use Rattle.wild_frames.specs.declared.entry.Found.TheVariants as finds
+use Rattle.wild_frames.specs.Frames.{Frames, target_first, relocations_in, entry_bytes, tail_of, found_in, kept_in, frame_bytes}
+use Rattle.wild_frames.specs.Faults.{frame_errors}
+
+pub record Entry : Type 0 where
+  pub at : ℕ
+  pub size : ℕ
+  pub id : ℕ
+
+pub record IsRead (bytes : List ℕ) (e : Entry) : Type 0 where
+  pub least : 8 ≤ e.size
+  pub within : e.at + e.size ≤ length bytes
+  pub size : 4 + number_at bytes e.at 4 ≡ e.size
+  pub id : number_at bytes (e.at + 4) 4 ≡ e.id
+
+pub record Next (bytes : List ℕ) (at : ℕ) (e : Entry) (rest : Type 0) : Type 0 where
+  pub place : e.at ≡ at
+  pub read : IsRead bytes e
+  pub others : rest
+
+abbrev pub AreRead : List ℕ → ℕ → List Entry → ℕ → Type 0
+AreRead bytes at [] end = at ≡ end
+AreRead bytes at (e ∷ es) end = Next bytes at e (AreRead bytes (at + e.size) es end)
+
+-- a zero length, or too few bytes for an entry
+abbrev pub Ends : List ℕ → ℕ → Type 0
+Ends bytes at = (length bytes < at + 8) ⊎ (number_at bytes at 4 ≡ 0)
+
+-- ---- which entries are kept
+
+-- an entry of the input
+abbrev pub entry_at : Frames → ℕ → ℕ → Entry
+entry_at s at size = record { at = at; size = size; id = number_at s.bytes (at + 4) 4 }
+
+abbrev pub is_loaded : Target → Bool
+is_loaded target.Loaded = true
+is_loaded _ = false
+
+-- a CIE is kept, and an FDE whose first relocation stands at its PC Begin and names what is loaded
+abbrev pub is_kept : Frames → Entry → Bool
+is_kept s e = (e.id == 0) || is_loaded (target_first s.target (e.at + 8) (relocations_in e.at (e.at + e.size) s.relocations))
+
+-- the kept entries are those that are to be kept among the entries that a reader of the input finds: where there is no fault,
+-- all entries
+pub record AreFiltered (s : Frames) : Type 0 where
+  pub entries : List Entry
+  pub end : ℕ
+  pub read : AreRead s.bytes 0 entries end
+  pub filtered : map (λ k. entry_at s k.from k.size) (kept_in s) ≡ filter (is_kept s) entries
+  pub ends : frame_errors s ≡ [] → Ends s.bytes end
+
+abbrev pub KeptAreFiltered : Type 0
+KeptAreFiltered = (s : Frames) → AreFiltered s
+
+-- ---- where they stand
+
+-- entries one behind the other, from an offset on
+abbrev pub LieFrom : ℕ → List KeptEntry → Type 0
+LieFrom to [] = Unit {0}
+LieFrom to (k ∷ ks) = (k.to ≡ to) × LieFrom (to + k.size) ks
+
+abbrev pub tail_found : Frames → Found → List ℕ
+tail_found s (finds.Tail from) = tail_of (drop from s.bytes)
+tail_found s _ = []
+
+-- kept entries have no gap between them, and behind them stand the last bytes alone
+pub record HaveNoGaps (s : Frames) : Type 0 where
+  pub lie : LieFrom 0 (kept_in s)
+  pub sum : length (frame_bytes s) ≡ total (λ k. k.size) (kept_in s) + length (flat_map (tail_found s) (found_in s))
+  pub stand : All (λ k. Stands (frame_bytes s) k.to (entry_bytes s k)) (kept_in s)
+
+abbrev pub EntriesHaveNoGaps : Type 0
+EntriesHaveNoGaps = (s : Frames) → HaveNoGaps s
+
+-- a kept entry as a reader is to find it, where the kept bytes begin at a base
+abbrev pub shown : ℕ → KeptEntry → Entry
+shown base k = record { at = base + k.to; size = k.size; id = k.id }
+
+-- the length word and the id of each kept entry stand in an image
+abbrev pub HeadsStand : Frames → List ℕ → ℕ → Type 0
+HeadsStand s image base = All (λ k. Stands image (base + k.to) (take 8 (entry_bytes s k))) (kept_in s)
+
+abbrev pub EntriesAreRead : Type 0
+EntriesAreRead = (s : Frames) (image : List ℕ) (base : ℕ) → All (λ b. b < 256) s.bytes → base + length (frame_bytes s) ≤ length image → HeadsStand s image base
+    → AreRead image base (map (shown base) (kept_in s)) (base + total (λ k. k.size) (kept_in s))
+
+-- ---- what is in them
+
+-- the id of a CIE is 0, as the input's; that of an FDE leads to the CIE that the input's led to
+pub record LeadsToCie (s : Frames) (kept : List KeptEntry) (k : KeptEntry) : Type 0 where
+  pub cie : KeptEntry
+  pub listed : Contains kept cie
+  pub is_cie : cie.id ≡ 0
+  pub ahead : cie.to < k.to
+  pub before : cie.from + number_at s.bytes (k.from + 4) 4 ≡ k.from + 4
+  pub after : cie.to + k.id ≡ k.to + 4
+  pub shorter : k.id ≤ number_at s.bytes (k.from + 4) 4
+
+abbrev pub Leads : Frames → List KeptEntry → KeptEntry → Type 0
+Leads s kept k = (number_at s.bytes (k.from + 4) 4 ≡ 0) × (k.id ≡ 0) ⊎ LeadsToCie s kept k
+
+abbrev pub IdsLead : Type 0
+IdsLead = (s : Frames) → All (Leads s (kept_in s)) (kept_in s)
+
+-- the fields of an FDE stand behind its id
+abbrev pub SparesId : Frames → KeptEntry → Type 0
+SparesId s k = (k.id ≡ 0) ⊎ All (λ r. k.from + 8 ≤ r.offset) (relocations_in k.from (k.from + k.size) s.relocations)
+
+abbrev pub FieldsSpareIds : Type 0
+FieldsSpareIds = (s : Frames) → All (SparesId s) (kept_in s)
+
+-- each byte of a kept entry is the input's, but those of an FDE's id
+abbrev pub OthersAreInput : Type 0
+OthersAreInput = (s : Frames) (k : KeptEntry) (i : ℕ) → Contains (kept_in s) k → i < k.size → (k.id ≡ 0) ⊎ ((i < 4) ⊎ (8 ≤ i))
+    → slice_index (frame_bytes s) (k.to + i) ≡ slice_index s.bytes (k.from + i)

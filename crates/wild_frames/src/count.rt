@@ -1,0 +1,61 @@
+//! How many bytes and FDEs are kept, without writing them.
+ghost use Rattle.std.specs.Prelude.{◌≡◌, length, IfOk};
+ghost use Rattle.std.specs.List.{flat_map};
+ghost use Rattle.wild_frames.specs.Frames.{start, rest_of, found_bytes, fde_of, fdes_in, frame_bytes};
+ghost use Rattle.wild_frames.specs.Walks.{IsAtStart};
+
+use crate::entry::Found;
+use crate::frames::{FrameSource, byte_count};
+use crate::walk::Walk;
+use crate::write::{count_bytes, goes_on};
+use std::alloc::{AllocError, Global};
+
+/// What is kept of a section's frames.
+#[derive(Clone, Copy)]
+pub struct FrameCounts {
+    /// The kept bytes.
+    pub bytes: u64,
+    /// The kept FDEs, each an entry of the search table.
+    pub fdes: u64,
+}
+
+/// How many entries of the search table there are for what was found.
+fn count_fdes(found: &Found) -> u64
+    ensures { result ≡ length (fde_of found.now) }
+{
+    match found {
+        Found::Kept { entry } if entry.id != 0 => 1,
+        _ => 0,
+    }
+}
+
+/// What is kept from the start of a walk on.
+fn count_rest<F: FrameSource>(frames: &F, first: Walk) -> Result<FrameCounts, AllocError>
+    requires { IsAtStart (F.frames frames.now) first }
+    ensures bytes { IfOk result (λ c. c.bytes ≡ length (flat_map (found_bytes (F.frames frames.now)) (rest_of (F.frames frames.now) start))) }
+    ensures fdes { IfOk result (λ c. c.fdes ≡ length (flat_map fde_of (rest_of (F.frames frames.now) start))) }
+{
+    let mut walk = first;
+    let mut fdes = 0;
+    loop {
+        let to = walk.to;
+        let _length = byte_count(frames);
+        let found = walk.step(frames)?;
+        if !goes_on(&found) {
+            let bytes = to + count_bytes(frames, &found) as u64;
+            return Ok(FrameCounts { bytes, fdes });
+        }
+        fdes += count_fdes(&found);
+    }
+}
+
+/// How many bytes are kept of a section's frames, and how many FDEs. The section's bytes are read once; nothing is written.
+pub fn count_frames<F: FrameSource>(alloc: Global, frames: &F) -> Result<FrameCounts, AllocError>
+    ensures bytes { IfOk result (λ c. c.bytes ≡ length (frame_bytes (F.frames frames.now))) }
+    ensures fdes { IfOk result (λ c. c.fdes ≡ length (fdes_in (F.frames frames.now))) }
+{
+    match Walk::start(alloc, frames) {
+        Ok(walk) => count_rest(frames, walk),
+        Err(_) => Ok(FrameCounts { bytes: 0, fdes: 0 }),
+    }
+}

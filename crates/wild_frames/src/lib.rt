@@ -1,0 +1,23 @@
+//! The frames of `.eh_frame` that are kept, and the search table of `.eh_frame_hdr`.
+#![tactic(auto)]
+
+mod count;
+mod entry;
+mod frames;
+mod laws;
+mod relocations;
+mod search;
+mod table;
+mod walk;
+mod write;
+
+pub use count::{FrameCounts, count_frames};
+pub use entry::{BadFrame, Cie, Found, FrameError, KeptEntry, Why};
+pub use frames::{FrameSource, Target};
+pub use laws::kept_entries_are_read;
+pub use search::{look_up, tables_are_searched};
+pub use table::{
+    Fde, TableError, sort_eh_frame_hdr_entries, write_eh_frame_hdr, write_search_table,
+};
+pub use walk::Walk;
+pub use write::{goes_on, write_eh_frame_data, write_entry};

@@ -1,0 +1,47 @@
+//! What an unwinder asks the search table.
+ghost use Rattle.std.specs.Prelude.{◌≡◌, ◌<◌, ◌≤◌, ◌+◌, ◌*◌, length};
+ghost use Rattle.wild_frames.specs.Table.{rank, nth_entry, IsInOrder, IsLastBefore, RanksAreOrdered, TableIsInOrder, FdeIsFound};
+
+use crate::table::rank;
+use wild_records::{EhFrameHdr, EhFrameHdrEntry, eh_frame_hdr_entry_is_read};
+
+/// The entry at a place of a table.
+fn nth_entry(table: &[u8], index: usize) -> EhFrameHdrEntry
+    requires { 12 + 8 * index + 8 ≤ length table.now }
+    ensures { result ≡ nth_entry table.now index }
+{
+    EhFrameHdrEntry::read(table, EhFrameHdr::SIZE + EhFrameHdrEntry::SIZE * index)
+}
+
+/// The last entry of a table that stands at or before a place counted from its header, by halves.
+pub fn look_up(table: &[u8], code: i32) -> Option<EhFrameHdrEntry>
+    requires { IsInOrder table.now }
+    ensures { IsLastBefore (rank code) table.now result }
+{
+    let most = rank(code);
+    let mut low = 0;
+    let mut high = table.len().saturating_sub(EhFrameHdr::SIZE) / EhFrameHdrEntry::SIZE;
+    while low < high {
+        let middle = low + (high - low) / 2;
+        if rank(nth_entry(table, middle).frame_ptr) <= most {
+            low = middle + 1;
+        } else {
+            high = middle;
+        }
+    }
+    if low == 0 {
+        None
+    } else {
+        Some(nth_entry(table, low - 1))
+    }
+}
+
+/// A table that was written is in order, as a search by halves wants it, and a search for an address in the code of an FDE
+/// finds that FDE, where no two have an address of code in common.
+pub fn tables_are_searched()
+    ensures ranks { RanksAreOrdered }
+    ensures order { TableIsInOrder }
+    ensures found { FdeIsFound }
+{
+    eh_frame_hdr_entry_is_read();
+}
