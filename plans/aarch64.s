@@ -1,9 +1,9 @@
 // Prints a line, and ends with the status that a thread-local variable has: 42 (Linux on AArch64). The function that prints stands
-// 1 MiB away.
+// 128 MiB away, so that the call comes to it by a thunk.
     .section .rodata, "a", %progbits
     .globl message
 message:
-    .ascii "Called from afar.\n"
+    .ascii "Called by a thunk.\n"
     .set .Llength, . - message
 
     .section .tdata, "awT", %progbits

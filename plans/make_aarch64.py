@@ -4,7 +4,7 @@
     plans/make_aarch64.py > plans/aarch64.json
     plans/make_aarch64.py SOURCE.s > plan.json
 
-As a linker does, it defines `__tdata_start`. The code of `.text.far` stands 1 MiB away, further than a conditional branch reaches; the other
+As a linker does, it defines `__tdata_start`. The code of `.text.far` stands 128 MiB away, further than a branch reaches; the other
 code has a thunk for each function there that is called, behind its sections. The assembler is that of the binutils for
 aarch64-linux-gnu (as Debian's package binutils-aarch64-linux-gnu has them).
 """
@@ -14,7 +14,7 @@ from make_slots import TLS, TLS_SEGMENT
 
 ASSEMBLER = "aarch64-linux-gnu-as"
 CALL = 283  # R_AARCH64_CALL26
-FAR, THUNK_SIZE, SEGMENTS = 1 << 20, 12, 6
+FAR, THUNK_SIZE, SEGMENTS = 1 << 27, 12, 6
 
 
 def called(source, sections, targets):

@@ -21,9 +21,9 @@ ENTRIES = 15  # of the dynamic section: four on strings and symbols, four on ent
 FLAGS = "-c -O1 -fPIE -ffreestanding -fno-builtin -fno-strict-aliasing -fno-stack-protector -fno-asynchronous-unwind-tables -fcf-protection=none"
 
 
-def compiled(source, flags=FLAGS):
+def compiled(source, flags=FLAGS, compiler="gcc"):
     with tempfile.TemporaryDirectory() as room:
-        subprocess.run(["gcc", *flags.split(), "-o", f"{room}/object", source], check=True)
+        subprocess.run([compiler, *flags.split(), "-o", f"{room}/object", source], check=True)
         with open(f"{room}/object", "rb") as it:
             return Object(it.read())
 

@@ -6,8 +6,9 @@ symbols.c, and lays it out as a shared object or as a position-independent execu
     plans/make_shared.py uses_shared > plans/uses_shared.json
     plans/make_shared.py symbols > plans/symbols.json
     plans/make_shared.py NAME SOURCE.c > plan.json
+    plans/make_shared.py NAME [SOURCE.c] --machine aarch64 > plan.json
 
-With a source, the output is of the sort that NAME is.
+With a source, the output is of the sort that NAME is. For AArch64 the compiler is that of Debian's package gcc-aarch64-linux-gnu.
 
 As a linker does, it goes by the relocations: a symbol of a library has a stub where it is called, a slot where code reads
 its address there, and is copied where code has its address as one of the program. Each symbol of a library that is used
@@ -15,33 +16,72 @@ has an entry of the dynamic symbol table, and each of the object that other modu
 to symbols of the object are bound to it, as with the option `-Bsymbolic` of linkers. An output with versions has both hash
 tables, versions and a table of all symbols too.
 """
-import sys
+import argparse
+from typing import NamedTuple
 
 from make_hello import ALLOC, CODE, PAGE, PC32, PLT32, PROGBITS, placed, source_of, spelled, up
 from make_pie import ABSOLUTE_ADDRESS, DYNAMIC, DYNAMIC_SEGMENT, DYNSYM, FLAGS, LOAD, RELA, RELR, STACK, STRTAB, WRITE, compiled, packed, symbols_of
 from make_slots import ADDRESS_SLOT, INDIRECT_FUNCTION, OFFSET_SLOT, OWN_PAIR, TLS, TLS_SEGMENT
 
 NOBITS, INIT_ARRAY, HEADERS_SEGMENT, INTERPRETER_SEGMENT = 8, 14, 6, 3
-MODULE_PAIR = 19  # R_X86_64_TLSGD
 FUNCTION, OBJECT, GLOBAL = 2, 1, 1
 HASH, GNU_HASH, VERSIONS, DEFINITIONS, NEEDS, SYMBOLS, FILE_NAME = 5, 0x6FFFFFF6, 0x6FFFFFFF, 0x6FFFFFFD, 0x6FFFFFFE, 2, 4
 BUCKETS = 3
 
+
+class Machine(NamedTuple):
+    """What differs from one machine to the other. Relocation types are those of references to an address, by its distance, by a stub, by
+    each sort of slots, and by the pair of the own module (x86-64 psABI, "Relocation Types"; aaelf64, "Relocation types")."""
+
+    compiler: str
+    flags: str
+    options: dict
+    address: int
+    distance: set
+    call: set
+    slots: dict
+    own_pair: set
+    pairs: str  # the dialect in which code asks for thread-local data by pairs
+    interpreter: str
+    versions: tuple  # of the C library and of the dynamic linker
+
+
+WORDS = {"GOT": 1, "GOT_TLS_OFFSET": 1, "GOT_TLS_MODULE": 2, "GOT_TLS_DESCRIPTOR": 2}
+MACHINES = {
+    "x86_64": Machine(
+        "gcc", FLAGS, {}, ABSOLUTE_ADDRESS, {PC32}, {PLT32}, dict(zip(WORDS, (ADDRESS_SLOT, {OFFSET_SLOT}, {19}, {34}))), {OWN_PAIR}, "gnu",
+        "/lib64/ld-linux-x86-64.so.2", ("GLIBC_2.2.5", "GLIBC_2.3"),
+    ),
+    # its branches to functions of the object go by a stub or are rewritten
+    "aarch64": Machine(
+        "aarch64-linux-gnu-gcc", FLAGS.replace("-fcf-protection=none", "-fno-unwind-tables -Wno-attributes"), {"relax": True}, 257,
+        {275, 277, 278, 284, 285, 286, 299}, {282, 283}, dict(zip(WORDS, ({311, 312, 313}, {541, 542}, {513, 514}, {562, 563, 564}))), set(), "trad",
+        "/lib/ld-linux-aarch64.so.1", ("GLIBC_2.17", "GLIBC_2.17"),
+    ),
+}
 # what is known of the libraries: the symbols that are used of them, with type and size
 C_LIBRARY = ("libc.so.6", {"write": (FUNCTION, 0), "fsync": (FUNCTION, 0), "_exit": (FUNCTION, 0), "optind": (OBJECT, 4)})
-DYNAMIC_LINKER = ("ld-linux-x86-64.so.2", {"__tls_get_addr": (FUNCTION, 0)})
-OUTPUTS = {
-    "shared": {"kind": "shared", "compiled": "-fPIC", "libraries": [C_LIBRARY, DYNAMIC_LINKER], "options": {"soname": b"libshared.so".hex()}},
-    "uses_shared": {"kind": "dynamic_pie", "compiled": "-fPIE", "libraries": [C_LIBRARY], "interpreter": b"/lib64/ld-linux-x86-64.so.2\0"},
-    "symbols": {
-        "kind": "shared", "compiled": "-fPIC", "libraries": [C_LIBRARY, DYNAMIC_LINKER],
-        "options": {"soname": b"libsymbols.so".hex(), "versions": True, "got_plt_syms": True, "strip_all": False},
-        # the versions that it has, each with its parent, and which symbol has which; those that it needs of libraries
-        "versions": [("libsymbols.so", None), ("FIRST", None), ("SECOND", 1)],
-        "version_of": {"once": 2, "step": 2, "twice": 3, "status": 3, "thrice": 3, "say": 3},
-        "needs": {"libc.so.6": [("GLIBC_2.2.5", 4), ("GLIBC_ABI_DT_RELR", 6)], "ld-linux-x86-64.so.2": [("GLIBC_2.3", 5)]},
-    },
-}
+
+
+def outputs(machine):
+    """The outputs that have a name."""
+    linker = machine.interpreter.split("/")[-1]
+    libraries = [C_LIBRARY, (linker, {"__tls_get_addr": (FUNCTION, 0)})]
+    return {
+        # no hash table: nothing of it is looked up, as the symbol of a descriptor would be
+        "shared": {"kind": "shared", "compiled": f"-fPIC -mtls-dialect={machine.pairs}", "libraries": libraries, "options": {"soname": b"libshared.so".hex()}},
+        "uses_shared": {"kind": "dynamic_pie", "compiled": "-fPIE", "libraries": [C_LIBRARY], "interpreter": machine.interpreter.encode() + b"\0"},
+        "symbols": {
+            "kind": "shared", "compiled": "-fPIC", "libraries": libraries,
+            "options": {"soname": b"libsymbols.so".hex(), "versions": True, "got_plt_syms": True, "strip_all": False},
+            # the versions that it has, each with its parent, and which symbol has which; those that it needs of libraries
+            "versions": [("libsymbols.so", None), ("FIRST", None), ("SECOND", 1)],
+            "version_of": {"once": 2, "step": 2, "twice": 3, "status": 3, "thrice": 3, "say": 3},
+            "needs": {"libc.so.6": [(machine.versions[0], 4), ("GLIBC_ABI_DT_RELR", 6)], linker: [(machine.versions[1], 5)]},
+        },
+    }
+
+
 # shared objects that the program is started with, beside those whose symbols it uses
 STARTED_WITH = {"uses_shared": ["libshared.so"]}
 
@@ -55,25 +95,25 @@ def uses(source):
     return numbers
 
 
-def own_flags(info, used, exported):
+def own_flags(info, used, exported, machine):
     """The flags of a symbol of the object."""
     flags = ["NON_INTERPOSABLE"] + ["EXPORT_DYNAMIC"] * exported
     if info % 16 == INDIRECT_FUNCTION:
         return flags + ["IFUNC", "GOT", "PLT"]
-    return flags + ["GOT"] * bool(used & ADDRESS_SLOT) + ["GOT_TLS_OFFSET"] * (OFFSET_SLOT in used) + ["GOT_TLS_MODULE"] * (MODULE_PAIR in used)
+    return flags + [flag for flag, types in machine.slots.items() if used & types]
 
 
-def library_flags(used):
+def library_flags(used, machine):
     """The flags of a symbol of a library. A stub jumps to what its slot has, so it needs one."""
-    if PC32 in used:
+    if used & machine.distance:
         return ["DYNAMIC", "COPY_RELOCATION"]
-    return ["DYNAMIC"] + ["GOT"] * bool(used & ADDRESS_SLOT or PLT32 in used) + ["PLT"] * (PLT32 in used)
+    return ["DYNAMIC"] + ["GOT"] * bool(used & (machine.slots["GOT"] | machine.call)) + ["PLT"] * bool(used & machine.call)
 
 
 def words_of(flags):
     """How many words a symbol has in the table, and whether a word moves with the base and stands in the block."""
     moved = "GOT" in flags and "DYNAMIC" not in flags and "IFUNC" not in flags
-    return 0 if moved else ("GOT" in flags) + ("GOT_TLS_OFFSET" in flags) + 2 * ("GOT_TLS_MODULE" in flags), moved
+    return 0 if moved else sum(WORDS.get(flag, 0) for flag in flags), moved
 
 
 def gnu_hash(name):
@@ -124,7 +164,7 @@ def segment(kind, flags, offset, end, address, align, zeros=0):
     return {"kind": kind, "flags": flags, "offset": offset, "address": address, "physical": address, "file_size": end - offset, "mem_size": end - offset + zeros, "align": align}
 
 
-def plan(source, output, started_with, sizes):
+def plan(source, output, started_with, sizes, machine):
     """The plan, where tables have these sizes, and the sizes that they need: they are asked of a first plan."""
     executable = output["kind"] != "shared"
     used = uses(source)
@@ -140,14 +180,14 @@ def plan(source, output, started_with, sizes):
     own = list(source.symbols())[1:]
     exported = [i for i, (_, info, other, section, *_) in enumerate(own) if not executable and info >> 4 == GLOBAL and section and not other]
     known = {symbol for _, symbols in output["libraries"] for symbol in symbols}
-    flags = [[] if name.decode() in known else own_flags(info, used.get(i, set()), i - 1 in exported) for i, (name, info, *_) in enumerate(own, 1)]
+    flags = [[] if name.decode() in known else own_flags(info, used.get(i, set()), i - 1 in exported, machine) for i, (name, info, *_) in enumerate(own, 1)]
     library_symbols = []
     for name, theirs in output["libraries"]:
         for i, (symbol, *_) in enumerate(own, 1):
             if symbol.decode() in theirs:
-                library_symbols.append((name, i - 1, symbol.decode(), *theirs[symbol.decode()], library_flags(used[i])))
+                library_symbols.append((name, i - 1, symbol.decode(), *theirs[symbol.decode()], library_flags(used[i], machine)))
     all_flags = flags + [each[-1] for each in library_symbols]
-    pair = any(OWN_PAIR in numbers for numbers in used.values())
+    pair = any(numbers & machine.own_pair for numbers in used.values())
     undefined = [i for i, each in enumerate(library_symbols) if "COPY_RELOCATION" not in each[-1]]
     copied = [i for i, each in enumerate(library_symbols) if "COPY_RELOCATION" in each[-1]]
     listed = [(i, own[i][0].decode()) for i in exported] + [(len(own) + i, library_symbols[i][2]) for i in copied]
@@ -284,22 +324,22 @@ def plan(source, output, started_with, sizes):
     # calls by a stub keep the type that goes to one; others go to the function itself
     for i, section in inputs.items():
         for relocation, (_, number, symbol, _) in zip(section["relocations"], source.relocations(i)):
-            if number == PLT32 and "PLT" in symbols[symbols[symbol - 1].get("definition", symbol - 1)]["flags"]:
-                relocation["number"] = PLT32
+            if number in machine.call and "PLT" in symbols[symbols[symbol - 1].get("definition", symbol - 1)]["flags"]:
+                relocation["number"] = number
 
     # ---- what the tables need
     left, packs = 0, []
     for i in order:
         places = []
         for relocation in inputs[i]["relocations"]:
-            if relocation["number"] == ABSOLUTE_ADDRESS:
+            if relocation["number"] == machine.address:
                 if "definition" in symbols[relocation["symbol"]]:
                     left += 1
                 else:
                     places.append(inputs[i]["address"] + relocation["offset"])
         packs += packed(places)
     blocks = packed([block_at + 8 * k for k in range(sum(words_of(each)[1] for each in all_flags))])
-    filled = sum(("DYNAMIC" in f and "GOT" in f) + (not executable) * (("GOT_TLS_OFFSET" in f) + ("GOT_TLS_MODULE" in f)) for f in all_flags)
+    filled = sum(("DYNAMIC" in f and "GOT" in f) + (not executable) * sum(flag.startswith("GOT_TLS") for flag in f) for f in all_flags)
     general = len(copied) + left + filled + (pair and not executable)
     resolvers = sum("IFUNC" in f for f in all_flags)
     segments = [
@@ -334,9 +374,9 @@ def plan(source, output, started_with, sizes):
         at += count
     start = next((s for s in symbols if bytes.fromhex(s["name"]) == b"_start"), None)
     return {
-        "machine": "x86_64",
+        "machine": next(name for name, each in MACHINES.items() if each is machine),
         "kind": output["kind"],
-        "options": {"relr": True, "strip_all": True, **output.get("options", {})},
+        "options": {**machine.options, "relr": True, "strip_all": True, **output.get("options", {})},
         "page_size": PAGE,
         "parts": t.parts,
         "sections": t.sections,
@@ -356,16 +396,20 @@ def plan(source, output, started_with, sizes):
     }, needs
 
 
-def made(name, *given):
-    output = OUTPUTS[name]
-    source = compiled(source_of(f"{name}.c", given), FLAGS.replace("-fPIE", output["compiled"]))
+def made(name, *given, machine=MACHINES["x86_64"]):
+    output = outputs(machine)[name]
+    source = compiled(source_of(f"{name}.c", given), machine.flags.replace("-fPIE", output["compiled"]), machine.compiler)
     sizes = {"segments": 0, "rela_dyn_general": 0, "rela_plt": 0, "words": 0, "dynamic": 0}
     while True:
-        it, needs = plan(source, output, STARTED_WITH.get(name, []), sizes)
+        it, needs = plan(source, output, STARTED_WITH.get(name, []), sizes, machine)
         if it:
             return it
         sizes = needs
 
 
 if __name__ == "__main__":
-    print(spelled(made(*sys.argv[1:])))
+    words = argparse.ArgumentParser()
+    words.add_argument("words", nargs="+")
+    words.add_argument("--machine", choices=MACHINES, default="x86_64")
+    words = words.parse_args()
+    print(spelled(made(*words.words, machine=MACHINES[words.machine])))

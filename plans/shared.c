@@ -1,4 +1,4 @@
-/* A shared object (Linux on x86-64). Other modules see a function, an indirect function, data and a thread-local variable of it. Its
+/* A shared object (Linux). Other modules see a function, an indirect function, data and a thread-local variable of it. Its
    constructor prints a line, once a loader has found by the dynamic section what it has to fill: slots, pairs of a module and an
    offset, words that pack addresses, and the answer of a resolver. */
 long write(int file, const void *text, unsigned long length); /* another module has it */
@@ -18,11 +18,15 @@ int step = 20;
 static const char *plain(void) { return "A library's line, chosen by a resolver.\n"; }
 static const char *loud(void) { return "A LIBRARY'S LINE, CHOSEN BY A RESOLVER.\n"; }
 
-/* the resolver: it chooses by a feature that every x86-64 processor has, SSE2 (Intel SDM, "CPUID", leaf 1) */
-static const char *(*chosen(void))(void) {
+/* the resolver: it chooses by a feature that every x86-64 processor has, SSE2 (Intel SDM, "CPUID", leaf 1), or on AArch64 by floating
+   point, HWCAP_FP, which resolvers are told of */
+static const char *(*chosen(unsigned long features))(void) {
+#ifdef __x86_64__
     unsigned eax = 1, ebx, ecx = 0, edx;
     __asm__("cpuid" : "+a"(eax), "=b"(ebx), "+c"(ecx), "=d"(edx));
-    return edx >> 26 & 1 ? plain : loud;
+    features = edx >> 26;
+#endif
+    return features & 1 ? plain : loud;
 }
 
 /* an indirect function: a call of it goes to its stub, which goes to what the resolver answered */

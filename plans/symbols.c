@@ -1,6 +1,6 @@
-/* A shared object whose names are found by a dynamic linker (Linux on x86-64, the GNU C library): functions and data in two versions of
-   its own, a function that it needs of the C library in a version, and local symbols for debuggers. */
-long write(int file, const void *text, unsigned long length); /* needed as write@GLIBC_2.2.5 */
+/* A shared object whose names are found by a dynamic linker (Linux, the GNU C library): functions and data in two versions of its own, a
+   function that it needs of the C library in a version, and local symbols for debuggers. */
+long write(int file, const void *text, unsigned long length); /* needed as write@GLIBC_2.2.5, on AArch64 as write@GLIBC_2.17 */
 
 /* version FIRST */
 int once(int x) { return x; }

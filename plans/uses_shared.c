@@ -1,6 +1,7 @@
-/* A program that a dynamic linker starts (Linux on x86-64, the GNU C library): it prints a line, and ends with the status that
+/* A program that a dynamic linker starts (Linux, the GNU C library): it prints a line, and ends with the status that
    another module's data and its own thread-local data add up to: 42. The functions are the C library's: one is called by a stub,
-   one through a slot, and one by an address in data. The library's variable is copied into the program. */
+   one through a slot, and one by an address in data. The library's variable is copied into the program, on AArch64 found
+   through a slot. */
 extern int optind;                                                            /* copied: 1 (POSIX, "getopt") */
 long write(int file, const void *text, unsigned long length);                 /* called by a stub */
 __attribute__((noplt)) int fsync(int file);                                   /* called through a slot */
