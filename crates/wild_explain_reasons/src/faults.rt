@@ -38,7 +38,7 @@ fn fault_words(fault: Fault) -> (&'static str, &'static str) {
             ..
         } => (
             "a stub is needed, and the symbol's definition has none",
-            "give the symbol PLT and a stub (`plt`), its `definition`, or write a call of a function that is known as R_X86_64_PC32",
+            "give the symbol PLT and a stub (`plt`), its `definition`, or on x86-64 write a call of a function that is known as R_X86_64_PC32",
         ),
         Fault::MissingResolution {
             what: Missing::DynamicSymbol,
@@ -56,7 +56,7 @@ fn fault_words(fault: Fault) -> (&'static str, &'static str) {
         ),
         Fault::UnknownSequence { .. } => (
             "an instruction is to be rewritten, and its bytes, its addend or the relocation of its call are not what that needs",
-            "keep the sequences of the ABI whole, with both relocations, one behind the other",
+            "keep the sequences of the ABI whole, with all their relocations, one behind the other",
         ),
         Fault::IfuncAddend { .. } => (
             "an entry stores what a resolver answers, and has nothing to add to it",

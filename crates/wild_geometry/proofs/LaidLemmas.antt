@@ -1,8 +1,9 @@
 -- What it says that the clauses on input sections, indexes, fields and thunks hold; and all that a layout is laid out by.
-use Rattle.std.proofs.Common.{◌≡◌, ℕ, true, [], All, Option, Some, None, Ok, refl, subst}
+use Rattle.std.proofs.Common.{◌≡◌, ℕ, true, List, [], All, Option, Some, None, Ok, refl, subst}
 use Rattle.std.proofs.lemmas.Bool.{and_parts}
 use Rattle.wild_types.specs.declared.kind.Machine.{Machine}
 use Rattle.wild_types.specs.declared.kind.Machine.TheVariants as machine
+use Rattle.wild_types.specs.declared.layout.Thunk.{Thunk}
 use Rattle.wild_types.specs.declared.layout.Layout.{Layout}
 use Rattle.wild_types.specs.Lists.{first_failing, unless}
 use Rattle.wild_types.specs.Lookups.{files_of}
@@ -13,17 +14,18 @@ use Rattle.wild_clauses.specs.Indexes.{part_index_fits, primary_is_there, thunks
 use Rattle.wild_types.specs.FileSymbols.{copied_again}
 use Rattle.wild_clauses.specs.VersionTables.{parent_is_there}
 use Rattle.wild_clauses.specs.ClauseTests.{fails, check_inputs, check_indexes, check_fields, check_thunks, check_tls, check_starts}
-use Rattle.wild_clauses.specs.Thunks.{thunks_misplaced, block_lost}
+use Rattle.wild_clauses.specs.Thunks.{ascends, thunks_misplaced, block_lost, machine_takes}
 use Rattle.wild_clauses.specs.WellFormed.{first_clause}
 use Rattle.wild_types.proofs.ListLemmas.{All-from_none_fails}
 use Rattle.wild_clauses.proofs.ClauseLemmas.{None-from_fails}
 use Rattle.wild_layout.specs.Faults.{flat_map_from, part_errors}
+use Rattle.wild_layout.specs.Geometry.{DefinitionsAreFinal}
 use Rattle.wild_layout.specs.SlotOrder.{SlotsFollow, EachAgrees}
 use Rattle.wild_layout.specs.ListedSymbols.{AreListed}
 use Rattle.wild_layout.specs.HashShapes.{HasHashShapes}
 use Rattle.wild_layout.specs.VersionOrder.{HasVersionsInOrder}
 use Rattle.wild_geometry.proofs.ClauseLemmas.{Both-from_first_error, holds_from_unless, NoneFails-from_first_clause, SizesFit, SizesFit-from_check, CountsFit, CountsFit-from_check, OrderHolds-from_check, RolesHold, RolesHold-from_check, PartsLie, PartsLie-from_check, SegmentsHold, SegmentsHold-from_check, SharesHold, SharesHold-from_check}
-use Rattle.wild_geometry.proofs.SlotClauses.{SlotsFollow-from_check, EachAgrees-from_checks}
+use Rattle.wild_geometry.proofs.SlotClauses.{SlotsFollow-from_check, DefinitionsAreFinal-from_check, EachAgrees-from_checks}
 use Rattle.wild_geometry.proofs.ListedClauses.{AreListed-from_checks}
 use Rattle.wild_geometry.proofs.HashClauses.{HasHashShapes-from_check}
 use Rattle.wild_geometry.proofs.VersionClauses.{HasVersionsInOrder-from_check}
@@ -88,8 +90,10 @@ FieldsLie-from_check l h = All-from_none_fails (each_section (fields_lie l.machi
 -- ---- clause 12
 
 pub record ThunksHold (l : Layout) : Type 0 where
+  pub ascending : All (λ (b : List Thunk). ascends b ≡ true) l.thunk_blocks
   pub placed : thunks_misplaced l ≡ None
   pub owned : block_lost l 0 l.thunk_blocks ≡ None
+  pub machine : All (λ (b : List Thunk). machine_takes l.machine b ≡ true) l.thunk_blocks
 
 pub ThunksHold-from_check : (l : Layout) → check_thunks l ≡ Ok tt → ThunksHold l
 unfolding check_thunks
@@ -97,7 +101,7 @@ ThunksHold-from_check l h =
     let a = Both-from_first_error _ _ h in
     let b = Both-from_first_error _ _ a.rest in
     let c = Both-from_first_error _ _ b.rest in
-    record { placed = None-from_fails 12 _ b.first; owned = None-from_fails 12 _ c.first }
+    record { ascending = All-from_none_fails ascends 0 l.thunk_blocks (None-from_fails 12 _ a.first); placed = None-from_fails 12 _ b.first; owned = None-from_fails 12 _ c.first; machine = All-from_none_fails (machine_takes l.machine) 0 l.thunk_blocks (None-from_fails 12 _ c.rest) }
 
 -- ---- clause 15
 
@@ -134,6 +138,7 @@ pub record Laid (l : Layout) : Type 0 where
   pub slots : SlotsFollow l
   pub thunks : ThunksHold l
   pub dynsyms : AreListed l
+  pub final : DefinitionsAreFinal l
   pub slot_flags : EachAgrees l
   pub tlsld : l.machine ≡ machine.AArch64 → l.tlsld ≡ None
   pub starts : start_astray (start_places l.parts) no_starts 0 l.groups ≡ None
@@ -158,6 +163,7 @@ Laid-from_clauses l h n =
       slots = SlotsFollow-from_check l c.slots;
       thunks = ThunksHold-from_check l c.thunks;
       dynsyms = AreListed-from_checks l c.dynsyms c.names;
+      final = DefinitionsAreFinal-from_check l c.indexes;
       slot_flags = EachAgrees-from_checks l c.indexes c.slot_flags;
       tlsld = IsSingle-from_check l c.tls;
       starts = StartsFollow-from_check l c.starts;

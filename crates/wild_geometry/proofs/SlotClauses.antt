@@ -16,9 +16,8 @@ use Rattle.wild_types.specs.FileSymbols.{copied_again}
 use Rattle.wild_clauses.specs.VersionTables.{parent_is_there}
 use Rattle.wild_types.proofs.ListLemmas.{All-from_none_fails}
 use Rattle.wild_clauses.proofs.ClauseLemmas.{None-from_fails}
+use Rattle.wild_layout.specs.Geometry.{DefinitionsAreFinal}
 use Rattle.wild_layout.specs.SlotOrder.{SlotsFollow, FlagsAgree, EachAgrees, SlotsAreInOrder}
-use Rattle.wild_meaning.specs.Value.{IsDefinedBy}
-use Rattle.wild_meaning.proofs.SymbolLemmas.{own_definition}
 use Rattle.wild_geometry.proofs.ClauseLemmas.{Both-from_first_error, holds_from_unless, NoneFails-from_first_clause, SharesHold-from_check}
 
 -- ---- clause 11
@@ -100,28 +99,31 @@ definitions_are_own l h =
     let m = Both-from_first_error (fails 9 (first_failing (definition_is_own l) 0 l.symbols)) _ g.rest in
     All-from_none_fails (definition_is_own l) 0 l.symbols (None-from_fails 9 _ m.first)
 
-final : (l : Layout) (c : ℕ) (s : Symbol) → slice_get l.symbols c ≡ Some s → defines_itself c (Some s) ≡ true → canonical l c ≡ c
-final l c s e h = ap (λ (o : Option Symbol). unwrap_or (option_and_then (λ (y : Symbol). y.definition) o) c) e ∙ by_definition s.definition refl h
+final : (l : Layout) (c : ℕ) (o : Option Symbol) → slice_get l.symbols c ≡ o → defines_itself c o ≡ true → canonical l c ≡ c
+final l c None e h = ap (λ (o : Option Symbol). unwrap_or (option_and_then (λ (y : Symbol). y.definition) o) c) e
+final l c (Some s) e h = ap (λ (o : Option Symbol). unwrap_or (option_and_then (λ (y : Symbol). y.definition) o) c) e ∙ by_definition s.definition refl h
   where
     by_definition : (o : Option ℕ) → s.definition ≡ o → defines_itself c (Some s) ≡ true → unwrap_or s.definition c ≡ c
     by_definition None is t = rw is refl
     by_definition (Some j) is t = rw is (eqb-true j c (rw is at t))
 
-own_is_final : (l : Layout) → check_indexes l ≡ Ok tt → (i : ℕ) (s : Symbol) → slice_get l.symbols (canonical l i) ≡ Some s → canonical l (canonical l i) ≡ canonical l i
-own_is_final l h i s e = by_how (own_definition l i s e)
+pub DefinitionsAreFinal-from_check : (l : Layout) → check_indexes l ≡ Ok tt → DefinitionsAreFinal l
+DefinitionsAreFinal-from_check l h = λ i. by_symbol i (slice_get l.symbols i) refl
   where
-    by_how : IsDefinedBy l i (canonical l i) → canonical l (canonical l i) ≡ canonical l i
-    by_how d = elim d.defined [
-      | inl named ↦
-          (let own = holds_at (λ (x : Symbol). definition_is_own l x ≡ true) l.symbols i d.symbol d.listed (definitions_are_own l h) in
-          let itself : defines_itself (canonical l i) (slice_get l.symbols (canonical l i)) ≡ true = rw named at own in
-          final l (canonical l i) s e (subst (λ (o : Option Symbol). defines_itself (canonical l i) o ≡ true) e itself))
-      | inr alone ↦ ap (canonical l) alone.1
-    ]
+    by_definition : (i : ℕ) (s : Symbol) (o : Option ℕ) → slice_get l.symbols i ≡ Some s → s.definition ≡ o → canonical l (canonical l i) ≡ canonical l i
+    by_definition i s None e is = (let itself : canonical l i ≡ i = rw (e, is) refl in ap (canonical l) itself)
+    by_definition i s (Some c) e is =
+        let named : canonical l i ≡ c = rw (e, is) refl in
+        let own = holds_at (λ (x : Symbol). definition_is_own l x ≡ true) l.symbols i s e (definitions_are_own l h) in
+        ap (canonical l) named ∙ (final l c (slice_get l.symbols c) refl (rw is at own) ∙ sym named)
+
+    by_symbol : (i : ℕ) (o : Option Symbol) → slice_get l.symbols i ≡ o → canonical l (canonical l i) ≡ canonical l i
+    by_symbol i None e = (let itself : canonical l i ≡ i = rw e refl in ap (canonical l) itself)
+    by_symbol i (Some s) e = by_definition i s s.definition e refl
 
 pub EachAgrees-from_checks : (l : Layout) → check_indexes l ≡ Ok tt → check_slot_flags l ≡ Ok tt → EachAgrees l
 EachAgrees-from_checks l indexes flags = record {
-  defined = λ i s e. agrees l flags (canonical l i) s e (let same : (canonical l (canonical l i) == canonical l i) ≡ true = eq-eqb _ _ (own_is_final l indexes i s e) in rw same refl);
+  defined = λ i s e. agrees l flags (canonical l i) s e (let same : (canonical l (canonical l i) == canonical l i) ≡ true = eq-eqb _ _ (DefinitionsAreFinal-from_check l indexes i) in rw same refl);
   resolved = λ i s e some. agrees l flags i s e (or_right (canonical l i == i) (is_some s.resolution) some);
 }
   where

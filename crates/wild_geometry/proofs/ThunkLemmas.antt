@@ -9,6 +9,8 @@ use Rattle.wild_words.specs.Overlay.{Piece, Apart}
 use Rattle.wild_words.specs.declared.extents.Extent.{Extent}
 use Rattle.wild_words.proofs.Basics.{implied}
 use Rattle.wild_words.proofs.ListLemmas.{AllPairs-nil, All-flat_map, AllPairs-flat_map, All-optional, All-from_flat_map, holds_at, Found-from_list_any, flat_map-flat_map, flat_map-same}
+use Rattle.wild_types.specs.declared.kind.Machine.{Machine}
+use Rattle.wild_types.specs.declared.kind.Machine.TheVariants as machine
 use Rattle.wild_types.specs.declared.part.Part.{Part}
 use Rattle.wild_types.specs.declared.input.InputSection.{InputSection}
 use Rattle.wild_types.specs.declared.file.File.{File}
@@ -20,7 +22,7 @@ use Rattle.wild_types.specs.Lookups.{is_filled, image_size, is_allocated_section
 use Rattle.wild_clauses.specs.Contents.{is_raw, holds_thunks}
 use Rattle.wild_clauses.specs.Indexes.{part_index_fits}
 use Rattle.wild_clauses.specs.Places.{part_lies}
-use Rattle.wild_clauses.specs.Thunks.{is_used, has_thunks, misplaced_in, owns, is_owned, block_lost}
+use Rattle.wild_clauses.specs.Thunks.{is_used, has_thunks, misplaced_in, owns, is_owned, block_lost, machine_takes}
 use Rattle.wild_layout.specs.Sites.{extent_of}
 use Rattle.wild_layout.specs.Thunks.{thunk_bytes}
 use Rattle.wild_layout.specs.Image.{thunk_offset, thunk_piece, thunk_pieces, owned_pieces}
@@ -227,11 +229,16 @@ is_block l k b f is own =
     let at = eqb-true f.thunk_block k both.1 in
     rw both.0 (ap (λ (n : ℕ). unwrap_or (slice_get l.thunk_blocks n) []) at ∙ ap (λ (o : Option (List Thunk)). unwrap_or o []) is)
 
-owned_by : (l : Layout) (k : ℕ) (b : List Thunk) → slice_get l.thunk_blocks k ≡ Some b → is_owned l k ≡ true → IsOwned l b
-owned_by l k b is own =
+-- where the machine takes a block with thunks
+has_code : (m : Machine) (b : List Thunk) (t : Thunk) → machine_takes m b ≡ true → Contains b t → m ≡ machine.AArch64
+has_code machine.AArch64 b t h c = refl
+has_code machine.X86_64 b t h c = (let none = eqb-true (length b) 0 h in absurd (omega (arith, c.1, none)))
+
+owned_by : (l : Layout) (k : ℕ) (b : List Thunk) → l.machine ≡ machine.AArch64 → slice_get l.thunk_blocks k ≡ Some b → is_owned l k ≡ true → IsOwned l b
+owned_by l k b on is own =
     let g = Found-from_list_any (λ (g : Group). list_any (owns k) g.files) l.groups own in
     let f = Found-from_list_any (owns k) g.item.files g.passes in
-    record { group = g.item; file = f.item; listed = g.listed; holds = f.listed; own = is_block l k b f.item is f.passes }
+    record { group = g.item; file = f.item; listed = g.listed; holds = f.listed; own = is_block l k b f.item is f.passes; on = on }
 
 some_used : (b : List Thunk) (t : Thunk) → Contains b t → is_used b ≡ true
 some_used [] t c = absurd (omega (arith, c.1))
@@ -261,4 +268,5 @@ pub blocks_owned : (l : Layout) → Laid l → (b : List Thunk) (t : Thunk) → 
 blocks_owned l h b t c d =
     let is : slice_get l.thunk_blocks c.0 ≡ Some b = slice_get-get_or l.thunk_blocks c.0 b c.1 ∙ ap Some c.2 in
     let here : 0 + c.0 ≡ c.0 = omega arith in
-    owned_by l c.0 b is (rw here at (found l 0 l.thunk_blocks h.thunks.owned c.0 b is (some_used b t d)))
+    let on = has_code l.machine b t (holds_at (λ (x : List Thunk). machine_takes l.machine x ≡ true) l.thunk_blocks c.0 b is h.thunks.machine) d in
+    owned_by l c.0 b on is (rw here at (found l 0 l.thunk_blocks h.thunks.owned c.0 b is (some_used b t d)))

@@ -40,6 +40,7 @@ FieldsFit-IsLaidOut l h = record {
   definitions = definitions_fit l h;
   sysv = sysv_stands l h;
   gnu = gnu_stands l h;
+  thunks = h.ascending;
 }
 
 -- the padding and the groups make the image

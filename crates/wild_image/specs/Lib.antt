@@ -1,4 +1,5 @@
 pub mod Append
+pub mod Padding
 pub mod Batches
 pub mod Counts
 pub mod Jobs

@@ -6,6 +6,7 @@ mod batch;
 mod buffer;
 mod cut;
 mod job;
+mod marks;
 mod output;
 mod padding;
 mod pairs;

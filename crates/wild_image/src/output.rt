@@ -1,10 +1,9 @@
 //! The image of a layout.
 ghost use Rattle.std.specs.Prelude.{◌≡◌, ◌<◌, ◌≤◌, ◌^◌, ℕ, [], length, Ok, Some, slice_get, replicate, OnOk, IfOk};
 ghost use Rattle.wild_types.specs.Faults.{Answers};
-ghost use Rattle.wild_types.specs.Lookups.{image_size};
 ghost use Rattle.wild_clauses.specs.Places.{relocation_count};
 ghost use Rattle.wild_clauses.specs.WellFormed.{first_clause};
-ghost use Rattle.wild_layout.specs.Image.{bytes, counts};
+ghost use Rattle.wild_layout.specs.Image.{padding, bytes, counts};
 ghost use Rattle.wild_layout.specs.Warnings.{warnings};
 ghost use Rattle.wild_layout.specs.Faults.{clause_errors, flat_map_from, part_errors, group_errors, errors};
 ghost use Rattle.wild_layout.specs.Geometry.{IsLaidOut};
@@ -14,7 +13,7 @@ ghost use Rattle.wild_image.specs.declared.job.Outcome.{Outcome};
 use crate::append::append_all;
 use crate::batch::{Batch, batch_size, batches_of};
 use crate::job::{GroupJob, Outcome};
-use crate::padding::fill_sections;
+use crate::padding::padded_image;
 use crate::shares::check_shares;
 use std::alloc::{AllocError, Global};
 use std::thread::Threads;
@@ -76,11 +75,10 @@ fn write_bytes<A: Arch>(
     requires batches { AreBatches layout.now.groups batches.now }
     requires count { length outcomes.now ≡ length batches.now }
     requires each { (i : ℕ) (o : Outcome) → slice_get outcomes.now i ≡ Some o → GivesBatch layout.now batches.now i o.bytes }
-    requires zeros { out.old ≡ replicate (image_size layout.now) 0 }
+    requires padding { out.old ≡ padding layout.now }
     ensures faults { Answers result (flat_map_from (group_errors layout.now) 0 layout.now.groups) }
     ensures image { OnOk result (out.new ≡ bytes layout.now) }
 {
-    fill_sections(layout, out);
     append_all(layout, batches, outcomes, starts, out)
 }
 
@@ -117,7 +115,7 @@ where
     let sections = layout.sections.len() as u32;
     let gathered = gather(rt, alloc, &job, sections, u32::from(workers), gate)?;
     let mut starts = vec![in alloc; 0u64; layout.parts.len()]?;
-    let mut out = vec![in alloc; 0u8; layout.image_end() as usize]?;
+    let mut out = padded_image(alloc, layout)?;
     let pieces = gathered.pieces.as_slice();
     write_bytes::<A>(layout, batches, pieces, &mut starts, &mut out)?;
     let warnings = warnings_of(alloc, layout)?;

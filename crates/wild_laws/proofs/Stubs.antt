@@ -1,21 +1,47 @@
--- The stubs of a loaded image go on to their slots.
-use Rattle.std.proofs.Common.{◌≡◌, sym, ◌∙◌, subst}
+-- The stubs and thunks of a loaded image go on to their slots and targets.
+use Rattle.std.proofs.Common.{◌≡◌, [], sym, ◌∙◌, subst}
 use Rattle.std.specs.Prelude.{Ok}
-use Rattle.wild_layout.specs.Geometry.{LayoutsAreLaidOut}
+use Rattle.wild_types.specs.declared.layout.Layout.{Layout}
+use Rattle.wild_types.specs.ResolvedFlags.{HaveTheirFlags}
+use Rattle.wild_layout.specs.Faults.{errors}
+use Rattle.wild_layout.specs.Geometry.{IsLaidOut, LayoutsAreLaidOut}
+use Rattle.wild_layout.specs.Image.{bytes}
+use Rattle.wild_layout.specs.Numbers.{NumbersFit}
 use Rattle.wild_layout.proofs.FaultLemmas.{no_group_errors, laid_out}
+use Rattle.wild_loader.specs.Load.{load}
 use Rattle.wild_loader.specs.declared.memory.Memory.{Memory}
+use Rattle.wild_loader.specs.declared.world.World.{World}
+use Rattle.wild_meaning.specs.World.{IsLoadable, IsLegal}
 use Rattle.wild_loaded.specs.Laws.{SlotsAreThere}
+use Rattle.wild_loaded.specs.Memory.{HasMemory}
 use Rattle.wild_loaded.specs.MovedLaws.{ImagesAreLoaded}
 use Rattle.wild_references.specs.Laws.{OutputsMoveByPages}
 use Rattle.wild_references.specs.Stubs.{EachStubGoesOn, StubsGoOn}
-use Rattle.wild_laws.specs.Laws.{StubsOfImagesGoOn}
+use Rattle.wild_references.specs.Thunks.{EachThunkGoesOn, ThunksGoOn}
+use Rattle.wild_laws.specs.Laws.{StubsOfImagesGoOn, ThunksOfImagesGoOn}
 use Rattle.wild_laws.proofs.Decided.{sections_decided}
 
-pub images_stubs : LayoutsAreLaidOut → SlotsAreThere → ImagesAreLoaded → OutputsMoveByPages → StubsGoOn → StubsOfImagesGoOn
-images_stubs layouts there loaded pages go = λ l w m numbers flags none loads legal accepted.
+-- what the loader makes of the image
+record IsImage (l : Layout) (w : World) (m : Memory) : Type 0 where
+  laid : IsLaidOut l
+  loaded : HasMemory l w
+  same : loaded.memory ≡ m
+
+image : LayoutsAreLaidOut → SlotsAreThere → ImagesAreLoaded → (l : Layout) (w : World) (m : Memory) → NumbersFit l → HaveTheirFlags l → errors l ≡ [] → IsLoadable l.kind → IsLegal l w → load w (bytes l) ≡ Ok m → IsImage l w m
+image layouts there loaded l w m numbers flags none loads legal accepted =
     let laid = laid_out layouts l none in
     let groups = no_group_errors l none in
     let h = loaded l w loads numbers legal laid (sections_decided l laid groups) (there l flags laid groups) groups in
     let both : Ok h.memory ≡ Ok m = sym h.accepted ∙ accepted in
     let same : h.memory ≡ m = cc in
-    subst (λ (n : Memory). EachStubGoesOn l w n) same (go l w h.memory (pages l w numbers legal laid) h.machine flags laid.slot_flags h.slots)
+    record { laid = laid; loaded = h; same = same }
+
+pub images_stubs : LayoutsAreLaidOut → SlotsAreThere → ImagesAreLoaded → OutputsMoveByPages → StubsGoOn → StubsOfImagesGoOn
+images_stubs layouts there loaded pages go = λ l w m numbers flags none loads legal accepted.
+    let i = image layouts there loaded l w m numbers flags none loads legal accepted in
+    subst (λ (n : Memory). EachStubGoesOn l w n) i.same (go l w i.loaded.memory (pages l w numbers legal i.laid) i.loaded.machine flags i.laid.slot_flags i.loaded.slots)
+
+pub images_thunks : LayoutsAreLaidOut → SlotsAreThere → ImagesAreLoaded → OutputsMoveByPages → ThunksGoOn → ThunksOfImagesGoOn
+images_thunks layouts there loaded pages go = λ l w m numbers flags none loads legal accepted.
+    let i = image layouts there loaded l w m numbers flags none loads legal accepted in
+    subst (λ (n : Memory). EachThunkGoesOn l w n) i.same (go l w i.loaded.memory (pages l w numbers legal i.laid) i.loaded.machine i.laid i.loaded.thunks)

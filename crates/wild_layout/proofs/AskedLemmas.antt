@@ -22,11 +22,11 @@ use Rattle.wild_relax.specs.declared.row.Partner.{Partner}
 use Rattle.wild_relax.specs.Rows.{rows_x86_64, applies, unknown_sequence, standing_x86_64, chosen_x86_64}
 use Rattle.wild_relax.specs.declared.reference.RelocationInfo.{RelocationInfo}
 use Rattle.wild_relax.specs.Question.{Question, relocation_of}
-use Rattle.wild_relax.specs.RowsAArch64.{rows_aarch64, branch_aarch64}
+use Rattle.wild_relax.specs.RowsAArch64.{rows_aarch64, chosen_aarch64}
 use Rattle.wild_relax.specs.Relaxation.{chosen_of}
-use Rattle.wild_relax.proofs.RoomLemmas.{applied, standing_first, branch_is}
+use Rattle.wild_relax.proofs.RoomLemmas.{applied, standing_first}
 use Rattle.wild_layout.specs.Choice.{nameless, asked_of, infos_of, question_of, choice_by, question_around, choice_around_by, choice_on, choice_at, choice, takes_next, is_partner, may_take_next, may_be_partner}
-use Rattle.wild_layout.proofs.ChoiceLemmas.{choice_row, choice_is, relocation_around, chosen_listed, partner_is_taken}
+use Rattle.wild_layout.proofs.ChoiceLemmas.{choice_row, choice_is, relocation_around, none_chosen, chosen_listed, partner_is_taken}
 
 -- ---- rows that write a whole sequence
 
@@ -67,15 +67,8 @@ each_is_other : list_all is_other rows_aarch64 ≡ true
 unfolding rows_aarch64
 each_is_other = refl
 
-none_of_that : (q : Question) → (relocation_of q).number ≡ r_x86_64_pc32 → branch_aarch64 q ≡ None
-none_of_that q h = by_row (branch_aarch64 q) refl
-  where
-    by_row : (o : Option Row) → branch_aarch64 q ≡ o → o ≡ None
-    by_row None is = refl
-    by_row (Some row) is =
-        let k = branch_is q row is in
-        let e : row.number ≡ r_x86_64_pc32 = sym (applied q row k.here).number ∙ h in
-        absurd (both_ways (row.number == r_x86_64_pc32) (not-true _ (listed_passes is_other rows_aarch64 row each_is_other k.listed)) (eq-eqb row.number r_x86_64_pc32 e))
+none_of_that : (q : Question) → (relocation_of q).number ≡ r_x86_64_pc32 → chosen_aarch64 q ≡ Ok None
+none_of_that q h = none_chosen q (λ row listed number. both_ways (row.number == r_x86_64_pc32) (not-true _ (listed_passes is_other rows_aarch64 row each_is_other listed)) (eq-eqb row.number r_x86_64_pc32 (sym number ∙ h)))
 
 no_choice_by : (l : Layout) (s : Item) (r : InputRelocation) (next : Option InputRelocation) (o : Option ℕ) → r.number ≡ r_x86_64_pc32 → choice_by l s r next o ≡ Ok None
 unfolding choice_by
@@ -86,8 +79,7 @@ no_choice_around : (l : Layout) (s : Item) (i : ℕ) (r : InputRelocation) (o : 
 unfolding choice_around_by
 no_choice_around l s i r None listed number = refl
 no_choice_around l s i r (Some n) listed number =
-    let q = question_around l s i r n in
-    ap (λ (o : Option Row). Ok o) (none_of_that q (ap (λ (x : RelocationInfo). x.number) (relocation_around l s i r n listed) ∙ number))
+    none_of_that (question_around l s i r n) (ap (λ (x : RelocationInfo). x.number) (relocation_around l s i r n listed) ∙ number)
 
 pub no_choice : (l : Layout) (s : Item) (i : ℕ) (r : InputRelocation) → slice_get s.relocations i ≡ Some r → r.number ≡ r_x86_64_pc32 → choice_on l.machine l s i r ≡ Ok None
 no_choice l s i r listed number = by_machine l.machine

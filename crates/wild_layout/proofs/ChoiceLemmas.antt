@@ -1,7 +1,7 @@
 -- What the row of a rewrite says of the relocation that it stands at, and which relocations have none.
 --   IsChosen l s r next row   the row of x86-64 stands at relocation r, with its whole pattern in the section
 --   choice_row                a row that is chosen is that
---   IsChosenAArch64 l s i r row   the row of AArch64 stands at relocation i
+--   IsChosenAArch64 l s i r row   the row of AArch64 stands at relocation i, with its whole word in the section
 --   choice_row_aarch64        a row that is chosen is that
 --   choice_is                 what is chosen of a relocation, on x86-64
 --   IsSequence l s j row      relocation j's row writes a whole sequence, with the relocation behind it
@@ -40,11 +40,12 @@ use Rattle.wild_relax.specs.Rows.{rows_x86_64, applies, unknown_sequence, standi
 use Rattle.wild_relax.specs.RowSequences as rows
 use Rattle.wild_relax.specs.RewriteX86_64.{rewrite_of}
 use Rattle.wild_relax.specs.Linked.{pattern_of, pattern_size, keeps_bytes, fits_in, template_of}
-use Rattle.wild_relax.specs.RowsAArch64.{rows_aarch64, is_branch, branch_aarch64}
+use Rattle.wild_relax.specs.RowsAArch64.{rows_aarch64, has_its_words, standing_aarch64, chosen_aarch64}
 use Rattle.wild_relax.specs.SequenceAArch64.{words_before}
 use Rattle.wild_relax.proofs.TemplateLemmas as template-lemmas
 use Rattle.wild_relax.proofs.SectionLemmas.{chosen_at, changing_fits}
-use Rattle.wild_relax.proofs.RoomLemmas.{applied, partner_asked, standing_first, chosen_is, branch_is}
+use Rattle.wild_relax.proofs.RoomLemmas.{applied, partner_asked, standing_first, standing_first_aarch64, chosen_is}
+use Rattle.wild_relax.proofs.TogetherLemmas.{chosen_stand}
 use Rattle.wild_layout.specs.Choice.{info_of, nameless, question_of, choice_by, choice_of, info_at, infos_from, first_of, question_around, choice_around_by, choice_around, choice_on, choice_at, choice, takes_next, is_partner}
 
 -- ---- the row that is chosen
@@ -92,15 +93,17 @@ choice_is l s i r x86 listed = rw (listed, x86) refl
 
 -- ---- the row of AArch64
 
--- which is one of branches
 pub record IsChosenAArch64 (l : Layout) (s : Item) (i : ℕ) (r : InputRelocation) (row : Row) : Type 0 where
   pub machine : l.machine ≡ machine.AArch64
   pub symbol : ℕ
   pub named : r.symbol ≡ Some symbol
+  pub chosen : chosen_aarch64 (question_around l s i r symbol) ≡ Ok (Some row)
   pub listed : Contains rows_aarch64 row
-  pub branch : is_branch row ≡ true
   pub here : applies (question_around l s i r symbol) row ≡ true
   pub number : r.number ≡ row.number
+  pub begins : field_of (pattern_of row) ≡ 0
+  pub inside : r.offset + pattern_size row ≤ length s.bytes
+  pub fits : keeps_bytes row ≡ false → (pattern_size row ≡ 4) × (fits_in row ≡ true)
 
 few_before : (n : ℕ) → words_before n ≤ 3
 few_before n = by (n == abi.r_aarch64_tlsdesc_ld64_lo12 || n == abi.r_aarch64_tlsie_ld64_gottprel_lo12_nc || n == abi.r_aarch64_add_abs_lo12_nc) (n == abi.r_aarch64_tlsdesc_add_lo12) (n == abi.r_aarch64_tlsdesc_call)
@@ -139,17 +142,21 @@ choice_row_aarch64 l s i r row on at h = by_symbol r.symbol refl h
     by_symbol None named e = cc
     by_symbol (Some symbol) named e =
         let q = question_around l s i r symbol in
-        let first : branch_aarch64 q ≡ Some row = cc in
-        let k = branch_is q row first in
-        let number : (relocation_of q).number ≡ row.number = (applied q row k.here).number in
+        let t = chosen_stand q row e in
+        let same = relocation_around l s i r symbol at in
+        let inside = t.inside in
+        let offset : (relocation_of q).offset ≡ r.offset = ap (λ (x : RelocationInfo). x.offset) same in
         record {
           machine = on;
           symbol = symbol;
           named = named;
-          listed = k.listed;
-          branch = k.branch;
-          here = k.here;
-          number = sym (ap (λ (x : RelocationInfo). x.number) (relocation_around l s i r symbol at)) ∙ number;
+          chosen = e;
+          listed = t.listed;
+          here = (and_parts _ _ t.here).0;
+          number = sym (ap (λ (x : RelocationInfo). x.number) same) ∙ t.number;
+          begins = t.begins;
+          inside = omega (arith, inside, offset);
+          fits = t.fits;
         }
 
 -- what each row of the table has
@@ -205,6 +212,10 @@ chosen_lies l s r next row c k = record {
   fits = changing_fits row (record { listed = is_listed l s r next row c; changes = k });
 }
 
+-- on AArch64 a word
+pub chosen_lies_aarch64 : (l : Layout) (s : Item) (i : ℕ) (r : InputRelocation) (row : Row) → IsChosenAArch64 l s i r row → keeps_bytes row ≡ false → LiesInItsPattern row
+chosen_lies_aarch64 l s i r row c k = (let long = (c.fits k).0 in record { some = omega (arith, long); fits = (c.fits k).1 })
+
 -- what is written in place of a pattern has its length
 pub length-template : (row : Row) (v : ℕ) (old : List ℕ) → LiesInItsPattern row → length old ≡ pattern_size row → length (template_of row v old) ≡ pattern_size row
 length-template row v old lies long = template-lemmas.length-template row v old lies.fits long
@@ -245,6 +256,14 @@ partner_is_taken l s (suc j) h = let t = by_relocation l s j (slice_get s.reloca
     by_relocation : (l : Layout) (s : Item) (j : ℕ) (o : Option InputRelocation) → slice_get s.relocations j ≡ o → takes_next (choice_at l s j o) ≡ true → (row : Row) × IsSequence l s j row
     by_relocation l s j None e h = cc
     by_relocation l s j (Some r) e h = by_machine l s j r l.machine refl e h
+
+-- so none is taken along there
+pub no_partner_aarch64 : (l : Layout) (s : Item) (i : ℕ) → l.machine ≡ machine.AArch64 → is_partner l s i ≡ false
+no_partner_aarch64 l s i on =
+    elim (cases_Bool (is_partner l s i)) [
+      | inr f ↦ f
+      | inl t ↦ (let both : machine.AArch64 ≡ machine.X86_64 = sym on ∙ (partner_is_taken l s i t).3.machine in cc)
+    ]
 
 -- such a row asks for its call
 abbrev asks_for_its_call : Row → Bool
@@ -330,22 +349,21 @@ none_stands q h = by_standing q (standing_x86_64 q) refl h
         absurd (not_both _ stays (subst (λ (n : ℕ). loads_at (x86_64_row n) ≡ true) (applied q row first.here).number h))
 
 -- nor on AArch64
-abbrev stays_or_changes : Row → Bool
-stays_or_changes row = not (is_branch row) || not (loads_at (aarch64_row row.number))
-
-each_word_stays : list_all stays_or_changes rows_aarch64 ≡ true
+each_word_stays : list_all (λ (row : Row). not (loads_at (aarch64_row row.number))) rows_aarch64 ≡ true
 unfolding static_row thread_row rows_aarch64
 each_word_stays = refl
 
-none_around : (q : Question) → loads_at (aarch64_row (relocation_of q).number) ≡ true → branch_aarch64 q ≡ None
-none_around q h = by_row (branch_aarch64 q) refl
+-- where none of the table's rows has the relocation's type, none is chosen
+pub none_chosen : (q : Question) → ((row : Row) → Contains rows_aarch64 row → (relocation_of q).number ≡ row.number → ⊥) → chosen_aarch64 q ≡ Ok None
+unfolding chosen_aarch64
+none_chosen q none = by_standing (standing_aarch64 q) refl
   where
-    by_row : (o : Option Row) → branch_aarch64 q ≡ o → o ≡ None
-    by_row None is = refl
-    by_row (Some row) is =
-        let k = branch_is q row is in
-        let stays = implied _ _ (listed_passes stays_or_changes rows_aarch64 row each_word_stays k.listed) k.branch in
-        absurd (not_both _ stays (subst (λ (n : ℕ). loads_at (aarch64_row n) ≡ true) (applied q row k.here).number h))
+    by_standing : (o : Option Row) → standing_aarch64 q ≡ o → checked (has_its_words q) (unknown_sequence q) o ≡ Ok None
+    by_standing None is = refl
+    by_standing (Some row) is = (let first = standing_first_aarch64 q row is in absurd (none row first.listed (applied q row (and_parts _ _ first.here).0).number))
+
+none_around : (q : Question) → loads_at (aarch64_row (relocation_of q).number) ≡ true → chosen_aarch64 q ≡ Ok None
+none_around q h = none_chosen q (λ row listed number. not_both _ (listed_passes (λ (x : Row). not (loads_at (aarch64_row x.number))) rows_aarch64 row each_word_stays listed) (subst (λ (n : ℕ). loads_at (aarch64_row n) ≡ true) number h))
 
 pub no_row : (l : Layout) (s : Item) (i : ℕ) (r : InputRelocation) (row : RelocationKindInfo) → slice_get s.relocations i ≡ Some r → row_of l.machine r.number ≡ Some row → loads row.kind ≡ true → choice_on l.machine l s i r ≡ Ok None
 unfolding choice_by choice_around_by
@@ -362,8 +380,7 @@ no_row l s i r row listed known h = by_machine l.machine known
     by_aarch64 : (o : Option ℕ) → loads_at (aarch64_row r.number) ≡ true → choice_around_by l s i r o ≡ Ok None
     by_aarch64 None loads = refl
     by_aarch64 (Some n) loads =
-        let q = question_around l s i r n in
-        ap (λ (x : Option Row). Ok x) (none_around q (subst (λ (x : RelocationInfo). loads_at (aarch64_row x.number) ≡ true) (sym (relocation_around l s i r n listed)) loads))
+        none_around (question_around l s i r n) (subst (λ (x : RelocationInfo). loads_at (aarch64_row x.number) ≡ true) (sym (relocation_around l s i r n listed)) loads)
 
     by_machine : (m : Machine) → row_of m r.number ≡ Some row → choice_on m l s i r ≡ Ok None
     by_machine machine.X86_64 is = by_x86_64 (slice_get s.relocations (i + 1)) r.symbol (loads_here machine.X86_64 r.number row refl is h)

@@ -1,7 +1,6 @@
 -- What a decision says of its relocation.
 use Rattle.std.proofs.Common.{◌≡◌, ℕ, ◌+◌, ◌<◌, ◌≤◌, inl, inr, Bool, true, Some, refl, sym, ap, ◌∙◌, arith, subst, ℤ, ◌^◌}
 use Rattle.std.specs.Prelude.{◌||◌, ⊤, Option, None, Result, Ok, Err, nat_lt, if◌then◌else◌, ◌==◌}
-use Rattle.std.specs.List.{list_all}
 use Rattle.std.proofs.lemmas.Bool.{cases_Bool, ltb-true}
 use Rattle.wild_types.specs.declared.kind.Machine.{Machine}
 use Rattle.wild_types.specs.declared.kind.Machine.TheVariants as machine
@@ -27,7 +26,6 @@ use Rattle.wild_reloc.specs.declared.info.RelocationSize.{RelocationSize}
 use Rattle.wild_reloc.specs.declared.info.RelocationSize.TheVariants.{ByteSize, BitMasking}
 use Rattle.wild_reloc.specs.declared.info.Width.TheVariants.{Zero, One, Two, Four, Eight}
 use Rattle.wild_reloc.specs.declared.dynamic.DynamicRelocationKind.TheVariants.{Absolute, Irelative}
-use Rattle.wild_reloc.specs.declared.info.RelocationKind.TheVariants as kinds
 use Rattle.wild_reloc.specs.declared.expression.Taken.{Taken}
 use Rattle.wild_reloc.specs.declared.expression.Taken.TheVariants as taken
 use Rattle.wild_reloc.specs.Expression.{expression_of}
@@ -37,10 +35,11 @@ use Rattle.wild_layout.specs.SymbolValues.{sum, symbol_size}
 use Rattle.wild_layout.specs.SlotValues.{address_of, index_of, decided_address}
 use Rattle.wild_layout.specs.Values.{value_less, value_by, value_in, term_at}
 use Rattle.wild_layout.specs.SectionPlaces.{FieldLies}
-use Rattle.wild_layout.specs.Decide.{field, field_for, moved_to, added, left_to, sized_to, chosen_to, decide_by, decided}
+use Rattle.wild_layout.specs.Decide.{field_for, moved_to, added, left_to, sized_to, chosen_to, decide_by, decided}
 use Rattle.wild_layout.specs.Left.{left_by, left_entry, entry_for}
+use Rattle.wild_layout.proofs.ReachedLemmas.{ComesTo, reached_by}
 pub use Rattle.wild_slot.proofs.TreatmentLemmas.{has_value, HasValue, IsSilent}
-use Rattle.wild_slot.proofs.TreatmentLemmas.{IsMovedBy, IsLeftBy, IsLeftToResolver, IsSizedBy, known_value, known_nothing, known_moved}
+use Rattle.wild_slot.proofs.TreatmentLemmas.{IsMovedBy, IsLeftBy, known_value, known_nothing, known_moved}
 pub use Rattle.wild_slot.proofs.TreatmentLemmas.{known_symbolic, known_indirect, known_extent}
 
 -- ---- rows
@@ -78,7 +77,7 @@ pub record IsField (l : Layout) (s : Item) (r : InputRelocation) (z : Relocation
   pub size : row.size ≡ z
   pub term : ℕ
   pub given : term_at l r row (place_of s.address r) ≡ Ok term
-  pub value : value_in l row term r.addend (place_of s.address r) ≡ v
+  pub comes : ComesTo l s r row (value_in l row term r.addend (place_of s.address r)) v
   pub allowed : allows row v ≡ true
 
 -- a relocation that writes the address v, which moves with the base
@@ -98,22 +97,15 @@ pub record IsNothing (l : Layout) (r : InputRelocation) : Type 0 where
   pub known : row_of l.machine r.number ≡ Some row
   pub kind : IsSilent row.kind
 
-in_field : (row : RelocationKindInfo) (w v : ℕ) (z : RelocationSize) → field row w ≡ Ok (Field z v) → (row.size ≡ z) × (w ≡ v) × (allows row v ≡ true)
-in_field row w v z h =
-    elim (cases_Bool (allows row w)) [
-      | inr f ↦ cc (rw f at h)
-      | inl t ↦
-          (let e : Ok (Field row.size w) ≡ Ok (Field z v) = rw t at h in
-          let size : row.size ≡ z = cc in
-          let value : w ≡ v = cc in
-          (size, value, subst (λ (n : ℕ). allows row n ≡ true) value t))
-    ]
-
 field_from : (l : Layout) (s : Item) (r : InputRelocation) (row : RelocationKindInfo) (z : RelocationSize) (v : ℕ) (a : Result ℕ Fault) → row_of l.machine r.number ≡ Some row → treatment l s.flags r ≡ treatments.Value row → HasValue row.kind → term_at l r row (place_of s.address r) ≡ a → field_for l s r row a ≡ Ok (Field z v) → IsField l s r z v
-field_from l s r row z v (Err f) known treated kind is h = cc
-field_from l s r row z v (Ok a) known treated kind is h =
-    let f = in_field row (value_in l row a r.addend (place_of s.address r)) v z h in
-    record { row = row; known = known; treated = treated; kind = kind; size = f.0; term = a; given = is; value = f.1; allowed = f.2 }
+field_from l s r row z v (Err f) known treated kind given h = cc
+field_from l s r row z v (Ok a) known treated kind given h =
+    let w = value_in l row a r.addend (place_of s.address r) in
+    let f = reached_by l s r row w (Field z v) h in
+    let is = f.is in
+    let size : row.size ≡ z = cc in
+    let value : f.value ≡ v = cc in
+    record { row = row; known = known; treated = treated; kind = kind; size = size; term = a; given = given; comes = subst (ComesTo l s r row w) value f.comes; allowed = subst (λ (n : ℕ). allows row n ≡ true) value f.allowed }
 
 -- a field that is left to an entry
 abbrev IsLeftAlone : Decision → Type 0
@@ -172,16 +164,9 @@ pub decided_field : (l : Layout) (s : Item) (r : InputRelocation) (z : Relocatio
 unfolding decided
 decided_field l s r z v h = treated_field l s r (treatment l s.flags r) z v refl h
 
-field_is_not_moved : (row : RelocationKindInfo) (w v : ℕ) (packed : Bool) → field row w ≡ Ok (Moved v packed) → ⊥
-field_is_not_moved row w v packed h =
-    elim (cases_Bool (allows row w)) [
-      | inr f ↦ cc (rw f at h)
-      | inl t ↦ cc (rw t at h)
-    ]
-
 value_is_not_moved : (l : Layout) (s : Item) (r : InputRelocation) (row : RelocationKindInfo) (v : ℕ) (packed : Bool) (a : Result ℕ Fault) → field_for l s r row a ≡ Ok (Moved v packed) → ⊥
 value_is_not_moved l s r row v packed (Err f) h = cc
-value_is_not_moved l s r row v packed (Ok a) h = field_is_not_moved row (value_in l row a r.addend (place_of s.address r)) v packed h
+value_is_not_moved l s r row v packed (Ok a) h = let e = (reached_by l s r row (value_in l row a r.addend (place_of s.address r)) (Moved v packed) h).is in cc
 
 moved_from : (l : Layout) (s : Item) (r : InputRelocation) (v : ℕ) (packed : Bool) (a : Result ℕ Fault) → treatment l s.flags r ≡ treatments.BaseRelative → address_of l r.symbol ≡ a → moved_to l s r a ≡ Ok (Moved v packed) → IsMoved l s r v packed
 moved_from l s r v packed (Err f) treated is h = cc
@@ -241,16 +226,9 @@ field_ends l r z n f (inr ends) = let w = field_bytes_are l r z f in omega (arit
 
 -- ---- nothing
 
-field_is_some : (row : RelocationKindInfo) (w : ℕ) → field row w ≡ Ok Nothing → ⊥
-field_is_some row w h =
-    elim (cases_Bool (allows row w)) [
-      | inr f ↦ cc (rw f at h)
-      | inl t ↦ cc (rw t at h)
-    ]
-
 value_is_some : (l : Layout) (s : Item) (r : InputRelocation) (row : RelocationKindInfo) (a : Result ℕ Fault) → field_for l s r row a ≡ Ok Nothing → ⊥
 value_is_some l s r row (Err f) h = cc
-value_is_some l s r row (Ok a) h = field_is_some row (value_in l row a r.addend (place_of s.address r)) h
+value_is_some l s r row (Ok a) h = let e = (reached_by l s r row (value_in l row a r.addend (place_of s.address r)) Nothing h).is in cc
 
 moved_is_some : (l : Layout) (s : Item) (r : InputRelocation) (a : Result ℕ Fault) → moved_to l s r a ≡ Ok Nothing → ⊥
 moved_is_some l s r (Err f) h = cc
@@ -316,16 +294,9 @@ chosen_parts l x n symbol addend r (Ok resolver) h =
           (size, same, none, ap (λ (k : ℕ). Ok k) is))
     ]
 
-field_is_not_left : (row : RelocationKindInfo) (w : ℕ) (z : RelocationSize) (n symbol addend : ℕ) → field row w ≡ Ok (Left z n symbol addend) → ⊥
-field_is_not_left row w z n symbol addend h =
-    elim (cases_Bool (allows row w)) [
-      | inr f ↦ cc (rw f at h)
-      | inl t ↦ cc (rw t at h)
-    ]
-
 value_is_not_left : (l : Layout) (s : Item) (r : InputRelocation) (row : RelocationKindInfo) (z : RelocationSize) (n symbol addend : ℕ) (a : Result ℕ Fault) → field_for l s r row a ≡ Ok (Left z n symbol addend) → ⊥
 value_is_not_left l s r row z n symbol addend (Err f) h = cc
-value_is_not_left l s r row z n symbol addend (Ok a) h = field_is_not_left row (value_in l row a r.addend (place_of s.address r)) z n symbol addend h
+value_is_not_left l s r row z n symbol addend (Ok a) h = let e = (reached_by l s r row (value_in l row a r.addend (place_of s.address r)) (Left z n symbol addend) h).is in cc
 
 moved_is_not_left : (l : Layout) (s : Item) (r : InputRelocation) (z : RelocationSize) (n symbol addend : ℕ) (a : Result ℕ Fault) → moved_to l s r a ≡ Ok (Left z n symbol addend) → ⊥
 moved_is_not_left l s r z n symbol addend (Err f) h = cc

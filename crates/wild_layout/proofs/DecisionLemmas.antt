@@ -6,8 +6,9 @@
 --   IsKept l s r next z v           a row writes a value into the field, and keeps the bytes around it
 --   IsWrittenInPlace l s r row v, IsKeptAArch64 l s i r z v    the same of a row of AArch64: a distance of code
 --   decide_field                    a field is written by itself or by such a row
---   IsRewritten l s r next row v    a row writes the whole instruction
---   decide_rewritten                it is decided so
+--   IsRewritten l s r next row v    a row of x86-64 writes the whole instruction
+--   IsRewrittenAArch64 l s i r row v    one of AArch64 writes a word
+--   decide_rewritten                it is decided so; rewritten_x86_64, rewritten_aarch64    by the machine
 --   decide_partner                  a relocation that is taken along is behind one whose row writes a sequence
 --   sequence_is_rewritten           what is decided of that one
 --   decide_alone                    without a row, and taken along by none, a relocation is decided of by itself
@@ -64,7 +65,7 @@ use Rattle.wild_relax.specs.declared.row.ValueTest.{ValueTest}
 use Rattle.wild_relax.specs.declared.row.ValueTest.TheVariants as value
 use Rattle.wild_relax.specs.declared.row.SymbolTest.{SymbolTest}
 use Rattle.wild_relax.specs.declared.row.SymbolTest.TheVariants as symbol
-use Rattle.wild_relax.specs.RowsAArch64.{rows_aarch64, is_branch}
+use Rattle.wild_relax.specs.RowsAArch64.{rows_aarch64}
 use Rattle.wild_relax.specs.RewriteX86_64.{distance_type, change_of, number_written, or_nothing, is_aarch64, type_row, info_by, info_written, rewrite_of}
 use Rattle.wild_relax.proofs.RewriteLemmas.{typed, written_row, listed_type}
 use Rattle.wild_relax.specs.Linked.{keeps_bytes}
@@ -74,9 +75,10 @@ use Rattle.wild_types.specs.Lookups.{place_of}
 use Rattle.wild_layout.specs.SlotValues.{address_of, index_of, decided_address}
 use Rattle.wild_layout.specs.Values.{term_of, value_by, value_less, value_in, term_at}
 use Rattle.wild_layout.specs.Choice.{choice_of, choice_on, takes_next, is_partner}
-use Rattle.wild_layout.specs.Decide.{field, field_for, moved_to, added, left_to, chosen_to, decide_by, decided, field_at, place_to, value_to, term_to, rewritten_to, refused_with, decide_with, decide_at, decide}
+use Rattle.wild_layout.specs.Decide.{field_for, reached, moved_to, added, left_to, chosen_to, decide_by, decided, field_at, place_to, value_to, term_to, rewritten_to, refused_with, decide_with, decide_at, decide}
 use Rattle.wild_slot.proofs.TreatmentLemmas.{HasValue, known_moved, known_symbolic, known_indirect, known_extent}
-use Rattle.wild_layout.proofs.ChoiceLemmas.{IsChosen, choice_row, IsChosenAArch64, choice_row_aarch64, is_listed, kept_listed, of_two, IsSequence, partner_is_taken, partner_number, loads, no_row, no_partner}
+use Rattle.wild_layout.proofs.ChoiceLemmas.{IsChosen, choice_row, IsChosenAArch64, choice_row_aarch64, is_listed, kept_listed, of_two, IsSequence, partner_is_taken, no_partner_aarch64, partner_number, loads, no_row, no_partner}
+use Rattle.wild_layout.proofs.ReachedLemmas.{ComesTo, IsReached, reached_by, comes_alone}
 use Rattle.wild_layout.proofs.DecideLemmas.{HasField, sized_left}
 
 -- ---- which decisions come from where
@@ -87,16 +89,9 @@ KeepsInstruction (Rewritten row v) = ⊥
 KeepsInstruction Partner = ⊥
 KeepsInstruction other = ⊤
 
-field_keeps : (row : RelocationKindInfo) (w : ℕ) (d : Decision) → field row w ≡ Ok d → KeepsInstruction d
-field_keeps row w d h =
-    elim (cases_Bool (allows row w)) [
-      | inr f ↦ cc (rw f at h)
-      | inl t ↦ (let e : Ok (Field row.size w) ≡ Ok d = rw t at h in let same : Field row.size w ≡ d = cc in subst KeepsInstruction same tt)
-    ]
-
 value_keeps : (l : Layout) (s : Item) (r : InputRelocation) (row : RelocationKindInfo) (a : Result ℕ Fault) (d : Decision) → field_for l s r row a ≡ Ok d → KeepsInstruction d
 value_keeps l s r row (Err f) d h = cc
-value_keeps l s r row (Ok a) d h = field_keeps row (value_in l row a r.addend (place_of s.address r)) d h
+value_keeps l s r row (Ok a) d h = subst KeepsInstruction (reached_by l s r row (value_in l row a r.addend (place_of s.address r)) d h).is tt
 
 moved_keeps : (l : Layout) (s : Item) (r : InputRelocation) (a : Result ℕ Fault) (d : Decision) → moved_to l s r a ≡ Ok d → KeepsInstruction d
 moved_keeps l s r (Err f) d h = cc
@@ -196,6 +191,19 @@ unmasked written.TpOff32 h = refl
 unmasked written.GotOff64 h = refl
 unmasked other h = cc
 
+-- and goes by no thunk
+unthunked : (w : Written) → is_aarch64 w ≡ false → (info_by w).thunkable ≡ false
+unfolding x86_64_row
+unthunked written.Nothing h = refl
+unthunked written.Pc32 h = refl
+unthunked written.Plt32 h = refl
+unthunked written.Unsigned32 h = refl
+unthunked written.Signed32 h = refl
+unthunked written.GotTpOff h = refl
+unthunked written.TpOff32 h = refl
+unthunked written.GotOff64 h = refl
+unthunked other h = cc
+
 whole_value : (l : Layout) (info : RelocationKindInfo) (a : ℕ) (addend : ℤ) (p : ℕ) → info.mask ≡ None → value_in l info a addend p ≡ value_by l info.kind a addend p
 whole_value l info a addend p none = ap (λ (m : Option PageMask). value_less l (taken_of info.kind m) a addend p) none
 
@@ -205,31 +213,36 @@ known_on machine.AArch64 row is type = cc
 known_on machine.X86_64 row is type = written_row row.written type
 
 row_makes : (l : Layout) (s : Item) (r : InputRelocation) (row : Row) (d : Decision) → l.machine ≡ machine.X86_64 → is_aarch64 row.written ≡ false → rewritten_to l s r row ≡ Ok d → IsMade l s r row d
-row_makes l s r row d x86 type h = by_term l s r row d x86 type (term_to l r (info_written row) (place_to s r row)) refl h
+row_makes l s r row d x86 type h = by_term (term_to l r (info_written row) (place_to s r row)) refl h
   where
-    by_test : (l : Layout) (s : Item) (r : InputRelocation) (row : Row) (d : Decision) (a v : ℕ) (b : Bool) → l.machine ≡ machine.X86_64 → is_aarch64 row.written ≡ false → term_to l r (info_written row) (place_to s r row) ≡ Ok a → value_in l (info_written row) a ((rewrite_of row).addend r.addend) (place_to s r row) ≡ v → allows (info_written row) v ≡ b
-        → (if b then Ok (if keeps_bytes row then Field (info_written row).size v else Rewritten row v) else Err (faults.OutOfRange v)) ≡ Ok d → IsMade l s r row d
-    by_test l s r row d a v false x86 type given value allowed h = cc
-    by_test l s r row d a v true x86 type given value allowed h =
-        let same : (if keeps_bytes row then Field (info_written row).size v else Rewritten row v) ≡ d = cc in
-        record {
-          value = v;
-          by = record {
-            info = info_written row;
-            known = known_on l.machine row x86 type;
-            term = a;
-            given = sym (not_placed l r (info_written row) (place_to s r row) x86) ∙ given;
-            value = sym (whole_value l (info_written row) a ((rewrite_of row).addend r.addend) (place_to s r row) (unmasked row.written type)) ∙ value;
-            allowed = allowed;
-          };
-          is = same;
-        }
+    made_of : (a v : ℕ) → term_to l r (info_written row) (place_to s r row) ≡ Ok a → value_in l (info_written row) a ((rewrite_of row).addend r.addend) (place_to s r row) ≡ v → allows (info_written row) v ≡ true
+        → (if keeps_bytes row then Field (info_written row).size v else Rewritten row v) ≡ d → IsMade l s r row d
+    made_of a v given value allowed is = record {
+      value = v;
+      by = record {
+        info = info_written row;
+        known = known_on l.machine row x86 type;
+        term = a;
+        given = sym (not_placed l r (info_written row) (place_to s r row) x86) ∙ given;
+        value = sym (whole_value l (info_written row) a ((rewrite_of row).addend r.addend) (place_to s r row) (unmasked row.written type)) ∙ value;
+        allowed = allowed;
+      };
+      is = is;
+    }
 
-    by_term : (l : Layout) (s : Item) (r : InputRelocation) (row : Row) (d : Decision) → l.machine ≡ machine.X86_64 → is_aarch64 row.written ≡ false → (t : Result ℕ Fault) → term_to l r (info_written row) (place_to s r row) ≡ t → value_to l s r row t ≡ Ok d → IsMade l s r row d
-    by_term l s r row d x86 type (Err f) given h = cc
-    by_term l s r row d x86 type (Ok a) given h =
+    by_test : (a v : ℕ) (k b : Bool) → term_to l r (info_written row) (place_to s r row) ≡ Ok a → value_in l (info_written row) a ((rewrite_of row).addend r.addend) (place_to s r row) ≡ v → keeps_bytes row ≡ k → allows (info_written row) v ≡ b
+        → (if k then reached l s r (info_written row) v else (if b then Ok (Rewritten row v) else Err (faults.OutOfRange v))) ≡ Ok d → IsMade l s r row d
+    by_test a v false false given value keeps allowed e = cc
+    by_test a v false true given value keeps allowed e = let is : Rewritten row v ≡ d = cc in made_of a v given value allowed (rw keeps is)
+    by_test a v true b given value keeps allowed e =
+        let f = reached_by l s r (info_written row) v d e in
+        made_of a f.value given (value ∙ comes_alone l s r (info_written row) v f.value (unthunked row.written type) f.comes) f.allowed (rw keeps f.is)
+
+    by_term : (t : Result ℕ Fault) → term_to l r (info_written row) (place_to s r row) ≡ t → value_to l s r row t ≡ Ok d → IsMade l s r row d
+    by_term (Err f) given e = cc
+    by_term (Ok a) given e =
         let v = value_in l (info_written row) a ((rewrite_of row).addend r.addend) (place_to s r row) in
-        by_test l s r row d a v (allows (info_written row) v) x86 type given refl refl h
+        by_test a v (keeps_bytes row) (allows (info_written row) v) given refl refl refl e
 
 -- ---- what a row of AArch64 writes that keeps the bytes
 
@@ -240,36 +253,49 @@ goes_far distances.Call26 = true
 goes_far distances.Plt32 = true
 goes_far other = false
 
--- it writes a distance of code, of the relocation's own type: to the symbol where that is the output's own
+-- it writes a distance of code, of the relocation's own type: to the symbol where that is the output's own; a conditional branch goes to
+-- the stub of an undefined weak symbol
 pub record IsDistance (row : Row) : Type 0 where
   pub distance : Distance
   pub goal : Goal
   pub written : row.written ≡ written.Code distance goal
   pub number : row.number ≡ distance_type distance
-  pub far : goes_far distance ≡ true
-  pub own : goal ≡ goals.Symbol → (row.value ≡ value.Own) × (row.symbol ≡ symbol.Plain)
+  pub own : goal ≡ goals.Symbol → (goes_far distance ≡ true) × (row.value ≡ value.Own) × (row.symbol ≡ symbol.Plain)
+  pub weak : goes_far distance ≡ false → (row.symbol ≡ symbol.UndefinedWeak) × (row.in_code ≡ true)
 
-abbrev goes_well : Written → ValueTest → SymbolTest → Bool
-goes_well (written.Code d goals.Symbol) value.Own symbol.Plain = goes_far d
-goes_well (written.Code d goals.Stub) v s = goes_far d
-goes_well other v s = false
+abbrev is_weak : SymbolTest → Bool
+is_weak symbol.UndefinedWeak = true
+is_weak other = false
+
+abbrev goes_well : Written → ValueTest → SymbolTest → Bool → Bool
+goes_well (written.Code d goals.Symbol) value.Own symbol.Plain code = goes_far d
+goes_well (written.Code d goals.Stub) v s code = goes_far d || is_weak s && code
+goes_well other v s code = false
 
 abbrev changes_or_goes : Row → Bool
-changes_or_goes row = not (is_branch row) || goes_well row.written row.value row.symbol && row.number == number_written row.written
+changes_or_goes row = not (keeps_bytes row) || goes_well row.written row.value row.symbol row.in_code && row.number == number_written row.written
 
 each_goes : list_all changes_or_goes rows_aarch64 ≡ true
 unfolding rows_aarch64
 each_goes = refl
 
-pub distance_of : (row : Row) → Contains rows_aarch64 row → is_branch row ≡ true → IsDistance row
+pub distance_of : (row : Row) → Contains rows_aarch64 row → keeps_bytes row ≡ true → IsDistance row
 distance_of row c k =
     let both = and_parts _ _ (implied _ _ (listed_passes changes_or_goes rows_aarch64 row each_goes c) k) in
     by_fields row.written row.value row.symbol refl refl refl both.0 (eqb-true _ _ both.1)
   where
-    by_fields : (w : Written) (v : ValueTest) (s : SymbolTest) → row.written ≡ w → row.value ≡ v → row.symbol ≡ s → goes_well w v s ≡ true → row.number ≡ number_written row.written → IsDistance row
-    by_fields (written.Code d goals.Symbol) value.Own symbol.Plain is own plain h e = record { distance = d; goal = goals.Symbol; written = is; number = e ∙ ap number_written is; far = h; own = λ g. (own, plain) }
-    by_fields (written.Code d goals.Stub) v s is own plain h e = record { distance = d; goal = goals.Stub; written = is; number = e ∙ ap number_written is; far = h; own = λ g. cc }
-    by_fields w v s is own plain h e = cc
+    weak_is : (s : SymbolTest) → is_weak s ≡ true → s ≡ symbol.UndefinedWeak
+    weak_is symbol.UndefinedWeak h = refl
+    weak_is other h = cc
+
+    weak_by : (b c : Bool) (s : SymbolTest) → (b || is_weak s && c) ≡ true → b ≡ false → (s ≡ symbol.UndefinedWeak) × (c ≡ true)
+    weak_by true c s h near = cc
+    weak_by false c s h near = (let p = and_parts (is_weak s) c h in (weak_is s p.0, p.1))
+
+    by_fields : (w : Written) (v : ValueTest) (s : SymbolTest) → row.written ≡ w → row.value ≡ v → row.symbol ≡ s → goes_well w v s row.in_code ≡ true → row.number ≡ number_written row.written → IsDistance row
+    by_fields (written.Code d goals.Symbol) value.Own symbol.Plain is own test h e = record { distance = d; goal = goals.Symbol; written = is; number = e ∙ ap number_written is; own = λ g. (h, own, test); weak = λ near. (let both : true ≡ false = sym h ∙ near in cc) }
+    by_fields (written.Code d goals.Stub) v s is own test h e = record { distance = d; goal = goals.Stub; written = is; number = e ∙ ap number_written is; own = λ g. cc; weak = λ near. (let w = weak_by (goes_far d) row.in_code s h near in (test ∙ w.0, w.1)) }
+    by_fields w v s is own test h e = cc
 
 -- its place, its addend and its value are the relocation's
 kept_made : (m : Made) → ((change_of m).size == 0) ≡ true → m ≡ ways.Kept
@@ -299,14 +325,15 @@ needs_term : (l : Layout) (r : InputRelocation) (d : Distance) (goal : Goal) (p 
 needs_term l r d goals.Symbol p = refl
 needs_term l r d goals.Stub p = refl
 
--- v is what the row's type makes of the symbol, and the field takes it
+-- v is what the row's type makes of the symbol, or the distance to its thunk, and the field takes it
 pub record IsWrittenInPlace (l : Layout) (s : Item) (r : InputRelocation) (row : Row) (v : ℕ) : Type 0 where
   pub term : ℕ
   pub given : term_at l r (info_written row) (place_of s.address r) ≡ Ok term
-  pub value : value_in l (info_written row) term r.addend (place_of s.address r) ≡ v
+  pub comes : ComesTo l s r (info_written row) (value_in l (info_written row) term r.addend (place_of s.address r)) v
   pub allowed : allows (info_written row) v ≡ true
 
 record IsMadeInPlace (l : Layout) (s : Item) (r : InputRelocation) (row : Row) (d : Decision) : Type 0 where
+  goes : IsDistance row
   value : ℕ
   by : IsWrittenInPlace l s r row value
   is : Field (info_written row).size value ≡ d
@@ -319,19 +346,16 @@ made_in_place l s r row d goes k h = by_term (term_at l r (info_written row) (pl
         ap (term_to l r (info_written row)) (same_place s r row k)
         ∙ subst (λ (w : Written). term_to l r (info_by w) (place_of s.address r) ≡ term_at l r (info_by w) (place_of s.address r)) (sym goes.written) (needs_term l r goes.distance goes.goal (place_of s.address r))
 
-    by_test : (a v : ℕ) (b : Bool) → term_at l r (info_written row) (place_of s.address r) ≡ Ok a → value_in l (info_written row) a r.addend (place_of s.address r) ≡ v → allows (info_written row) v ≡ b → (if b then Ok (if keeps_bytes row then Field (info_written row).size v else Rewritten row v) else Err (faults.OutOfRange v)) ≡ Ok d → IsMadeInPlace l s r row d
-    by_test a v false given value allowed e = cc
-    by_test a v true given value allowed e =
-        let same : Ok (Field (info_written row).size v) ≡ Ok d = rw k at e in
-        let is : Field (info_written row).size v ≡ d = cc in
-        record { value = v; by = record { term = a; given = given; value = value; allowed = allowed }; is = is }
+    by_reached : (a : ℕ) → term_at l r (info_written row) (place_of s.address r) ≡ Ok a → IsReached l s r (info_written row) (value_in l (info_written row) a r.addend (place_of s.address r)) d → IsMadeInPlace l s r row d
+    by_reached a given f = record { goes = goes; value = f.value; by = record { term = a; given = given; comes = f.comes; allowed = f.allowed }; is = f.is }
 
     by_term : (t : Result ℕ Fault) → term_at l r (info_written row) (place_of s.address r) ≡ t → value_to l s r row t ≡ Ok d → IsMadeInPlace l s r row d
     by_term (Err f) given e = cc
     by_term (Ok a) given e =
         let v = value_in l (info_written row) a ((rewrite_of row).addend r.addend) (place_to s r row) in
-        let value : value_in l (info_written row) a r.addend (place_of s.address r) ≡ v = ap (λ (x : ℤ). value_in l (info_written row) a x (place_of s.address r)) (sym (same_addend row r.addend k)) ∙ ap (value_in l (info_written row) a ((rewrite_of row).addend r.addend)) (sym (same_place s r row k)) in
-        by_test a v (allows (info_written row) v) given value refl e
+        let value : v ≡ value_in l (info_written row) a r.addend (place_of s.address r) = ap (value_in l (info_written row) a ((rewrite_of row).addend r.addend)) (same_place s r row k) ∙ ap (λ (x : ℤ). value_in l (info_written row) a x (place_of s.address r)) (same_addend row r.addend k) in
+        let goes : reached l s r (info_written row) v ≡ Ok d = rw k at e in
+        by_reached a given (reached_by l s r (info_written row) (value_in l (info_written row) a r.addend (place_of s.address r)) d (subst (λ (w : ℕ). reached l s r (info_written row) w ≡ Ok d) value goes))
 
 -- ---- the four ways
 
@@ -353,14 +377,43 @@ refused l s r e d h = by_term l s r e d (term_to l r e.written (place_of s.addre
     by_term l s r e d (Err f) is h = cc (rw is at h)
     by_term l s r e d (Ok a) is h = cc (rw is at h)
 
-decide_cases : {P : Type 0} (l : Layout) (s : Item) (i : ℕ) (r : InputRelocation) (d : Decision) → slice_get s.relocations i ≡ Some r → decide l s i ≡ Ok d → (IsOwn l s i r d → P) → ((row : Row) → IsChosen l s r (slice_get s.relocations (i + 1)) row → IsMade l s r row d → P) → ((row : Row) → IsChosenAArch64 l s i r row → IsMadeInPlace l s r row d → P)
+-- a row of AArch64 that changes a word, and what it comes to
+record IsMadeWord (l : Layout) (s : Item) (r : InputRelocation) (row : Row) (d : Decision) : Type 0 where
+  changes : keeps_bytes row ≡ false
+  made : rewritten_to l s r row ≡ Ok d
+  value : ℕ
+  is : Rewritten row value ≡ d
+
+made_word : (l : Layout) (s : Item) (r : InputRelocation) (row : Row) (d : Decision) → keeps_bytes row ≡ false → rewritten_to l s r row ≡ Ok d → IsMadeWord l s r row d
+made_word l s r row d k h = by_term (term_to l r (info_written row) (place_to s r row)) h
+  where
+    by_test : (v : ℕ) (b : Bool) → (if b then Ok (Rewritten row v) else Err (faults.OutOfRange v)) ≡ Ok d → IsMadeWord l s r row d
+    by_test v false e = cc
+    by_test v true e = (let is : Rewritten row v ≡ d = cc in record { changes = k; made = h; value = v; is = is })
+
+    by_term : (t : Result ℕ Fault) → value_to l s r row t ≡ Ok d → IsMadeWord l s r row d
+    by_term (Err f) e = cc
+    by_term (Ok a) e = (let v = value_in l (info_written row) a ((rewrite_of row).addend r.addend) (place_to s r row) in by_test v (allows (info_written row) v) (rw k at e))
+
+-- what a row of AArch64 comes to
+abbrev IsMadeThere : Layout → Item → InputRelocation → Row → Decision → Type 0
+IsMadeThere l s r row d = IsMadeInPlace l s r row d ⊎ IsMadeWord l s r row d
+
+made_there : (l : Layout) (s : Item) (i : ℕ) (r : InputRelocation) (row : Row) (d : Decision) → IsChosenAArch64 l s i r row → rewritten_to l s r row ≡ Ok d → IsMadeThere l s r row d
+made_there l s i r row d c h =
+    elim (cases_Bool (keeps_bytes row)) [
+      | inl k ↦ inl (made_in_place l s r row d (distance_of row c.listed k) k h)
+      | inr k ↦ inr (made_word l s r row d k h)
+    ]
+
+decide_cases : {P : Type 0} (l : Layout) (s : Item) (i : ℕ) (r : InputRelocation) (d : Decision) → slice_get s.relocations i ≡ Some r → decide l s i ≡ Ok d → (IsOwn l s i r d → P) → ((row : Row) → IsChosen l s r (slice_get s.relocations (i + 1)) row → IsMade l s r row d → P) → ((row : Row) → IsChosenAArch64 l s i r row → IsMadeThere l s r row d → P)
     → (is_partner l s i ≡ true → Partner ≡ d → P) → P
 unfolding decide
-decide_cases {P} l s i r d listed h own made placed taken = by_partner (is_partner l s i) refl h
+decide_cases {P} l s i r d listed h own made there taken = by_partner (is_partner l s i) refl h
   where
     by_machine : (m : Machine) (row : Row) → l.machine ≡ m → choice_on m l s i r ≡ Ok (Some row) → rewritten_to l s r row ≡ Ok d → P
     by_machine machine.X86_64 row on is e = (let c = choice_row l s r (slice_get s.relocations (i + 1)) row on is in made row c (row_makes l s r row d on (listed_type row (is_listed l s r (slice_get s.relocations (i + 1)) row c)) e))
-    by_machine machine.AArch64 row on is e = (let c = choice_row_aarch64 l s i r row on listed is in placed row c (made_in_place l s r row d (distance_of row c.listed c.branch) (and_parts _ _ c.branch).0 e))
+    by_machine machine.AArch64 row on is e = (let c = choice_row_aarch64 l s i r row on listed is in there row c (made_there l s i r row d c e))
 
     by_choice : (c : Result (Option Row) UnknownSequence) → is_partner l s i ≡ false → choice_on l.machine l s i r ≡ c → decide_with l s r c ≡ Ok d → P
     by_choice (Ok None) alone is e = own (record { made = e; choice = is; alone = alone })
@@ -371,6 +424,10 @@ decide_cases {P} l s i r d listed h own made placed taken = by_partner (is_partn
     by_partner true is e = taken is cc
     by_partner false is e = by_choice (choice_on l.machine l s i r) is refl (subst (λ (o : Option InputRelocation). decide_at l s i o ≡ Ok d) listed e)
 
+of_made : (l : Layout) (s : Item) (r : InputRelocation) (row : Row) (d : Decision) → IsMadeThere l s r row d → IsOfRow d
+of_made l s r row d (inl m) = subst IsOfRow m.is tt
+of_made l s r row d (inr m) = subst IsOfRow m.is tt
+
 -- ---- decisions of a relocation alone
 
 own_alone : (l : Layout) (s : Item) (i : ℕ) (r : InputRelocation) (d : Decision) → slice_get s.relocations i ≡ Some r → decide l s i ≡ Ok d → (IsOfRow d → ⊥) → (Partner ≡ d → ⊥) → IsOwn l s i r d
@@ -378,7 +435,7 @@ own_alone l s i r d listed h no_row no_call =
     decide_cases l s i r d listed h
     (λ own. own)
     (λ row c m. absurd (no_row (of_row (keeps_bytes row) m.by.info.size row m.value d m.is)))
-    (λ row c m. absurd (no_row (subst IsOfRow m.is tt)))
+    (λ row c m. absurd (no_row (of_made l s r row d m)))
     (λ t e. absurd (no_call e))
 
 pub decide_nothing : (l : Layout) (s : Item) (i : ℕ) (r : InputRelocation) → slice_get s.relocations i ≡ Some r → decide l s i ≡ Ok Nothing → IsOwn l s i r Nothing
@@ -514,12 +571,12 @@ decide_field l s i r z v listed h = decide_cases l s i r (Field z v) listed h (�
         let keeps = kept_rows row (is_listed l s r next row c) t.0 (other_number r.number row.number c.number c.other) in
         subst (λ (x : ℕ). IsKept l s r next z x) t.2 (made_kept l s r next z m.value row c keeps m.by t.1)
 
-    by_distance : (row : Row) → IsChosenAArch64 l s i r row → IsMadeInPlace l s r row (Field z v) → IsKeptAArch64 l s i r z v
-    by_distance row c m =
+    by_distance : (row : Row) → IsChosenAArch64 l s i r row → IsMadeThere l s r row (Field z v) → IsKeptAArch64 l s i r z v
+    by_distance row c (inr m) = (let e = m.is in cc)
+    by_distance row c (inl m) =
         let size : (info_written row).size ≡ z = (let e = m.is in cc) in
         let value : m.value ≡ v = (let e = m.is in cc) in
-        let goes = distance_of row c.listed c.branch in
-        record { row = row; chosen = c; goes = goes; written = subst (IsWrittenInPlace l s r row) value m.by; size = size; field = subst (HasField l r) size (distance_field l s i r row c goes) }
+        record { row = row; chosen = c; goes = m.goes; written = subst (IsWrittenInPlace l s r row) value m.by; size = size; field = subst (HasField l r) size (distance_field l s i r row c m.goes) }
 
 -- ---- instructions
 
@@ -529,26 +586,62 @@ pub record IsRewritten (l : Layout) (s : Item) (r : InputRelocation) (next : Opt
   pub changes : keeps_bytes row ≡ false
   pub written : IsWrittenBy l s r row v
 
-pub decide_rewritten : (l : Layout) (s : Item) (i : ℕ) (r : InputRelocation) (row : Row) (v : ℕ) → slice_get s.relocations i ≡ Some r → decide l s i ≡ Ok (Rewritten row v) → IsRewritten l s r (slice_get s.relocations (i + 1)) row v
-decide_rewritten l s i r row v listed h = decide_cases l s i r (Rewritten row v) listed h (λ own. absurd (decided_keeps l s r (Rewritten row v) own.made)) (λ w c m. by_row l s r (slice_get s.relocations (i + 1)) w row v c m) (λ w c m. (let e = m.is in cc)) (λ t e. cc)
+-- a row of AArch64 writes a word, with v in its field
+pub record IsRewrittenAArch64 (l : Layout) (s : Item) (i : ℕ) (r : InputRelocation) (row : Row) (v : ℕ) : Type 0 where
+  pub chosen : IsChosenAArch64 l s i r row
+  pub changes : keeps_bytes row ≡ false
+  pub made : rewritten_to l s r row ≡ Ok (Rewritten row v)
+  pub alone : is_partner l s i ≡ false
+
+abbrev pub IsRewrittenBy : Layout → Item → ℕ → InputRelocation → Row → ℕ → Type 0
+IsRewrittenBy l s i r row v = IsRewritten l s r (slice_get s.relocations (i + 1)) row v ⊎ IsRewrittenAArch64 l s i r row v
+
+pub decide_rewritten : (l : Layout) (s : Item) (i : ℕ) (r : InputRelocation) (row : Row) (v : ℕ) → slice_get s.relocations i ≡ Some r → decide l s i ≡ Ok (Rewritten row v) → IsRewrittenBy l s i r row v
+decide_rewritten l s i r row v listed h = decide_cases l s i r (Rewritten row v) listed h (λ own. absurd (decided_keeps l s r (Rewritten row v) own.made)) (λ w c m. inl (by_row w c m)) (λ w c m. inr (by_word w c m)) (λ t e. cc)
   where
-    by_test : (b : Bool) (w row : Row) (size : RelocationSize) (x v : ℕ) → (if b then Field size x else Rewritten w x) ≡ Rewritten row v → (b ≡ false) × (w ≡ row) × (x ≡ v)
-    by_test true w row size x v h = cc
-    by_test false w row size x v h =
+    by_test : (b : Bool) (w : Row) (size : RelocationSize) (x : ℕ) → (if b then Field size x else Rewritten w x) ≡ Rewritten row v → (b ≡ false) × (w ≡ row) × (x ≡ v)
+    by_test true w size x h = cc
+    by_test false w size x h =
         let a : w ≡ row = cc in
         let e : x ≡ v = cc in
         (refl, a, e)
 
-    by_row : (l : Layout) (s : Item) (r : InputRelocation) (next : Option InputRelocation) (w row : Row) (v : ℕ) → IsChosen l s r next w → IsMade l s r w (Rewritten row v) → IsRewritten l s r next row v
-    by_row l s r next w row v c m =
-        let t = by_test (keeps_bytes w) w row m.by.info.size m.value v m.is in
-        let P : Row → Type 0 = λ y. IsRewritten l s r next y v in
+    by_row : (w : Row) → IsChosen l s r (slice_get s.relocations (i + 1)) w → IsMade l s r w (Rewritten row v) → IsRewritten l s r (slice_get s.relocations (i + 1)) row v
+    by_row w c m =
+        let t = by_test (keeps_bytes w) w m.by.info.size m.value m.is in
+        let P : Row → Type 0 = λ y. IsRewritten l s r (slice_get s.relocations (i + 1)) y v in
         subst P t.1 (record { chosen = c; changes = t.0; written = subst (λ (x : ℕ). IsWrittenBy l s r w x) t.2 m.by })
+
+    by_word : (w : Row) → IsChosenAArch64 l s i r w → IsMadeThere l s r w (Rewritten row v) → IsRewrittenAArch64 l s i r row v
+    by_word w c (inl m) = (let e = m.is in cc)
+    by_word w c (inr m) =
+        let same : w ≡ row = (let e = m.is in cc) in
+        let Q : Row → Type 0 = λ y. IsChosenAArch64 l s i r y in
+        record {
+          chosen = subst Q same c;
+          changes = subst (λ (y : Row). keeps_bytes y ≡ false) same m.changes;
+          made = subst (λ (y : Row). rewritten_to l s r y ≡ Ok (Rewritten row v)) same m.made;
+          alone = no_partner_aarch64 l s i c.machine;
+        }
+
+pub rewritten_x86_64 : (l : Layout) (s : Item) (i : ℕ) (r : InputRelocation) (row : Row) (v : ℕ) → l.machine ≡ machine.X86_64 → slice_get s.relocations i ≡ Some r → decide l s i ≡ Ok (Rewritten row v) → IsRewritten l s r (slice_get s.relocations (i + 1)) row v
+rewritten_x86_64 l s i r row v on listed h =
+    elim (decide_rewritten l s i r row v listed h) [
+      | inl w ↦ w
+      | inr w ↦ (let both : machine.AArch64 ≡ machine.X86_64 = sym w.chosen.machine ∙ on in cc)
+    ]
+
+pub rewritten_aarch64 : (l : Layout) (s : Item) (i : ℕ) (r : InputRelocation) (row : Row) (v : ℕ) → l.machine ≡ machine.AArch64 → slice_get s.relocations i ≡ Some r → decide l s i ≡ Ok (Rewritten row v) → IsRewrittenAArch64 l s i r row v
+rewritten_aarch64 l s i r row v on listed h =
+    elim (decide_rewritten l s i r row v listed h) [
+      | inl w ↦ (let both : machine.AArch64 ≡ machine.X86_64 = sym on ∙ w.chosen.machine in cc)
+      | inr w ↦ w
+    ]
 
 -- ---- relocations that are taken along
 
 pub decide_partner : (l : Layout) (s : Item) (i : ℕ) (r : InputRelocation) → slice_get s.relocations i ≡ Some r → decide l s i ≡ Ok Partner → (j : ℕ) × (i ≡ j + 1) × (row : Row) × IsSequence l s j row
-decide_partner l s i r listed h = decide_cases l s i r Partner listed h (λ own. absurd (decided_keeps l s r Partner own.made)) (λ row c m. absurd (of_row (keeps_bytes row) m.by.info.size row m.value Partner m.is)) (λ row c m. (let e = m.is in cc)) (λ t e. partner_is_taken l s i t)
+decide_partner l s i r listed h = decide_cases l s i r Partner listed h (λ own. absurd (decided_keeps l s r Partner own.made)) (λ row c m. absurd (of_row (keeps_bytes row) m.by.info.size row m.value Partner m.is)) (λ row c m. absurd (of_made l s r row Partner m)) (λ t e. partner_is_taken l s i t)
 
 -- the relocation of such a row is no call
 abbrev is_no_call : GeneralForm → Row → Bool

@@ -1,6 +1,7 @@
 pub mod FaultLemmas
 pub mod ChoiceLemmas
 pub mod AskedLemmas
+pub mod ReachedLemmas
 pub mod DecideLemmas
 pub mod DecisionLemmas
 pub mod SitesApart

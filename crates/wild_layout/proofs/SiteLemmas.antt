@@ -1,5 +1,5 @@
 -- The sites of an input section: what each relocation writes, where it lies, and that they are apart.
-use Rattle.std.proofs.Common.{◌≡◌, ℕ, zero, suc, ◌+◌, ◌<◌, ◌≤◌, ◌⊎◌, inl, inr, List, [], ◌∷◌, ◌++◌, length, get_or, slice_range, refl, sym, ap, ◌∙◌, arith, subst}
+use Rattle.std.proofs.Common.{◌≡◌, ℕ, zero, suc, ◌+◌, ◌<◌, ◌≤◌, ◌⊎◌, inl, inr, false, List, [], ◌∷◌, ◌++◌, length, get_or, slice_range, refl, sym, ap, ◌∙◌, arith, subst}
 use Rattle.std.specs.Prelude.{Option, Some, None, Result, Ok, Err, All, Contains, slice_get, if◌then◌else◌}
 use Rattle.std.specs.List.{flat_map, range_with_len}
 use Rattle.std.proofs.lemmas.List.Elements.{Contains-append_left, Contains-append_right, All-nil, All-same}
@@ -18,13 +18,13 @@ use Rattle.wild_reloc.proofs.PlaceLemmas.{length-size_written}
 use Rattle.wild_layout.specs.declared.decision.Decision.{Decision}
 use Rattle.wild_layout.specs.declared.decision.Decision.TheVariants.{Nothing, Field, Moved, Left, Rewritten, Partner}
 use Rattle.wild_relax.specs.declared.row.Row.{Row}
-use Rattle.wild_relax.specs.Linked.{pattern_size}
+use Rattle.wild_relax.specs.Linked.{pattern_size, keeps_bytes}
 use Rattle.wild_layout.specs.Decide.{decide}
 use Rattle.wild_layout.specs.Sites.{Written, written_by, field_site, template_start, template_site, site_by, site_for, site_of, site_at, site, sites, shared_byte}
 use Rattle.wild_layout.specs.SectionPlaces.{FieldLies}
 use Rattle.wild_layout.proofs.DecideLemmas.{HasField, decided_field, decided_moved, decided_left, field_has, moved_has, left_has, field_has_bytes, field_ends}
-use Rattle.wild_layout.proofs.ChoiceLemmas.{chosen_lies, length-template}
-use Rattle.wild_layout.proofs.DecisionLemmas.{decide_moved, decide_left, decide_field, IsRewritten, decide_rewritten}
+use Rattle.wild_layout.proofs.ChoiceLemmas.{LiesInItsPattern, chosen_lies, chosen_lies_aarch64, length-template}
+use Rattle.wild_layout.proofs.DecisionLemmas.{decide_moved, decide_left, decide_field, IsRewrittenBy, decide_rewritten}
 use Rattle.wild_layout.proofs.SitesApart.{IsFieldIn, fields_apart}
 
 -- the piece ends at n or before
@@ -68,7 +68,7 @@ pub record IsTemplateSite (l : Layout) (s : Item) (i : ℕ) : Type 0 where
   pub row : Row
   pub value : ℕ
   pub made : decide l s i ≡ Ok (Rewritten row value)
-  pub rewritten : IsRewritten l s relocation (slice_get s.relocations (i + 1)) row value
+  pub rewritten : IsRewrittenBy l s i relocation row value
   pub is : site l s i ≡ template_site s relocation row value ∷ []
 
 site_for_field : (s : Item) (r : InputRelocation) (d : Decision) (w : Written) → written_by d ≡ Some w → site_for s r d ≡ field_site s r.offset w.size w.value ∷ []
@@ -128,17 +128,28 @@ length-field_site s at z v = length-size_written z v (slice_range s.bytes at (at
 pub field_lies : (l : Layout) (s : Item) (r : InputRelocation) (z : RelocationSize) → HasField l r z → FieldLies l.machine (length s.bytes) r → r.offset + size_width z ≤ length s.bytes
 field_lies l s r z f lies = let e = field_ends l r z (length s.bytes) f lies in omega (arith, e)
 
--- an instruction that is rewritten has the bytes of its pattern
-pub length-template_site : (l : Layout) (s : Item) (r : InputRelocation) (next : Option InputRelocation) (row : Row) (v : ℕ) → IsRewritten l s r next row v → length (template_site s r row v).bytes ≡ pattern_size row
-length-template_site l s r next row v w =
-    length-template row v (slice_range s.bytes (template_start row r) (template_start row r + pattern_size row)) (chosen_lies l s r next row w.chosen w.changes) (length-range s.bytes (template_start row r) (pattern_size row) w.chosen.inside)
+-- an instruction that is rewritten has the bytes of its pattern, in the section
+pub record IsWindowIn (s : Item) (r : InputRelocation) (row : Row) : Type 0 where
+  pub changes : keeps_bytes row ≡ false
+  pub inside : template_start row r + pattern_size row ≤ length s.bytes
+  pub lies : LiesInItsPattern row
 
--- and lies in the section
-pub template_lies : (l : Layout) (s : Item) (r : InputRelocation) (next : Option InputRelocation) (row : Row) (v : ℕ) → IsRewritten l s r next row v → IsFieldIn (length s.bytes) (template_site s r row v)
-template_lies l s r next row v w =
-    let long = length-template_site l s r next row v w in
-    let some = (chosen_lies l s r next row w.chosen w.changes).some in
+pub window_in : (l : Layout) (s : Item) (i : ℕ) (r : InputRelocation) (row : Row) (v : ℕ) → IsRewrittenBy l s i r row v → IsWindowIn s r row
+window_in l s i r row v (inl w) = record { changes = w.changes; inside = w.chosen.inside; lies = chosen_lies l s r (slice_get s.relocations (i + 1)) row w.chosen w.changes }
+window_in l s i r row v (inr w) =
+    let begins = w.chosen.begins in
     let inside = w.chosen.inside in
+    record { changes = w.changes; inside = omega (arith, begins, inside); lies = chosen_lies_aarch64 l s i r row w.chosen w.changes }
+
+pub length-template_site : (s : Item) (r : InputRelocation) (row : Row) (v : ℕ) → IsWindowIn s r row → length (template_site s r row v).bytes ≡ pattern_size row
+length-template_site s r row v w =
+    length-template row v (slice_range s.bytes (template_start row r) (template_start row r + pattern_size row)) w.lies (length-range s.bytes (template_start row r) (pattern_size row) w.inside)
+
+pub template_lies : (s : Item) (r : InputRelocation) (row : Row) (v : ℕ) → IsWindowIn s r row → IsFieldIn (length s.bytes) (template_site s r row v)
+template_lies s r row v w =
+    let long = length-template_site s r row v w in
+    let some = w.lies.some in
+    let inside = w.inside in
     record { ends = omega (arith, long, inside); some = omega (arith, long, some) }
 
 -- a site is bytes of the section
@@ -162,7 +173,7 @@ site_is_field l s i lies =
         All-same P _ _ x.is (All-one P (field_site s x.relocation.offset x.written.size x.written.value) (is_field l s x.relocation x.written.size x.written.value x.field (holds_at (FieldLies l.machine (length s.bytes)) s.relocations i x.relocation x.listed lies)))
     by_site l s i lies (inr x) =
         let P = IsFieldIn (length s.bytes) in
-        All-same P _ _ x.is (All-one P (template_site s x.relocation x.row x.value) (template_lies l s x.relocation (slice_get s.relocations (i + 1)) x.row x.value x.rewritten))
+        All-same P _ _ x.is (All-one P (template_site s x.relocation x.row x.value) (template_lies s x.relocation x.row x.value (window_in l s i x.relocation x.row x.value x.rewritten)))
 
 -- the sites of an item lie in its bytes, each apart from the others
 pub sites_apart : (l : Layout) (s : Item) → All (FieldLies l.machine (length s.bytes)) s.relocations → shared_byte l s ≡ None → AreApart (length s.bytes) (sites l s)

@@ -1,5 +1,6 @@
 -- What is decided of each relocation of an item: what it writes, or why it is refused.
 --   field row v            the value v in the row's field, where that takes it
+--   reached l s r row v    the same, or for a branch that it is too far for, the distance to its thunk
 --   moved_to l s r a       the address a plus A, which moves, at the place
 --   left_to ..             the field is left to an entry with an index in the dynamic symbol table
 --   sized_to ..            where that stores an own symbol's size, it has to fit the field
@@ -8,7 +9,7 @@
 --   decided l s r          what is decided of a relocation that keeps its instruction
 --   rewritten_to l s r row what is decided of one whose instruction is rewritten by a row
 --   decide l s i           what is decided of relocation i of item s
-use Rattle.std.specs.Prelude.{ℕ, ◌+◌, ◌-◌, ◌%◌, ◌^◌, ◌==◌, ◌||◌, Bool, true, false, Option, Some, None, Result, Ok, Err, if◌then◌else◌, slice_get}
+use Rattle.std.specs.Prelude.{ℕ, ◌+◌, ◌-◌, ◌%◌, ◌^◌, ◌==◌, ◌||◌, ◌&&◌, not, Bool, true, false, Option, Some, None, Result, Ok, Err, if◌then◌else◌, slice_get}
 use Rattle.std.specs.Int.{w64, cast_unsigned}
 use Rattle.wild_types.specs.declared.fault.Fault.{Fault}
 use Rattle.wild_types.specs.declared.fault.Fault.TheVariants as faults
@@ -16,12 +17,14 @@ use Rattle.wild_types.specs.declared.fault.Missing.TheVariants as missing
 use Rattle.wild_types.specs.declared.input.InputRelocation.{InputRelocation}
 use Rattle.wild_types.specs.Item.{Item}
 use Rattle.wild_types.specs.declared.layout.Layout.{Layout}
+use Rattle.wild_types.specs.declared.layout.Thunk.{Thunk}
 use Rattle.wild_slot.specs.declared.treatment.Treatment.{Treatment}
 use Rattle.wild_slot.specs.declared.treatment.Treatment.TheVariants as treatments
 use Rattle.wild_types.specs.Lookups.{place_of, packs}
 use Rattle.wild_slot.specs.Slots.{is_replaceable}
 use Rattle.wild_slot.specs.Treatment.{flags_at, treatment}
 use Rattle.wild_reloc.specs.Field.{allows}
+use Rattle.wild_reloc.specs.Range.{contains}
 use Rattle.wild_reloc.specs.declared.info.RelocationKindInfo.{RelocationKindInfo}
 use Rattle.wild_layout.specs.declared.decision.Decision.{Decision}
 use Rattle.wild_layout.specs.declared.decision.Decision.TheVariants.{Nothing, Field, Moved, Left, Rewritten, Partner}
@@ -37,27 +40,42 @@ use Rattle.wild_relax.specs.declared.row.Row.{Row}
 use Rattle.wild_relax.specs.RewriteX86_64.{rewrite_of, info_written}
 use Rattle.wild_relax.specs.Linked.{keeps_bytes}
 use Rattle.wild_layout.specs.Choice.{choice_on, is_partner}
-use Rattle.wild_layout.specs.SymbolValues.{sum, symbol_size}
+use Rattle.wild_layout.specs.SymbolValues.{sum, less, symbol_size}
 use Rattle.wild_layout.specs.SlotValues.{address_of, index_of, decided_address}
 use Rattle.wild_layout.specs.Values.{value_in, term_at}
+use Rattle.wild_layout.specs.Thunks.{thunk_for}
 
 -- a value in the row's field, where it is in range
 abbrev pub field : RelocationKindInfo → ℕ → Result Decision Fault
 field row v = if allows row v then Ok (Field row.size v) else Err (faults.OutOfRange v)
 
+-- the addend as an entry has it, modulo 2^64
+abbrev pub added : InputRelocation → ℕ
+added r = cast_unsigned w64 r.addend
+
+-- the distance to a thunk, which has nothing to add to its target
+abbrev pub carried : InputRelocation → RelocationKindInfo → ℕ → Result Decision Fault
+carried r row distance = if contains row.range distance then (if added r == 0 then field row distance else Err (faults.ThunkAddend r.addend)) else Err (faults.ThunkOutOfRange distance)
+
+-- from place p, instead of the value v
+abbrev pub carried_by : InputRelocation → RelocationKindInfo → ℕ → ℕ → Option Thunk → Result Decision Fault
+carried_by r row p v None = Err (faults.NoThunk v)
+carried_by r row p v (Some t) = carried r row (less t.address p)
+
+-- a value; a branch out of whose range it is goes by the thunk of its symbol's definition in the item's block ("ELF for the Arm 64-bit
+-- Architecture", "Call and Jump relocations")
+unfoldable pub reached : Layout → Item → InputRelocation → RelocationKindInfo → ℕ → Result Decision Fault
+reached l s r row v = if row.thunkable && not (contains row.range v) then carried_by r row (place_of s.address r) v (thunk_for l s.thunk_block r.symbol) else field row v
+
 -- the row's value, for what A is added to
 abbrev pub field_for : Layout → Item → InputRelocation → RelocationKindInfo → Result ℕ Fault → Result Decision Fault
 field_for l s r row (Err f) = Err f
-field_for l s r row (Ok a) = field row (value_in l row a r.addend (place_of s.address r))
+field_for l s r row (Ok a) = reached l s r row (value_in l row a r.addend (place_of s.address r))
 
 -- an address that moves with the base: packed, or listed as an entry
 abbrev pub moved_to : Layout → Item → InputRelocation → Result ℕ Fault → Result Decision Fault
 moved_to l s r (Err f) = Err f
 moved_to l s r (Ok a) = Ok (Moved (sum a r.addend) (packs l (place_of s.address r)))
-
--- the addend as an entry has it, modulo 2^64
-abbrev pub added : InputRelocation → ℕ
-added r = cast_unsigned w64 r.addend
 
 -- the field is left to an entry of that number, which names symbol i by its index in the dynamic symbol table
 abbrev pub left_to : RelocationSize → ℕ → InputRelocation → ℕ → Option ℕ → Result Decision Fault
@@ -105,7 +123,7 @@ abbrev pub value_to : Layout → Item → InputRelocation → Row → Result ℕ
 value_to l s r row (Err f) = Err f
 value_to l s r row (Ok a) =
     let v = value_in l (info_written row) a ((rewrite_of row).addend r.addend) (place_to s r row) in
-    if allows (info_written row) v then Ok (if keeps_bytes row then Field (info_written row).size v else Rewritten row v) else Err (faults.OutOfRange v)
+    if keeps_bytes row then reached l s r (info_written row) v else (if allows (info_written row) v then Ok (Rewritten row v) else Err (faults.OutOfRange v))
 
 -- what is needed of the symbol to write so at place p; a kind without a value needs nothing
 abbrev pub term_to : Layout → InputRelocation → RelocationKindInfo → ℕ → Result ℕ Fault

@@ -2,6 +2,7 @@
 --   ThunkLies l t   a thunk's bytes lie in the primary part and in the image, and loaded segments carry each to its address
 --   IsOwned l b     a file writes the thunks of a block
 use Rattle.std.specs.Prelude.{◌≡◌, ℕ, ◌+◌, ◌<◌, ◌≤◌, List, Contains}
+use Rattle.wild_types.specs.declared.kind.Machine.TheVariants as machine
 use Rattle.wild_types.specs.declared.part.Part.{Part}
 use Rattle.wild_types.specs.declared.section.Segment.{Segment}
 use Rattle.wild_types.specs.declared.file.File.{File}
@@ -19,10 +20,11 @@ pub record ThunkLies (l : Layout) (t : Thunk) : Type 0 where
   pub ends : thunk_offset l t + thunk_size ≤ image_size l
   pub carried : (k : ℕ) → k < thunk_size → (h : Segment) × CarriesByte l h (thunk_offset l t + k) (t.address + k)
 
--- a file of a group writes the thunks of the block
+-- a file of a group writes the thunks of the block, which are AArch64's
 pub record IsOwned (l : Layout) (b : List Thunk) : Type 0 where
   pub group : Group
   pub file : File
   pub listed : Contains l.groups group
   pub holds : Contains group.files file
   pub own : thunks_of l file ≡ b
+  pub on : l.machine ≡ machine.AArch64

@@ -4,17 +4,22 @@
 --   thunk_bytes l t    its bytes
 --   file_thunks l f    those of the thunks that a file writes
 --   thunk_fault l t    why it is not written
-use Rattle.std.specs.Prelude.{ℕ, if◌then◌else◌, List, Option, Some, None, Result, Ok, Err}
+--   Ascend ts          they ascend by their symbols
+--   thunk_of c ts      the thunk of a symbol among these
+--   thunk_for l k i    that of a block which carries branches to symbol i
+use Rattle.std.specs.Prelude.{◌≡◌, ℕ, ◌==◌, Bool, true, ◌||◌, if◌then◌else◌, List, [], ◌∷◌, Option, Some, None, is_some, Result, Ok, Err}
 use Rattle.std.specs.List.{flat_map}
 use Rattle.wild_types.specs.declared.fault.Fault.{Fault}
 use Rattle.wild_types.specs.declared.fault.Fault.TheVariants as faults
 use Rattle.wild_types.specs.declared.file.File.{File}
 use Rattle.wild_types.specs.declared.layout.Thunk.{Thunk}
 use Rattle.wild_types.specs.declared.layout.Layout.{Layout}
-use Rattle.wild_types.specs.FileThunks.{thunks_of}
+use Rattle.wild_types.specs.FileThunks.{block_of, thunks_of}
+use Rattle.wild_types.specs.Lookups.{canonical}
+use Rattle.wild_clauses.specs.Thunks.{ascends}
 use Rattle.wild_relax.specs.ThunkAArch64.{thunk_aarch64}
 use Rattle.wild_layout.specs.SymbolValues.{raw_address}
-use Rattle.wild_layout.specs.SlotValues.{stub_of}
+use Rattle.wild_layout.specs.SlotValues.{resolution_of, stub_of}
 
 abbrev pub stub_or : Option ℕ → Result ℕ Fault → Result ℕ Fault
 stub_or (Some stub) address = Ok stub
@@ -44,3 +49,24 @@ carry_fault at (Ok target) = if (thunk_aarch64 at target).reaches then None else
 -- its symbol has neither, or the target is too far
 abbrev pub thunk_fault : Layout → Thunk → Option Fault
 thunk_fault l t = carry_fault t.address (thunk_target l t)
+
+-- ---- branches
+
+-- the symbols ascend, no two alike
+abbrev pub Ascend : List Thunk → Type 0
+Ascend ts = ascends ts ≡ true
+
+-- the thunk of symbol c
+abbrev pub thunk_of : ℕ → List Thunk → Option Thunk
+thunk_of c [] = None
+thunk_of c (t ∷ ts) = if t.symbol == c then Some t else thunk_of c ts
+
+-- references to symbol i take what its definition goes by: it is its own, or something was decided of that. Another symbol stands
+-- in its own place, to which no thunk goes
+abbrev pub goes_by_definition : Layout → ℕ → Bool
+goes_by_definition l i = canonical l i == i || is_some (resolution_of l i)
+
+-- the thunk of its definition, in a block
+abbrev pub thunk_for : Layout → ℕ → Option ℕ → Option Thunk
+thunk_for l block None = None
+thunk_for l block (Some i) = if goes_by_definition l i then thunk_of (canonical l i) (block_of l block) else None

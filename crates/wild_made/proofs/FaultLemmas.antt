@@ -28,7 +28,7 @@ use Rattle.wild_words.specs.Extents.{least_extent}
 use Rattle.wild_slot.specs.Treatment.{row_treatment, treatment}
 use Rattle.wild_layout.specs.declared.decision.Decision.TheVariants.{Field}
 use Rattle.wild_layout.specs.Choice.{choice_by, choice_of, choice_on, takes_next, is_partner}
-use Rattle.wild_layout.specs.Decide.{decided, decide}
+use Rattle.wild_layout.specs.Decide.{reached, decided, decide}
 use Rattle.wild_layout.proofs.ChoiceLemmas.{choice_is}
 use Rattle.wild_layout.proofs.DecisionLemmas.{decide_alone}
 use Rattle.wild_layout.proofs.SiteLemmas.{site_written}
@@ -146,7 +146,7 @@ abbrev call_value : ℕ → ℕ → ℕ → ℕ
 call_value n i j = displacement (start_of (callee n i j)) (negsuc 3) (place_of (made_section n i).address (made_relocation n i j))
 
 decided_made : (block : ℕ) (n i j : ℕ) → IsCount n → i < n → j < 8 → decided (made n) (item_with block (made_section n i)) (made_relocation n i j) ≡ Ok (Field (ByteSize Four) (call_value n i j))
-unfolding decided treatment row_treatment row_of x86_64_row made_section made bit has_flag
+unfolding reached decided treatment row_treatment row_of x86_64_row made_section made bit has_flag
 decided_made block n i j h low call =
     let some = h.some in
     let named : callee n i j < n = omega arith in

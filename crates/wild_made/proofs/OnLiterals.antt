@@ -25,7 +25,7 @@ use Rattle.wild_clauses.specs.Copies.{are_below}
 use Rattle.wild_clauses.specs.ClauseTests.{check_sizes, check_counts, check_order, check_roles, check_sections, check_entries, check_segments, check_shares, check_inputs, check_indexes, check_fields, check_slots, check_thunks, check_dynsyms, check_slot_flags, check_tls, check_starts, check_hashes, check_versions, check_names}
 use Rattle.wild_layout.specs.Sites.{site, section_bytes}
 use Rattle.wild_layout.specs.Choice.{choice_by, choice_around_by}
-use Rattle.wild_layout.specs.Decide.{decided, decide}
+use Rattle.wild_layout.specs.Decide.{reached, decided, decide}
 use Rattle.wild_layout.specs.Faults.{relocation_errors, section_errors, slot_errors, thunk_errors, file_errors, listed_errors, table_errors, group_errors, errors}
 use Rattle.wild_symbols.specs.TableEntries.{table_fields}
 use Rattle.wild_relax.specs.RowSequences.{is_partner, has_its_sequence}
@@ -33,7 +33,7 @@ use Rattle.wild_relax.specs.ByNumber.{rows_with}
 use Rattle.wild_relax.specs.Question.{minus_four, zero}
 use Rattle.wild_relax.specs.Pattern.{stands_at, stands_before}
 use Rattle.wild_relax.specs.Rows.{rows_x86_64, applies, standing_x86_64, chosen_x86_64}
-use Rattle.wild_relax.specs.RowsAArch64.{rows_aarch64, rows_with_aarch64, standing_aarch64, chosen_aarch64, branch_aarch64}
+use Rattle.wild_relax.specs.RowsAArch64.{rows_aarch64, rows_with_aarch64, standing_aarch64, chosen_aarch64}
 use Rattle.wild_relax.specs.SequenceAArch64.{is_among}
 use Rattle.wild_relr.specs.Packed.{packed_on, packed, bitmaps, block, counted}
 
@@ -44,5 +44,5 @@ clauses_on_literals = tt
 
 -- and to compute its faults
 unfoldable pub errors_on_literals : ⊤
-unfolding clauses_on_literals site section_bytes choice_by choice_around_by decided decide relocation_errors section_errors slot_errors thunk_errors file_errors listed_errors table_errors group_errors errors table_fields is_partner has_its_sequence rows_with minus_four zero stands_at stands_before applies rows_x86_64 standing_x86_64 chosen_x86_64 rows_aarch64 rows_with_aarch64 standing_aarch64 chosen_aarch64 branch_aarch64 is_among
+unfolding clauses_on_literals site section_bytes choice_by choice_around_by reached decided decide relocation_errors section_errors slot_errors thunk_errors file_errors listed_errors table_errors group_errors errors table_fields is_partner has_its_sequence rows_with minus_four zero stands_at stands_before applies rows_x86_64 standing_x86_64 chosen_x86_64 rows_aarch64 rows_with_aarch64 standing_aarch64 chosen_aarch64 is_among
 errors_on_literals = tt

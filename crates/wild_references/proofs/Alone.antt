@@ -37,7 +37,7 @@ use Rattle.wild_loader.specs.declared.world.World.{World}
 use Rattle.wild_meaning.specs.Field.{formula_of, form_width}
 use Rattle.wild_meaning.specs.Formula.{TakesAddress, TakesOffset}
 use Rattle.wild_types.specs.Item.{Item}
-use Rattle.wild_meaning.specs.Reference.{IsLeftToLoader, IsStubbed, TakesItself, IsLinkedAlone}
+use Rattle.wild_meaning.specs.Reference.{IsLeftToLoader, IsStubbed, TakesItself, GoesByStub, IsLinkedAlone}
 use Rattle.wild_meaning.specs.Section.{IsSet}
 use Rattle.wild_meaning.specs.Value.{HasFlag, IsReplaceable, may_be_replaced}
 use Rattle.wild_meaning.proofs.BitLemmas.{write_bit, bit_write}
@@ -175,13 +175,13 @@ takes_cases FromTable = inr (inl (λ o. o, tt))
 takes_cases other = inr (inr (λ o. o, λ a. a))
 
 -- one that is not the own symbol's alone is right whichever module has the symbol
-pub followed : (l : Layout) (w : World) (m : Memory) (s : Item) (r : InputRelocation) (f : Formula) → IsPlaced l w m → NamesSymbol l r → formula_of l.machine r.number ≡ Some f → ((i : ℕ) → r.symbol ≡ Some i → IsLeftToLoader l s i f → ⊥) → (IsLinkedAlone l s r → ⊥) → IsFollowed l r f.value
-followed l w m s r f p listed known kept alone = λ i named.
+pub followed : (l : Layout) (w : World) (m : Memory) (s : Item) (r : InputRelocation) (f : Formula) → IsPlaced l w m → NamesSymbol l r → formula_of l.machine r.number ≡ Some f → ((i : ℕ) → r.symbol ≡ Some i → IsLeftToLoader l s i f → ⊥) → ((i : ℕ) → r.symbol ≡ Some i → IsReplaceable l i true → GoesByStub l s r → ⊥) → (IsLinkedAlone l s r → ⊥) → IsFollowed l r f.value
+followed l w m s r f p listed known kept direct alone = λ i named.
     let z = slice_get_inside l.symbols i (listed i named) in
     by_whose i named (may_be_replaced l.kind (flags_at l i)) (replaceable_at l i z.0 p.symbols.named z.1)
   where
     linked : (i : ℕ) → r.symbol ≡ Some i → IsReplaceable l i true → TakesItself l s i f → IsLinkedAlone l s r
-    linked i named whose takes = record { symbol = i; named = named; replaceable = whose; formula = f; known = known; takes = takes }
+    linked i named whose takes = record { symbol = i; named = named; replaceable = whose; formula = f; known = known; takes = takes; direct = direct i named whose }
 
     by_address : (i : ℕ) → r.symbol ≡ Some i → IsReplaceable l i true → (TakesOffset f.value → ⊥) → TakesAddress f.value → IsStubbed l i ⊎ (IsStubbed l i → ⊥) → IsReplaceable l i false ⊎ (((TakesOffset f.value → ⊥) × (TakesAddress f.value → ⊥)) ⊎ ((TakesOffset f.value → ⊥) × IsStubbed l i))
     by_address i named whose offset address (inl stubbed) = inr (inr (offset, stubbed))
@@ -204,6 +204,14 @@ same_formula l r f g a b = let e : Some f ≡ Some g = sym a ∙ b in cc
 -- what a reference takes that is the own symbol's alone, by the formula that is known
 pub taken : (l : Layout) (s : Item) (r : InputRelocation) (f : Formula) → formula_of l.machine r.number ≡ Some f → (a : IsLinkedAlone l s r) → TakesItself l s a.symbol f
 taken l s r f known a = subst (λ (g : Formula). TakesItself l s a.symbol g) (same_formula l r a.formula f a.known known) a.takes
+
+-- an expression that takes neither is none of these
+pub takes_none : (l : Layout) (s : Item) (r : InputRelocation) (f : Formula) → formula_of l.machine r.number ≡ Some f → (TakesOffset f.value → ⊥) → (TakesAddress f.value → ⊥) → IsLinkedAlone l s r → ⊥
+takes_none l s r f known offset address a = by_takes (taken l s r f known a)
+  where
+    by_takes : TakesItself l s a.symbol f → ⊥
+    by_takes (inl o) = offset o
+    by_takes (inr t) = address t.0
 
 itself_by : (l : Layout) (s : Item) (i : ℕ) (f : Formula) (v : Value) → f.value ≡ v → (TakesOffset v → ⊥) → TakesItself l s i f → TakesAddress v × (IsLeftToLoader l s i f → ⊥)
 itself_by l s i f v e no_offset (inl offset) = absurd (no_offset (subst TakesOffset e offset))

@@ -23,9 +23,10 @@ use Rattle.wild_reloc.specs.declared.info.RelocationSize.{RelocationSize}
 use Rattle.wild_reloc.specs.Expression.{taken_of}
 use Rattle.wild_reloc.specs.declared.expression.Taken.{Taken}
 use Rattle.wild_reloc.specs.declared.expression.Taken.TheVariants as taken
-use Rattle.wild_layout.specs.Values.{value_less}
+use Rattle.wild_layout.specs.Values.{value_less, value_in}
 use Rattle.wild_layout.specs.Sites.{field_site}
 use Rattle.wild_layout.proofs.DecideLemmas.{HasField, field_has_bytes}
+use Rattle.wild_layout.proofs.ReachedLemmas.{ComesTo}
 use Rattle.wild_layout.proofs.SiteLemmas.{field_lies}
 use Rattle.wild_layout.specs.SectionPlaces.{FieldLies}
 use Rattle.wild_layout.specs.Geometry.{NamesSymbol}
@@ -39,7 +40,8 @@ use Rattle.wild_loader.specs.Memory.{Holds}
 use Rattle.wild_geometry.specs.MachineFacts.{RowsAreRead}
 use Rattle.wild_geometry.specs.Loaded.{InMemory, ReadsLeft, HasItem}
 use Rattle.wild_references.specs.Terms.{IsPlaced}
-use Rattle.wild_references.specs.Laws.{TermGives, TermGivesLinked, SlotsGive, PartsGive, PartsGiveLinked, HasBytes, AddressesGive, AddressesGiveLinked, EntriesGive}
+use Rattle.wild_references.specs.Laws.{TermGives, TermGivesLinked, StubsStand, SlotsGive, PartsGive, PartsGiveLinked, HasBytes, AddressesGive, AddressesGiveLinked, EntriesGive}
+use Rattle.wild_references.specs.Thunks.{EachThunkGoesOn, ThunksGive}
 use Rattle.wild_references.proofs.KnownRows.{RowFits}
 use Rattle.wild_references.proofs.LowForms.{is_low, reads_low}
 use Rattle.wild_references.proofs.Written.{IsValue, IsAddress, IsLeftField}
@@ -87,6 +89,8 @@ pub record Tables : Type 0 where
 pub record KindLaws : Type 0 where
   pub symbol : TermGives term.Symbol
   pub stub : TermGives term.Stub
+  pub stands : StubsStand
+  pub thunk : ThunksGive
   pub slot : SlotsGive
   pub part : PartsGive
   pub table : TermGives term.Table
@@ -110,6 +114,7 @@ pub record IsItemLoaded (l : Layout) (w : World) (m : Memory) (s : Item) : Type 
   pub kinds : KindLaws
   pub linked : LinkedLaws
   pub placed : IsPlaced l w m
+  pub thunks : EachThunkGoesOn l w m
   pub room : allocated s.flags ≡ true
   pub symbols : All (NamesSymbol l) s.relocations
   pub addends : All AddendFits s.relocations
@@ -191,6 +196,11 @@ less_below l taken.PageTable s p a = omega arith
 pub below_all : (l : Layout) (less : Taken) (s p v : ℕ) (a : ℤ) → value_less l less s a p ≡ v → v < 2 ^ 64
 below_all l less s p v a e = subst (λ (n : ℕ). n < 2 ^ 64) e (less_below l less s p a)
 
+-- and so is what is written for it
+pub comes_low : (l : Layout) (s : Item) (r : InputRelocation) (row : RelocationKindInfo) (term v : ℕ) → ComesTo l s r row (value_in l row term r.addend (place_of s.address r)) v → v < 2 ^ 64
+comes_low l s r row term v (inl same) = below_all l (taken_of row.kind row.mask) term (place_of s.address r) v r.addend same
+comes_low l s r row term v (inr c) = (let e = c.distance in omega (arith, e))
+
 -- a field has all of the value, or the bits below the page of a number
 abbrev pub SeenAs : Form → (v x : ℕ) → Type 0
 SeenAs form v x = (v ≡ x) ⊎ ((is_low form ≡ true) × (x % 4096 ≡ v % 4096))
@@ -202,7 +212,7 @@ seen_reads form bs v x (inr p) h = reads_low form bs v x p.0 h (sym p.1)
 pub value_reads : (l : Layout) (w : World) (m : Memory) (s : Item) (i : ℕ) (r : InputRelocation) (x : ℕ) → (h : IsItemLoaded l w m s) → (v : IsValue l s i r) → SeenAs v.fits.formula.form v.value x → FieldReads w m s r v.fits.formula.form x
 value_reads l w m s i r x h v seen =
     let f = v.field in
-    let low = below_all l (taken_of f.row.kind f.row.mask) f.term (place_of s.address r) v.value r.addend f.value in
+    let low = comes_low l s r f.row f.term v.value f.comes in
     let held = h.item.values i r v.size v.value v.plain.has in
     let field : HasField l r f.row.size = record { row = f.row; known = f.known; kind = f.kind; size = refl } in
     let old = old_field s r f.row in

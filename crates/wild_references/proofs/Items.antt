@@ -3,7 +3,6 @@ use Rattle.std.proofs.Common.{◌≡◌, ℕ, suc, inl, inr, ap, ◌∙◌, arit
 use Rattle.std.specs.Prelude.{Some, Contains}
 use Rattle.std.proofs.lemmas.Option.{slice_get-get_or}
 use Rattle.wild_types.specs.declared.kind.Machine.{Machine}
-use Rattle.wild_types.specs.declared.kind.Machine.TheVariants as machine
 use Rattle.wild_types.specs.declared.input.InputRelocation.{InputRelocation}
 use Rattle.wild_types.specs.declared.layout.Layout.{Layout}
 use Rattle.wild_layout.specs.declared.decision.Decision.{Decision}
@@ -16,7 +15,6 @@ use Rattle.wild_types.specs.Item.{Item}
 use Rattle.wild_meaning.specs.Item.{IsReference}
 use Rattle.wild_meaning.specs.Reference.{IsAsked, IsLinkedAlone, IsTakenAlong, HoldsRewritten, LinkedHolds, ReferenceHolds}
 use Rattle.wild_references.specs.EffectLaws.{RewrittenHold, PartnersHold, RewrittenAreFollowed, InstructionsAreKept, OthersAreKept, KeptInstructionsDo, ItemsHold}
-use Rattle.wild_references.proofs.KeptAArch64.{keeps}
 
 record AreKnown : Type 0 where
   rewritten : RewrittenHold
@@ -55,13 +53,13 @@ plain k machine l w m s g f r is asked alone i d has keeps =
 partner_holds : (l : Layout) (w : World) (m : Memory) (s : Item) (r : InputRelocation) → IsTakenAlong l w m s r → HoldsRewritten l w m s r
 partner_holds l w m s r t = record { start = t.start; instruction = t.instruction; first = t.first; template = inr (record { rest = t.rest; sequence = t.sequence; one = (let lt = t.one.1 in (suc t.one.0, omega (arith, lt), t.one.2)) }); does = t.does; words = t.words }
 
-by_decision : (k : AreKnown) (l : Layout) (w : World) (m : Memory) (s : Item) → IsLoadedItem machine.X86_64 l w m s → FieldsHold l w m s → (r : InputRelocation) → IsReference s r → IsAsked l w s r → (IsLinkedAlone l s r → ⊥) → (i : ℕ) (d : Decision) → HasDecision l s i r d → ReferenceHolds l w m s r
-by_decision k l w m s g f r is asked alone i Nothing has = plain k machine.X86_64 l w m s g f r is asked alone i Nothing has tt
-by_decision k l w m s g f r is asked alone i (Field z v) has = plain k machine.X86_64 l w m s g f r is asked alone i (Field z v) has tt
-by_decision k l w m s g f r is asked alone i (Moved v packed) has = plain k machine.X86_64 l w m s g f r is asked alone i (Moved v packed) has tt
-by_decision k l w m s g f r is asked alone i (Left z number symbol addend) has = plain k machine.X86_64 l w m s g f r is asked alone i (Left z number symbol addend) has tt
-by_decision k l w m s g f r is asked alone i (Rewritten row v) has = inr (k.rewritten l w m s g i r row v has asked)
-by_decision k l w m s g f r is asked alone i Partner has = inr (partner_holds l w m s r (k.partners l w m s g i r has))
+by_decision : (k : AreKnown) (machine : Machine) (l : Layout) (w : World) (m : Memory) (s : Item) → IsLoadedItem machine l w m s → FieldsHold l w m s → (r : InputRelocation) → IsReference s r → IsAsked l w s r → (IsLinkedAlone l s r → ⊥) → (i : ℕ) (d : Decision) → HasDecision l s i r d → ReferenceHolds l w m s r
+by_decision k machine l w m s g f r is asked alone i Nothing has = plain k machine l w m s g f r is asked alone i Nothing has tt
+by_decision k machine l w m s g f r is asked alone i (Field z v) has = plain k machine l w m s g f r is asked alone i (Field z v) has tt
+by_decision k machine l w m s g f r is asked alone i (Moved v packed) has = plain k machine l w m s g f r is asked alone i (Moved v packed) has tt
+by_decision k machine l w m s g f r is asked alone i (Left z number symbol addend) has = plain k machine l w m s g f r is asked alone i (Left z number symbol addend) has tt
+by_decision k machine l w m s g f r is asked alone i (Rewritten row v) has = inr (k.rewritten machine l w m s g i r row v has asked)
+by_decision k machine l w m s g f r is asked alone i Partner has = inr (partner_holds l w m s r (k.partners machine l w m s g i r has))
 
 linked_plain : (k : AreKnown) (machine : Machine) (l : Layout) (w : World) (m : Memory) (s : Item) → IsLoadedItem machine l w m s → FieldsHold l w m s → (r : InputRelocation) → IsReference s r → IsLinkedAlone l s r → w.base ≡ 0 → (i : ℕ) (d : Decision) → HasDecision l s i r d → KeepsInstruction d → LinkedHolds l w m s r
 linked_plain k machine l w m s g f r is alone zero i d has keeps =
@@ -75,28 +73,20 @@ linked_plain k machine l w m s g f r is alone zero i d has keeps =
       kept = k.kept machine l w m s g i r d has keeps;
     })
 
-linked_by : (k : AreKnown) (l : Layout) (w : World) (m : Memory) (s : Item) → IsLoadedItem machine.X86_64 l w m s → FieldsHold l w m s → (r : InputRelocation) → IsReference s r → IsLinkedAlone l s r → w.base ≡ 0 → (i : ℕ) (d : Decision) → HasDecision l s i r d → LinkedHolds l w m s r
-linked_by k l w m s g f r is alone zero i Nothing has = linked_plain k machine.X86_64 l w m s g f r is alone zero i Nothing has tt
-linked_by k l w m s g f r is alone zero i (Field z v) has = linked_plain k machine.X86_64 l w m s g f r is alone zero i (Field z v) has tt
-linked_by k l w m s g f r is alone zero i (Moved v packed) has = linked_plain k machine.X86_64 l w m s g f r is alone zero i (Moved v packed) has tt
-linked_by k l w m s g f r is alone zero i (Left z number symbol addend) has = linked_plain k machine.X86_64 l w m s g f r is alone zero i (Left z number symbol addend) has tt
-linked_by k l w m s g f r is alone zero i (Rewritten row v) has = absurd (k.followed l s i r row v has alone)
-linked_by k l w m s g f r is alone zero i Partner has = inr (inr (k.partners l w m s g i r has))
+linked_by : (k : AreKnown) (machine : Machine) (l : Layout) (w : World) (m : Memory) (s : Item) → IsLoadedItem machine l w m s → FieldsHold l w m s → (r : InputRelocation) → IsReference s r → IsLinkedAlone l s r → w.base ≡ 0 → (i : ℕ) (d : Decision) → HasDecision l s i r d → LinkedHolds l w m s r
+linked_by k machine l w m s g f r is alone zero i Nothing has = linked_plain k machine l w m s g f r is alone zero i Nothing has tt
+linked_by k machine l w m s g f r is alone zero i (Field z v) has = linked_plain k machine l w m s g f r is alone zero i (Field z v) has tt
+linked_by k machine l w m s g f r is alone zero i (Moved v packed) has = linked_plain k machine l w m s g f r is alone zero i (Moved v packed) has tt
+linked_by k machine l w m s g f r is alone zero i (Left z number symbol addend) has = linked_plain k machine l w m s g f r is alone zero i (Left z number symbol addend) has tt
+linked_by k machine l w m s g f r is alone zero i (Rewritten row v) has = absurd (k.followed l s i r row v has alone)
+linked_by k machine l w m s g f r is alone zero i Partner has = inr (inr (k.partners machine l w m s g i r has))
 
 pub items : RewrittenHold → PartnersHold → RewrittenAreFollowed → InstructionsAreKept → KeptInstructionsDo → OthersAreKept → ItemsHold
 items rewritten partners followed kept does others on l w m s g f = record {
-  references = λ r is asked alone. (let at = at_index on l w m s r g is.listed in reference on g f r is asked alone at.index at.decision at.has);
-  linked = λ r is alone zero. (let at = at_index on l w m s r g is.listed in own on g f r is alone zero at.index at.decision at.has);
+  references = λ r is asked alone. (let at = at_index on l w m s r g is.listed in by_decision k on l w m s g f r is asked alone at.index at.decision at.has);
+  linked = λ r is alone zero. (let at = at_index on l w m s r g is.listed in linked_by k on l w m s g f r is alone zero at.index at.decision at.has);
   others = others on l w m s g;
 }
   where
     k : AreKnown
     k = record { rewritten = rewritten; partners = partners; followed = followed; kept = kept; does = does; others = others }
-
-    reference : (on : Machine) → IsLoadedItem on l w m s → FieldsHold l w m s → (r : InputRelocation) → IsReference s r → IsAsked l w s r → (IsLinkedAlone l s r → ⊥) → (i : ℕ) (d : Decision) → HasDecision l s i r d → ReferenceHolds l w m s r
-    reference machine.X86_64 g f r is asked alone i d has = by_decision k l w m s g f r is asked alone i d has
-    reference machine.AArch64 g f r is asked alone i d has = plain k machine.AArch64 l w m s g f r is asked alone i d has (keeps l s i r d g.on has)
-
-    own : (on : Machine) → IsLoadedItem on l w m s → FieldsHold l w m s → (r : InputRelocation) → IsReference s r → IsLinkedAlone l s r → w.base ≡ 0 → (i : ℕ) (d : Decision) → HasDecision l s i r d → LinkedHolds l w m s r
-    own machine.X86_64 g f r is alone zero i d has = linked_by k l w m s g f r is alone zero i d has
-    own machine.AArch64 g f r is alone zero i d has = linked_plain k machine.AArch64 l w m s g f r is alone zero i d has (keeps l s i r d g.on has)

@@ -11,7 +11,7 @@ use Rattle.wild_words.proofs.WordLemmas.{length-word}
 use Rattle.wild_words.proofs.ListLemmas.{All-flat_map, holds_at}
 use Rattle.wild_words.proofs.Basics.{listed_passes}
 use Rattle.wild_words.proofs.OrderLemmas.{Outside}
-use Rattle.wild_records.specs.Abi.Relocation.{r_x86_64_none}
+use Rattle.wild_records.specs.Abi.Relocation.{r_x86_64_none, r_aarch64_tlsdesc_adr_page21}
 use Rattle.wild_types.specs.declared.kind.Machine.{Machine}
 use Rattle.wild_types.specs.declared.kind.Machine.TheVariants as machine
 use Rattle.wild_types.specs.declared.input.InputRelocation.{InputRelocation}
@@ -29,35 +29,37 @@ use Rattle.wild_relax.specs.Pattern.{cells_of, field_of}
 use Rattle.wild_relax.specs.RowSequences.{partner_distance, call_form}
 use Rattle.wild_relax.specs.Rows.{rows_x86_64}
 use Rattle.wild_relax.specs.Linked.{pattern_of, pattern_size, keeps_bytes}
+use Rattle.wild_relax.specs.RowsAArch64.{rows_aarch64}
 use Rattle.wild_relax.specs.Section.{ChosenAreWhole}
+use Rattle.wild_relax.specs.TogetherAArch64.{RowsStandTogether}
 use Rattle.wild_layout.specs.declared.decision.Decision.{Decision}
 use Rattle.wild_layout.specs.declared.decision.Decision.TheVariants.{Nothing, Field, Moved, Left, Rewritten, Partner}
 use Rattle.wild_layout.specs.Choice.{question_of}
 use Rattle.wild_layout.specs.Sites.{field_site, template_start, template_site, site_for, site}
 use Rattle.wild_layout.proofs.ChoiceLemmas.{chosen_listed}
-use Rattle.wild_layout.proofs.DecisionLemmas.{IsRewritten, decide_rewritten}
-use Rattle.wild_layout.proofs.SiteLemmas.{All-one}
+use Rattle.wild_layout.proofs.DecisionLemmas.{IsRewritten, rewritten_x86_64, decide_rewritten}
+use Rattle.wild_layout.proofs.SiteLemmas.{All-one, window_in, length-template_site}
 use Rattle.wild_loader.specs.Memory.{Holds}
 use Rattle.wild_loader.specs.declared.memory.Memory.{Memory}
 use Rattle.wild_loader.specs.declared.world.World.{World}
 use Rattle.wild_geometry.specs.Loaded.{IsDecided, InNoSite, InMemory, number_at, HasDecision}
-use Rattle.wild_geometry.specs.MachineFacts.{RowsAreRead}
 use Rattle.wild_references.specs.Laws.{KeepsInstruction, IsKeptReference, IsLoadedItem}
-use Rattle.wild_references.proofs.KnownRows.{row_fits}
+use Rattle.wild_references.proofs.KnownRows.{formula_there}
 use Rattle.wild_references.proofs.SequenceParts.{in_sequence}
-use Rattle.wild_references.proofs.KeptAArch64.{run_is_kept}
+use Rattle.wild_references.proofs.SinglesAArch64.{is_word, no_own_byte_of_word}
+use Rattle.wild_references.proofs.RunWords.{IsRun, is_run_of}
+use Rattle.wild_references.proofs.RewrittenSequences.{no_own_byte, no_own_byte_of_address}
+use Rattle.wild_references.proofs.KeptAArch64.{not_between, run_is_kept, call_is_kept}
 use Rattle.wild_loader.specs.Instruction as code
 use Rattle.wild_types.specs.Item.{Item}
-use Rattle.wild_meaning.specs.Item.{IsReference}
 use Rattle.wild_meaning.specs.Field.{formula_of, form_width, InNoField, IsInputByte}
 use Rattle.wild_meaning.specs.Sequence.{Partner as CallField, Instruction, size_of, IsOwnByte, instructions_of}
 use Rattle.wild_meaning.specs.Template.{IsInstruction, IsSingle, IsOfSequence, IsTemplate}
-use Rattle.wild_meaning.specs.Reference.{IsOther}
 use Rattle.wild_meaning.proofs.PairLemmas.{IsDouble, as_double, PairOf, as_pair, only_one, one_of_two}
 use Rattle.wild_references.specs.EffectLaws.{IsBesideField, RewrittenStand, InstructionsAreKept, IsKeptAt, SequencesAreKept, OthersAreKept}
 use Rattle.wild_references.proofs.WindowRows.{width_by, width_of, call_width, call_width_is}
 use Rattle.wild_references.proofs.WindowSites.{site_is}
-use Rattle.wild_references.proofs.WindowFields.{partner_there, kept_field, kept_width, window_is}
+use Rattle.wild_references.proofs.WindowFields.{partner_there, kept_field, kept_width}
 use Rattle.wild_layout.proofs.DecideLemmas.{HasField}
 use Rattle.wild_references.proofs.Windows.{formula_width, order, windows_are_alone}
 use Rattle.wild_references.proofs.Clash.{is_free, are_calls, pair_ok, row_ok, each_row_ok, IsUncovered, apart_templates}
@@ -81,25 +83,27 @@ no_field_at l s x j q x86 out listed = by (x86_64_formula q.number) refl
         let known : formula_of l.machine q.number ≡ Some f = subst (λ (m : Machine). formula_of m q.number ≡ Some f) (sym x86) e in
         subst (λ (n : ℕ). (x < q.offset) ⊎ (q.offset + n ≤ x)) (formula_width l q.number f x86 known) (there f known)
 
--- what relocations write leaves it out, but for instructions
-field_outside : (s : Item) (x : ℕ) (q : InputRelocation) (z : RelocationSize) (v : ℕ) → width_of q.number ≡ size_width z → (x < q.offset) ⊎ (q.offset + width_of q.number ≤ x) → All (Outside x) (field_site s q.offset z v ∷ [])
-field_outside s x q z v width out =
+-- what a relocation writes over its field leaves it out
+field_outside : (l : Layout) (s : Item) (x j : ℕ) (q : InputRelocation) (z : RelocationSize) (v : ℕ) → InNoField l s x → slice_get s.relocations j ≡ Some q → HasField l q z → All (Outside x) (field_site s q.offset z v ∷ [])
+field_outside l s x j q z v out listed h =
+    let f = formula_there l.machine q.number h.row h.known in
+    let width : form_width f.0.form ≡ size_width z = f.2 ∙ ap size_width h.size in
     let long = length-size_written z v (slice_range s.bytes q.offset (q.offset + size_width z)) in
-    All-one (Outside x) (field_site s q.offset z v) (elim out [ inl low ↦ inl low | inr high ↦ inr (omega (arith, high, width, long)) ])
+    let there = holds_at (λ (r : InputRelocation). (f : Formula) → formula_of l.machine r.number ≡ Some f → (x < r.offset) ⊎ (r.offset + form_width f.form ≤ x)) s.relocations j q listed out f.0 f.1 in
+    All-one (Outside x) (field_site s q.offset z v) (elim there [ inl low ↦ inl low | inr high ↦ inr (omega (arith, high, width, long)) ])
 
 -- each instruction that is rewritten leaves the byte out
 abbrev pub OutOfWindows : Layout → Item → ℕ → Type 0
 OutOfWindows l s x = (j : ℕ) (q : InputRelocation) (row : Row) (v : ℕ) → HasDecision l s j q (Rewritten row v) → (x < template_start row q) ⊎ (template_start row q + pattern_size row ≤ x)
 
-decision_outside : (l : Layout) (s : Item) (x j : ℕ) (q : InputRelocation) (d : Decision) → l.machine ≡ machine.X86_64 → InNoField l s x → OutOfWindows l s x → HasDecision l s j q d → All (Outside x) (site_for s q d)
-decision_outside l s x j q Nothing x86 out windows h = All-nil (Outside x)
-decision_outside l s x j q Partner x86 out windows h = All-nil (Outside x)
-decision_outside l s x j q (Field z v) x86 out windows h = field_outside s x q z v (kept_width l s j q (Field z v) x86 h tt) (no_field_at l s x j q x86 out h.listed)
-decision_outside l s x j q (Moved v packed) x86 out windows h = field_outside s x q (ByteSize Eight) (if packed then v else 0) (kept_width l s j q (Moved v packed) x86 h tt) (no_field_at l s x j q x86 out h.listed)
-decision_outside l s x j q (Left z n symbol addend) x86 out windows h = field_outside s x q z 0 (kept_width l s j q (Left z n symbol addend) x86 h tt) (no_field_at l s x j q x86 out h.listed)
-decision_outside l s x j q (Rewritten row v) x86 out windows h =
-    let w = window_is l s j q row v h in
-    let long = w.long in
+decision_outside : (l : Layout) (s : Item) (x j : ℕ) (q : InputRelocation) (d : Decision) → InNoField l s x → OutOfWindows l s x → HasDecision l s j q d → All (Outside x) (site_for s q d)
+decision_outside l s x j q Nothing out windows h = All-nil (Outside x)
+decision_outside l s x j q Partner out windows h = All-nil (Outside x)
+decision_outside l s x j q (Field z v) out windows h = field_outside l s x j q z v out h.listed (kept_field l s j q (Field z v) h tt)
+decision_outside l s x j q (Moved v packed) out windows h = field_outside l s x j q (ByteSize Eight) (if packed then v else 0) out h.listed (kept_field l s j q (Moved v packed) h tt)
+decision_outside l s x j q (Left z n symbol addend) out windows h = field_outside l s x j q z 0 out h.listed (kept_field l s j q (Left z n symbol addend) h tt)
+decision_outside l s x j q (Rewritten row v) out windows h =
+    let long = length-template_site s q row v (window_in l s j q row v (decide_rewritten l s j q row v h.listed h.decided)) in
     All-one (Outside x) (template_site s q row v) (elim (windows j q row v h) [ inl low ↦ inl low | inr high ↦ inr (omega (arith, high, long)) ])
 
 no_relocation : InputRelocation
@@ -122,59 +126,14 @@ in_none l s x whole each = All-flat_map (Outside x) (site l s) (range_with_len 0
         let is : get_or (range_with_len 0 (length s.relocations)) n d ≡ n = get_or-range_with_len 0 (length s.relocations) n d (omega (arith, lt, long)) ∙ omega arith in
         subst (λ (j : ℕ). All (Outside x) (site l s j)) (sym is) (at n (omega (arith, lt, long)))
 
-in_no_site : (l : Layout) (s : Item) (x : ℕ) → l.machine ≡ machine.X86_64 → IsDecided l s → InNoField l s x → OutOfWindows l s x → InNoSite l s x
-in_no_site l s x x86 whole out windows = in_none l s x whole (λ j q d h. decision_outside l s x j q d x86 out windows h)
+in_no_site : (l : Layout) (s : Item) (x : ℕ) → IsDecided l s → InNoField l s x → OutOfWindows l s x → InNoSite l s x
+in_no_site l s x whole out windows = in_none l s x whole (λ j q d h. decision_outside l s x j q d out windows h)
 
 -- such a byte is the input's
-pub input_byte : (l : Layout) (w : World) (m : Memory) (s : Item) (x : ℕ) → IsLoadedItem machine.X86_64 l w m s → x < length s.bytes → InNoField l s x → OutOfWindows l s x → IsInputByte w m s x
-input_byte l w m s x h lt out windows = h.item.others x lt (in_no_site l s x h.on h.decided out windows)
-
--- ---- AArch64, where no row stands
-
--- a field leaves out what the reader's formula does
-formula_outside : RowsAreRead → (l : Layout) (s : Item) (x j : ℕ) (q : InputRelocation) (z : RelocationSize) (v : ℕ) → InNoField l s x → slice_get s.relocations j ≡ Some q → HasField l q z → All (Outside x) (field_site s q.offset z v ∷ [])
-formula_outside agree l s x j q z v out listed h =
-    let f = row_fits agree l.machine q.number h.row h.known h.kind in
-    let width : form_width f.formula.form ≡ size_width z = sym f.width ∙ ap size_width h.size in
-    let long = length-size_written z v (slice_range s.bytes q.offset (q.offset + size_width z)) in
-    let there = holds_at (λ (r : InputRelocation). (f : Formula) → formula_of l.machine r.number ≡ Some f → (x < r.offset) ⊎ (r.offset + form_width f.form ≤ x)) s.relocations j q listed out f.formula f.known in
-    All-one (Outside x) (field_site s q.offset z v) (elim there [ inl low ↦ inl low | inr high ↦ inr (omega (arith, high, width, long)) ])
-
-word_outside : RowsAreRead → (l : Layout) (s : Item) (x j : ℕ) (q : InputRelocation) (d : Decision) → l.machine ≡ machine.AArch64 → InNoField l s x → HasDecision l s j q d → All (Outside x) (site_for s q d)
-word_outside agree l s x j q Nothing on out h = All-nil (Outside x)
-word_outside agree l s x j q Partner on out h = All-nil (Outside x)
-word_outside agree l s x j q (Field z v) on out h = formula_outside agree l s x j q z v out h.listed (kept_field l s j q (Field z v) h tt)
-word_outside agree l s x j q (Moved v packed) on out h = formula_outside agree l s x j q (ByteSize Eight) (if packed then v else 0) out h.listed (kept_field l s j q (Moved v packed) h tt)
-word_outside agree l s x j q (Left z n symbol addend) on out h = formula_outside agree l s x j q z 0 out h.listed (kept_field l s j q (Left z n symbol addend) h tt)
-word_outside agree l s x j q (Rewritten row v) on out h =
-    let made = decide_rewritten l s j q row v h.listed h.decided in
-    let x86 = made.chosen.machine in
-    let both : machine.AArch64 ≡ machine.X86_64 = sym on ∙ x86 in
-    cc
-
--- a byte in no field is the input's
-word_byte : RowsAreRead → (l : Layout) (w : World) (m : Memory) (s : Item) → IsLoadedItem machine.AArch64 l w m s → (x : ℕ) → x < length s.bytes → InNoField l s x → IsInputByte w m s x
-word_byte agree l w m s h x lt out = h.item.others x lt (in_none l s x h.decided (λ j q d has. word_outside agree l s x j q d h.on out has))
-
--- so are an instruction's own
-words_kept : RowsAreRead → (l : Layout) (w : World) (m : Memory) (s : Item) → IsLoadedItem machine.AArch64 l w m s → (r : InputRelocation) (start : ℕ) (o : Instruction) (first : InputRelocation) → IsTemplate l s r start o first → (k : ℕ) → IsOwnByte o k → IsInputByte w m s (start + k)
-words_kept agree l w m s h r start o first template k own = by_template template
-  where
-    stands : (q : InputRelocation) → IsInstruction l s q start o → IsInputByte w m s (start + k)
-    stands q t =
-        let inside = t.inside in
-        let lt = own.inside in
-        word_byte agree l w m s h (start + k) (omega (arith, inside, lt)) (t.alone k own)
-
-    by_template : IsTemplate l s r start o first → IsInputByte w m s (start + k)
-    by_template (inl t) = stands r t.0.stands
-    by_template (inr t) = stands first t.sequence.stands
+pub input_byte : (k : Machine) (l : Layout) (w : World) (m : Memory) (s : Item) (x : ℕ) → IsLoadedItem k l w m s → x < length s.bytes → InNoField l s x → OutOfWindows l s x → IsInputByte w m s x
+input_byte k l w m s x h lt out windows = h.item.others x lt (in_no_site l s x h.decided out windows)
 
 -- ---- the bytes of a row's pattern that it leaves free are in fields
-
-not_between : (x from width : ℕ) → from ≤ x → x < from + width → (x < from) ⊎ (from + width ≤ x) → ⊥
-not_between x from width low high (inl before) = absurd (omega (arith, low, before))
-not_between x from width low high (inr behind) = absurd (omega (arith, high, behind))
 
 -- a window of the section
 pub record Window (l : Layout) (s : Item) (j : ℕ) (q : InputRelocation) (row : Row) (v : ℕ) : Type 0 where
@@ -182,9 +141,9 @@ pub record Window (l : Layout) (s : Item) (j : ℕ) (q : InputRelocation) (row :
   pub made : IsRewritten l s q (slice_get s.relocations (j + 1)) row v
   pub fixed : IsFixed row
 
-pub window : (l : Layout) (s : Item) (j : ℕ) (q : InputRelocation) (row : Row) (v : ℕ) → HasDecision l s j q (Rewritten row v) → Window l s j q row v
-window l s j q row v h =
-    let made = decide_rewritten l s j q row v h.listed h.decided in
+pub window : (l : Layout) (s : Item) (j : ℕ) (q : InputRelocation) (row : Row) (v : ℕ) → l.machine ≡ machine.X86_64 → HasDecision l s j q (Rewritten row v) → Window l s j q row v
+window l s j q row v x86 h =
+    let made = rewritten_x86_64 l s j q row v x86 h.listed h.decided in
     record { has = h; made = made; fixed = is_fixed row (chosen_listed l s q (slice_get s.relocations (j + 1)) row made.chosen row_fixed each_row_fixed) made.changes }
 
 pub free_not : (l : Layout) (s : Item) (j : ℕ) (q : InputRelocation) (row : Row) (v x t : ℕ) → l.machine ≡ machine.X86_64 → Window l s j q row v → InNoField l s x → x ≡ template_start row q + t → t < pattern_size row → is_free (get_or (cells_of (pattern_of row)) t its.Any) ≡ true → ⊥
@@ -232,7 +191,7 @@ kept_apart l s at width j q row v x x86 whole f h low high =
         subst KeepsInstruction same f.keeps
 
     alone : template_start row q ≤ x → x < template_start row q + pattern_size row → IsBesideField l f.relocation x
-    alone from inside = windows_are_alone l s x86 whole j f.index q f.relocation row v f.decision h f.has other (λ e is. subst KeepsInstruction is f.keeps) x from inside
+    alone from inside = windows_are_alone l s whole j f.index q f.relocation row v f.decision h f.has other (λ e is. subst KeepsInstruction is f.keeps) x from inside
 
     by : (o : Option Formula) → x86_64_formula f.relocation.number ≡ o → IsBesideField l f.relocation x → ⊥
     by None e b =
@@ -329,7 +288,7 @@ own_outside : (l : Layout) (s : Item) (start : ℕ) (o : Instruction) (k : ℕ) 
 own_outside l s start o k x86 whole stand t known own j q row v h =
     elim (cases_lt (start + k) (template_start row q)) [
       | inl before ↦ inl before
-      | inr from ↦ elim (cases_lt (start + k) (template_start row q + pattern_size row)) [ inl inside ↦ absurd (meeting (window l s j q row v h) from inside) | inr behind ↦ inr behind ]
+      | inr from ↦ elim (cases_lt (start + k) (template_start row q + pattern_size row)) [ inl inside ↦ absurd (meeting (window l s j q row v x86 h) from inside) | inr behind ↦ inr behind ]
     ]
   where
     ok : (w : Window l s j q row v) → pair_ok o.template.cells (cells_of (pattern_of row)) ≡ true
@@ -368,11 +327,30 @@ instructions_kept stand l w m s h i r d has keeps start o first template k own =
     let t = kept_here l s i r d start o first h.on h.decided has keeps template in
     let inside = t.inside in
     let lt = own.inside in
-    input_byte l w m s (start + k) h (omega (arith, inside, lt)) (t.alone k own) (own_outside l s start o k h.on h.decided stand t (known_here l s r first start o h.on template) own)
+    input_byte machine.X86_64 l w m s (start + k) h (omega (arith, inside, lt)) (t.alone k own) (own_outside l s start o k h.on h.decided stand t (known_here l s r first start o h.on template) own)
 
-pub instructions_are_kept : RowsAreRead → ChosenAreWhole → InstructionsAreKept
-instructions_are_kept agree stand machine.X86_64 l w m s h i r d has keeps start o first template k own = instructions_kept stand l w m s h i r d has keeps start o first template k own
-instructions_are_kept agree stand machine.AArch64 l w m s h i r d has keeps start o first template k own = words_kept agree l w m s h r start o first template k own
+-- of AArch64's, the call of a run alone has bytes in no field
+words_kept : RowsStandTogether → (l : Layout) (w : World) (m : Memory) (s : Item) → IsLoadedItem machine.AArch64 l w m s → (i : ℕ) (r : InputRelocation) (d : Decision) → HasDecision l s i r d → KeepsInstruction d
+    → (start : ℕ) (o : Instruction) (first : InputRelocation) → IsTemplate l s r start o first → (k : ℕ) → IsOwnByte o k → IsInputByte w m s (start + k)
+words_kept together l w m s h i r d has keeps start o first (inl t) k own = absurd (no_own_byte_of_word o (is_word o (subst (λ (x : Machine). Contains (instructions_of x) o) h.on t.0.stands.known) t.0.single) k own)
+words_kept together l w m s h i r d has keeps start o first (inr t) k own = by (is_run_of o (subst (λ (x : Machine). Contains (instructions_of x) o) h.on t.sequence.stands.known) t.sequence.several)
+  where
+    by : IsRun o → IsInputByte w m s (start + k)
+    by (inr (inl e)) = absurd (no_own_byte k (subst (λ (x : Instruction). IsOwnByte x k) e own))
+    by (inr (inr e)) = absurd (no_own_byte_of_address k (subst (λ (x : Instruction). IsOwnByte x k) e own))
+    by (inl e) =
+        let kept = run_is_kept together windows_are_alone l s i r d h.on h.decided has keeps start o first t first (0, omega arith, refl) in
+        let own_here = subst (λ (x : Instruction). IsOwnByte x k) e own in
+        let stands = subst (λ (x : Instruction). IsInstruction l s first start x) e t.sequence.stands in
+        let inside = stands.inside in
+        let field = stands.field in
+        let lt = own_here.inside in
+        let out = stands.alone k own_here in
+        input_byte machine.AArch64 l w m s (start + k) h (omega (arith, inside, lt)) out (call_is_kept together windows_are_alone l s first start k h.on h.decided kept (omega (arith, field)) (only_one r_aarch64_tlsdesc_adr_page21 first.number stands.number) own_here out)
+
+pub instructions_are_kept : ChosenAreWhole → RowsStandTogether → InstructionsAreKept
+instructions_are_kept stand together machine.X86_64 l w m s h i r d has keeps start o first template k own = instructions_kept stand l w m s h i r d has keeps start o first template k own
+instructions_are_kept stand together machine.AArch64 l w m s h i r d has keeps start o first template k own = words_kept together l w m s h i r d has keeps start o first template k own
 
 -- ---- sequences
 
@@ -406,9 +384,9 @@ sequences_kept l w m s h i r k start o first t p c = by (one_of_two first pair.s
     by (inl e) = record { index = pair.pair.has.index; kept = record { decision = a.one; has = subst (λ (x : InputRelocation). HasDecision l s pair.pair.has.index x a.one) (sym e) a.has_one; keeps = a.keeps_one; refers = refers p c } }
     by (inr e) = record { index = pair.pair.has.index + 1; kept = record { decision = a.two; has = subst (λ (x : InputRelocation). HasDecision l s (pair.pair.has.index + 1) x a.two) (sym e) a.has_two; keeps = a.keeps_two; refers = refers p c } }
 
-pub sequences_are_kept : SequencesAreKept
-sequences_are_kept machine.X86_64 l w m s h i r k start o first t p c = sequences_kept l w m s h i r k start o first t p c
-sequences_are_kept machine.AArch64 l w m s h i r k start o first t p c = run_is_kept l w m s h first t.rest start o t.sequence p c
+pub sequences_are_kept : RowsStandTogether → SequencesAreKept
+sequences_are_kept together machine.X86_64 l w m s h i r k start o first t p c = sequences_kept l w m s h i r k start o first t p c
+sequences_are_kept together machine.AArch64 l w m s h i r k start o first t p c = run_is_kept together windows_are_alone l s i r k.decision h.on h.decided k.has k.keeps start o first t p c
 
 -- ---- other bytes
 
@@ -423,27 +401,29 @@ each_has_type : list_all has_type rows_x86_64 ≡ true
 unfolding rows_x86_64
 each_has_type = refl
 
+each_word_has_type : list_all has_type rows_aarch64 ≡ true
+unfolding rows_aarch64
+each_word_has_type = refl
+
 not_none : (row : Row) → has_type row ≡ true → row.number ≡ r_x86_64_none → ⊥
 not_none row h e = let f : not (0 == 0) ≡ true = rw e at h in cc
 
-others_kept : RewrittenStand → (l : Layout) (w : World) (m : Memory) (s : Item) → IsLoadedItem machine.X86_64 l w m s → (k : ℕ) → k < length s.bytes → IsOther l s k → IsInputByte w m s k
-others_kept stand l w m s h k lt other = input_byte l w m s k h lt other.fields windows
-  where
-    refers : (j : ℕ) (q : InputRelocation) (row : Row) (v : ℕ) → HasDecision l s j q (Rewritten row v) → IsReference s q
-    refers j q row v has =
-        let made = decide_rewritten l s j q row v has.listed has.decided in
-        record { listed = listed_at s j q has.listed; refers = λ e. not_none row (chosen_listed l s q (slice_get s.relocations (j + 1)) row made.chosen has_type each_has_type) (sym made.chosen.number ∙ e) }
+rewritten_refers : (l : Layout) (s : Item) (j : ℕ) (q : InputRelocation) (row : Row) (v : ℕ) → HasDecision l s j q (Rewritten row v) → q.number ≢ r_x86_64_none
+rewritten_refers l s j q row v has e =
+    elim (decide_rewritten l s j q row v has.listed has.decided) [
+      | inl made ↦ not_none row (chosen_listed l s q (slice_get s.relocations (j + 1)) row made.chosen has_type each_has_type) (sym made.chosen.number ∙ e)
+      | inr made ↦ not_none row (listed_passes has_type rows_aarch64 row each_word_has_type made.chosen.listed) (sym made.chosen.number ∙ e)
+    ]
 
+pub others_are_kept : RewrittenStand → OthersAreKept
+others_are_kept stand machine l w m s h k lt other = input_byte machine l w m s k h lt other.fields windows
+  where
     windows : OutOfWindows l s k
     windows j q row v has =
-        let t = stand l w m s h j q row v has in
+        let t = stand machine l w m s h j q row v has in
         let before = t.before in
         let behind = t.behind in
-        elim (other.templates q t.from t.instruction t.first (refers j q row v has) t.template) [
+        elim (other.templates q t.from t.instruction t.first (record { listed = listed_at s j q has.listed; refers = rewritten_refers l s j q row v has }) t.template) [
           | inl low ↦ inl (omega (arith, before, low))
           | inr high ↦ inr (omega (arith, behind, high))
         ]
-
-pub others_are_kept : RowsAreRead → RewrittenStand → OthersAreKept
-others_are_kept agree stand machine.X86_64 l w m s h k lt other = others_kept stand l w m s h k lt other
-others_are_kept agree stand machine.AArch64 l w m s h k lt other = word_byte agree l w m s h k lt other.fields

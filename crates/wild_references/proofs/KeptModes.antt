@@ -29,7 +29,7 @@ use Rattle.wild_layout.specs.declared.decision.Decision.TheVariants.{Rewritten}
 use Rattle.wild_layout.specs.Choice.{question_of}
 use Rattle.wild_layout.specs.Decide.{decided}
 use Rattle.wild_layout.proofs.ChoiceLemmas.{chosen_listed, is_listed}
-use Rattle.wild_layout.proofs.DecisionLemmas.{decide_rewritten}
+use Rattle.wild_layout.proofs.DecisionLemmas.{rewritten_x86_64}
 use Rattle.wild_geometry.specs.Loaded.{HasDecision}
 use Rattle.wild_references.specs.Laws.{KeepsInstruction}
 use Rattle.wild_types.specs.Item.{Item}
@@ -53,9 +53,9 @@ pub record IsOn (l : Layout) (s : Item) (row : Row) : Type 0 where
   pub code : executable s.flags ≡ true
   pub thread : row.thread_local ≡ true → is_executable l.kind ≡ true
 
-pub rewritten_on : (l : Layout) (s : Item) (j : ℕ) (q : InputRelocation) (row : Row) (v : ℕ) → HasDecision l s j q (Rewritten row v) → IsOn l s row
-rewritten_on l s j q row v h =
-    let w = decide_rewritten l s j q row v h.listed h.decided in
+pub rewritten_on : (l : Layout) (s : Item) (j : ℕ) (q : InputRelocation) (row : Row) (v : ℕ) → l.machine ≡ machine.X86_64 → HasDecision l s j q (Rewritten row v) → IsOn l s row
+rewritten_on l s j q row v x86 h =
+    let w = rewritten_x86_64 l s j q row v x86 h.listed h.decided in
     let next = slice_get s.relocations (j + 1) in
     let is = row_at l s q next row w.chosen in
     let asked = question_of l s q is.chosen.symbol next in
@@ -81,11 +81,11 @@ calls_apart l s i j r q d row v x86 h k number h' number' = by_symbol r.symbol r
     next = slice_get s.relocations (i + 1)
 
     on : IsOn l s row
-    on = rewritten_on l s j q row v h'
+    on = rewritten_on l s j q row v x86 h'
 
     is_local : row.thread_local ≡ true
     is_local =
-        let w = decide_rewritten l s j q row v h'.listed h'.decided in
+        let w = rewritten_x86_64 l s j q row v x86 h'.listed h'.decided in
         (is_fixed row (chosen_listed l s q (slice_get s.relocations (j + 1)) row w.chosen row_fixed each_row_fixed) w.changes).thread (ap is_described_call number')
 
     applied_call : (symbol : ℕ) → Applied (question_of l s r symbol next) DESCRIPTOR_CALL

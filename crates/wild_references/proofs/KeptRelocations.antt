@@ -9,6 +9,7 @@ use Rattle.wild_types.specs.declared.kind.Machine.TheVariants as machine
 use Rattle.wild_types.specs.declared.input.InputRelocation.{InputRelocation}
 use Rattle.wild_types.specs.Item.{Item}
 use Rattle.wild_types.specs.declared.layout.Layout.{Layout}
+use Rattle.wild_relax.specs.declared.reference.UnknownSequence.{UnknownSequence}
 use Rattle.wild_relax.specs.declared.row.Row.{Row}
 use Rattle.wild_relax.specs.First.{first_standing, checked}
 use Rattle.wild_relax.specs.Question.{Question}
@@ -85,7 +86,7 @@ kept_takes_none l s i r d h k takes =
 
 -- ---- no row applies
 
-none_standing : (stands : Row → Bool) (rows : List Row) → first_standing stands rows ≡ None → (row : Row) → Contains rows row → stands row ≡ true → ⊥
+pub none_standing : (stands : Row → Bool) (rows : List Row) → first_standing stands rows ≡ None → (row : Row) → Contains rows row → stands row ≡ true → ⊥
 none_standing stands [] e row c t = absurd (omega (arith, c.1))
 none_standing stands (x ∷ rows) e row c t = by (λ f d. none_standing stands rows f row d t) (stands x) refl e c.0 c.1 c.2
   where
@@ -94,17 +95,17 @@ none_standing stands (x ∷ rows) e row c t = by (λ f d. none_standing stands r
     by there false f e zero lt at = let g : stands row ≡ false = subst (λ (y : Row). stands y ≡ false) at f in let h : true ≡ false = sym t ∙ g in cc
     by there false f e (suc k) lt at = there e (k, omega arith, at)
 
-not_checked : (q : Question) (o : Option Row) → checked (has_its_sequence q) (unknown_sequence q) o ≡ Ok None → o ≡ None
-not_checked q None e = refl
-not_checked q (Some row) e = by (has_its_sequence q row) e
+pub not_checked : (has : Row → Bool) (refuse : Row → UnknownSequence) (o : Option Row) → checked has refuse o ≡ Ok None → o ≡ None
+not_checked has refuse None e = refl
+not_checked has refuse (Some row) e = by (has row) e
   where
-    by : (b : Bool) → (if b then Ok (Some row) else Err (unknown_sequence q row)) ≡ Ok None → Some row ≡ None
+    by : (b : Bool) → (if b then Ok (Some row) else Err (refuse row)) ≡ Ok None → Some row ≡ None
     by true e = cc
     by false e = cc
 
 pub none_applies : (q : Question) (row : Row) → chosen_x86_64 q ≡ Ok None → Contains rows_x86_64 row → applies q row ≡ true → ⊥
 unfolding chosen_x86_64 standing_x86_64
-none_applies q row e c t = none_standing (applies q) rows_x86_64 (not_checked q (standing_x86_64 q) e) row c t
+none_applies q row e c t = none_standing (applies q) rows_x86_64 (not_checked (has_its_sequence q) (unknown_sequence q) (standing_x86_64 q) e) row c t
 
 none_by : (l : Layout) (s : Item) (r : InputRelocation) (next : Option InputRelocation) (symbol : ℕ) → (r.number == r_x86_64_pc32) ≡ false → choice_by l s r next (Some symbol) ≡ Ok None → chosen_x86_64 (question_of l s r symbol next) ≡ Ok None
 unfolding choice_by

@@ -17,7 +17,7 @@ use Rattle.wild_layout.specs.declared.decision.Decision.TheVariants.{Nothing, Fi
 use Rattle.wild_layout.specs.Choice.{choice_of, choice, takes_next, is_partner}
 use Rattle.wild_layout.specs.Decide.{decide}
 use Rattle.wild_layout.proofs.ChoiceLemmas.{choice_row, choice_is, chosen_listed, partner_number, IsSequence as Taking}
-use Rattle.wild_layout.proofs.DecisionLemmas.{decide_rewritten, decide_partner}
+use Rattle.wild_layout.proofs.DecisionLemmas.{rewritten_x86_64, decide_partner}
 use Rattle.wild_geometry.specs.Loaded.{IsDecided, HasDecision}
 use Rattle.wild_references.specs.Laws.{KeepsInstruction}
 use Rattle.wild_types.specs.Item.{Item}
@@ -136,12 +136,12 @@ second_kept l s first second start o i f k = by (keeps_or f.two)
   where
     fixed : (row : Row) (v : ℕ) → HasDecision l s (i + 1) second (Rewritten row v) → (keeps_all second.number ≡ true) ⊎ (by_slot o ≡ true) → ⊥
     fixed row v h (inl all) =
-        let w = decide_rewritten l s (i + 1) second row v h.listed h.decided in
+        let w = rewritten_x86_64 l s (i + 1) second row v f.x86 h.listed h.decided in
         let n = (is_fixed row (chosen_listed l s second (slice_get s.relocations (i + 1 + 1)) row w.chosen row_fixed each_row_fixed) w.changes).writes in
         let e : keeps_all second.number ≡ false = ap keeps_all w.chosen.number ∙ n in
         let g : true ≡ false = sym all ∙ e in
         cc
-    fixed row v h (inr slot) = slot_not_kept l s i first second f.one start o f.x86 f.has_one k f.sequence slot (rewritten_on l s (i + 1) second row v h).taken
+    fixed row v h (inr slot) = slot_not_kept l s i first second f.one start o f.x86 f.has_one k f.sequence slot (rewritten_on l s (i + 1) second row v f.x86 h).taken
 
     by : KeepsInstruction f.two ⊎ ((f.two ≡ Partner) ⊎ ((row : Row) × (v : ℕ) × (f.two ≡ Rewritten row v))) → KeepsInstruction f.two
     by (inl keeps) = keeps
@@ -157,7 +157,7 @@ first_kept l s first second start o i f k = by (keeps_or f.one)
   where
     takes_all : (row : Row) (v : ℕ) → HasDecision l s i first (Rewritten row v) → ⊥
     takes_all row v h =
-        let w = decide_rewritten l s i first row v h.listed h.decided in
+        let w = rewritten_x86_64 l s i first row v f.x86 h.listed h.decided in
         let pair : is_first row.number ≡ true = subst (λ (n : ℕ). is_first n ≡ true) w.chosen.number f.pair in
         let skips = (is_fixed row (chosen_listed l s first (slice_get s.relocations (i + 1)) row w.chosen row_fixed each_row_fixed) w.changes).skips pair in
         let made : choice l s i ≡ Ok (Some row) = choice_is l s i first w.chosen.machine h.listed ∙ w.chosen.choice in

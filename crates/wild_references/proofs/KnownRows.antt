@@ -1,6 +1,6 @@
 -- The rows of the kinds that the writer knows, beside the formulas that the reader knows.
-use Rattle.std.proofs.Common.{◌≡◌, ℕ, ◌^◌, ◌<◌, ◌⊎◌, inl, inr, Bool, true, false, List, length, refl, ap, ◌∙◌, subst}
-use Rattle.std.specs.Prelude.{◌==◌, ◌&&◌, ◌||◌, if◌then◌else◌, Option, Some, None, All}
+use Rattle.std.proofs.Common.{◌≡◌, ℕ, ◌^◌, ◌<◌, ◌⊎◌, inl, inr, Bool, true, false, List, length, refl, sym, ap, ◌∙◌, subst}
+use Rattle.std.specs.Prelude.{◌==◌, ◌&&◌, ◌||◌, if◌then◌else◌, Option, Some, None, is_none, All}
 use Rattle.std.specs.List.{list_all}
 use Rattle.std.proofs.lemmas.Bool.{eqb-true, and_parts, or_cases}
 use Rattle.wild_records.specs.Abi.Relocation.{r_x86_64_none, r_x86_64_gotpc32_tlsdesc, r_x86_64_code_4_gotpc32_tlsdesc, r_x86_64_tlsdesc_call}
@@ -9,6 +9,8 @@ use Rattle.wild_types.specs.declared.kind.Machine.TheVariants as machine
 use Rattle.wild_reloc.specs.TableX86_64.{x86_64_rows, x86_64_row}
 use Rattle.wild_reloc.specs.TableAArch64.{static_rows, static_row, thread_rows, thread_row}
 use Rattle.wild_reloc.specs.Field.{field_width, allows, written}
+use Rattle.wild_reloc.specs.Range.{contains}
+use Rattle.wild_reloc.specs.declared.info.PageMask.{PageMask}
 use Rattle.wild_reloc.specs.Formula.{Formula, Value, Form, NoValue, NoField, SymbolAddress, Plain, Full, Bits, Reads, Keeps}
 use Rattle.wild_reloc.specs.FormulaX86_64.{x86_64_formula}
 use Rattle.wild_reloc.specs.FormulaAArch64.{aarch64_formula}
@@ -26,6 +28,7 @@ use Rattle.wild_slot.proofs.TreatmentLemmas.{HasValue}
 use Rattle.wild_geometry.specs.MachineFacts.{RowsAreRead}
 use Rattle.wild_meaning.specs.Field.{formula_of, form_width}
 use Rattle.wild_references.specs.Terms.{is_expressed, value_by_row}
+use Rattle.wild_references.specs.Thunks.{Carries}
 use Rattle.wild_references.proofs.LowForms.{is_low}
 
 -- a field has the bits of an address below its page, on AArch64
@@ -54,7 +57,7 @@ pub record RowFits (m : Machine) (n : ℕ) (row : RelocationKindInfo) : Type 0 w
 -- ---- what each row of the table passes
 
 abbrev same_width : Option Formula → ℕ → Bool
-same_width None width = true
+same_width None width = false
 same_width (Some f) width = width == form_width f.form
 
 abbrev is_full : Formula → Bool
@@ -116,12 +119,20 @@ is_aarch64 machine.X86_64 = false
 abbrev seen_by : Machine → Class → Option Formula → Bool
 seen_by m c o = if has_value c then writes c || (is_aarch64 m && (is_part c && of_formula is_low_formula o)) else true
 
+-- what may go by a thunk is a branch of AArch64, whose range has itself and the next instruction
+abbrev is_branch : RelocationKind → Bool
+is_branch kinds.PltRelative = true
+is_branch other = false
+
+abbrev carries : Machine → RelocationKindInfo → Bool
+carries m row = if row.thunkable then is_aarch64 m && (is_branch row.kind && (is_none row.mask && (contains row.range 0 && contains row.range 4))) else true
+
 abbrev row_test : Machine → ℕ → RelocationKindInfo → Bool
 row_test m n row =
     seen_by m (expression_of row.kind).class (formula_of m n)
     && (is_expressed m (expression_of row.kind).term (expression_of row.kind).taken row.mask
     && (same_width (formula_of m n) (field_width row)
-    && (few_numbers m row.kind n && (call_formula row.kind (formula_of m n) && full_address row.kind (field_width row) (formula_of m n)))))
+    && (few_numbers m row.kind n && (call_formula row.kind (formula_of m n) && (full_address row.kind (field_width row) (formula_of m n) && carries m row)))))
 
 each_x86_64 : list_all (λ (e : ℕ × RelocationKindInfo). row_test machine.X86_64 e.0 e.1) x86_64_rows ≡ true
 unfolding x86_64_formula
@@ -148,6 +159,7 @@ record Passes (m : Machine) (n : ℕ) (row : RelocationKindInfo) : Type 0 where
   few : few_numbers m row.kind n ≡ true
   call : call_formula row.kind (formula_of m n) ≡ true
   full : full_address row.kind (field_width row) (formula_of m n) ≡ true
+  carried : carries m row ≡ true
 
 all_passed : (m : Machine) (n : ℕ) (row : RelocationKindInfo) → row_of m n ≡ Some row → Passes m n row
 all_passed m n row is =
@@ -155,8 +167,9 @@ all_passed m n row is =
     let b = and_parts (is_expressed m (expression_of row.kind).term (expression_of row.kind).taken row.mask) _ a.1 in
     let c = and_parts (same_width (formula_of m n) (field_width row)) _ b.1 in
     let d = and_parts (few_numbers m row.kind n) _ c.1 in
-    let e = and_parts (call_formula row.kind (formula_of m n)) (full_address row.kind (field_width row) (formula_of m n)) d.1 in
-    record { seen = a.0; expressed = b.0; wide = c.0; few = d.0; call = e.0; full = e.1 }
+    let e = and_parts (call_formula row.kind (formula_of m n)) (full_address row.kind (field_width row) (formula_of m n) && carries m row) d.1 in
+    let f = and_parts (full_address row.kind (field_width row) (formula_of m n)) (carries m row) e.1 in
+    record { seen = a.0; expressed = b.0; wide = c.0; few = d.0; call = e.0; full = f.0; carried = f.1 }
 
 -- ---- rows that fit
 
@@ -218,6 +231,17 @@ row_fits agree m n row is kind =
     let p = all_passed m n row is in
     fits_formula m n row (formula_of m n) kind is refl p.expressed p.seen p.wide p.full (agree m n row is)
 
+-- each row's type has a formula, whose field is as wide
+pub formula_there : (m : Machine) (n : ℕ) (row : RelocationKindInfo) → row_of m n ≡ Some row → (f : Formula) × (formula_of m n ≡ Some f) × (form_width f.form ≡ field_width row)
+formula_there m n row is = by (formula_of m n) refl (all_passed m n row is).wide
+  where
+    by : (o : Option Formula) → formula_of m n ≡ o → same_width o (field_width row) ≡ true → (f : Formula) × (formula_of m n ≡ Some f) × (form_width f.form ≡ field_width row)
+    by None known wide = cc
+    by (Some f) known wide = (f, known, sym (eqb-true (field_width row) (form_width f.form) wide))
+
+pub width_is : (m : Machine) (n : ℕ) (row : RelocationKindInfo) (f : Formula) → row_of m n ≡ Some row → formula_of m n ≡ Some f → form_width f.form ≡ field_width row
+width_is m n row f is known = (let t = formula_there m n row is in let both : Some t.0 ≡ Some f = sym t.1 ∙ known in let same : t.0 ≡ f = cc in ap (λ (g : Formula). form_width g.form) (sym same) ∙ t.2)
+
 -- the type of a row of such a kind
 few_at : (m : Machine) (n : ℕ) (row : RelocationKindInfo) (k : RelocationKind) → row_of m n ≡ Some row → row.kind ≡ k → few_numbers m k n ≡ true
 few_at m n row k is kind = subst (λ (k : RelocationKind). few_numbers m k n ≡ true) kind (all_passed m n row is).few
@@ -260,3 +284,26 @@ descriptor_is n row is kind =
       | inl a ↦ inl (eqb-true _ _ a)
       | inr b ↦ inr (eqb-true _ _ b)
     ]
+
+-- what may go by a thunk is such a branch
+pub record IsBranch (m : Machine) (row : RelocationKindInfo) : Type 0 where
+  pub on : m ≡ machine.AArch64
+  pub kind : row.kind ≡ kinds.PltRelative
+  pub carries : Carries row
+
+pub branch_is : (m : Machine) (n : ℕ) (row : RelocationKindInfo) → row_of m n ≡ Some row → row.thunkable ≡ true → IsBranch m row
+branch_is m n row is t =
+    let a = and_parts (is_aarch64 m) _ (rw t at (all_passed m n row is).carried) in
+    let b = and_parts (is_branch row.kind) _ a.1 in
+    let c = and_parts (is_none row.mask) _ b.1 in
+    let d = and_parts (contains row.range 0) (contains row.range 4) c.1 in
+    let kind = branch_kind row.kind b.0 in
+    record { on = on_is m a.0; kind = kind; carries = record { kind = inr kind; whole = no_mask row.mask c.0; here = d.0; next = d.1 } }
+  where
+    branch_kind : (k : RelocationKind) → is_branch k ≡ true → k ≡ kinds.PltRelative
+    branch_kind kinds.PltRelative h = refl
+    branch_kind other h = cc
+
+    no_mask : (o : Option PageMask) → is_none o ≡ true → o ≡ None
+    no_mask None h = refl
+    no_mask (Some mask) h = cc

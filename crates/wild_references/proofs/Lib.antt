@@ -17,8 +17,10 @@ mod Answered
 mod FirstSlots
 mod SymbolStubs
 mod EachStub
+mod ThunkCode
 pub mod Stubbed
 mod Targets
+mod ThunkTargets
 mod ThreadValues
 mod Treated
 mod Referents
@@ -31,10 +33,12 @@ mod ThreadPlaces
 mod DescriptorSlots
 mod ThreadKinds
 mod TermKinds
+mod ThunkKinds
 pub mod OwnSymbols
 mod Descriptors
 mod RowFields
 mod BranchFields
+mod ConditionFields
 mod AddressKinds
 mod EntryKinds
 mod Alone
@@ -47,6 +51,7 @@ mod Does
 mod WindowRows
 mod WindowSites
 mod WindowFields
+mod WordWindows
 mod Windows
 mod Clash
 mod KeptTables
@@ -95,5 +100,8 @@ mod RewrittenDescriptors
 mod RewrittenSlots
 mod RewrittenWords
 mod RewrittenHold
+mod RewrittenAArch64
+mod WordRuns
+mod RewrittenLaws
 mod KeptDo
 mod Items

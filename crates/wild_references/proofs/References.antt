@@ -1,6 +1,6 @@
 -- The references of a kept section that keep their instructions hold in memory.
-use Rattle.std.proofs.Common.{◌≡◌, ℕ, ◌+◌, ◌%◌, ◌^◌, ◌⊎◌, inl, inr, Bool, true, false, [], Some, refl, sym, ap, ◌∙◌, arith, subst}
-use Rattle.std.specs.Prelude.{Ok, slice_get}
+use Rattle.std.proofs.Common.{◌≡◌, ℕ, ◌+◌, ◌%◌, ◌^◌, ◌≤◌, ◌⊎◌, inl, inr, Bool, true, false, [], Some, None, refl, sym, ap, ◌∙◌, arith, subst}
+use Rattle.std.specs.Prelude.{Ok, length, slice_get}
 use Rattle.wild_words.proofs.ListLemmas.{holds_at}
 use Rattle.wild_types.specs.declared.kind.Machine.{Machine}
 use Rattle.wild_types.specs.declared.kind.Machine.TheVariants as machine
@@ -14,19 +14,23 @@ use Rattle.wild_slot.specs.Treatment.{kind_treatment}
 use Rattle.wild_reloc.specs.Agreement.{sized}
 use Rattle.wild_reloc.specs.Expression.{expression_of, taken_of, expressed, writes}
 use Rattle.wild_reloc.specs.declared.info.RelocationKindInfo.{RelocationKindInfo}
+use Rattle.wild_reloc.specs.declared.info.RelocationSize.{RelocationSize}
+use Rattle.wild_reloc.specs.declared.info.RelocationSize.TheVariants.{ByteSize}
+use Rattle.wild_reloc.specs.declared.info.Width.TheVariants.{Eight}
 use Rattle.wild_reloc.specs.declared.expression.SlotSort.{SlotSort}
 use Rattle.wild_reloc.specs.declared.expression.SlotSort.TheVariants as sorts
 use Rattle.wild_reloc.specs.declared.expression.Taken.{Taken}
 use Rattle.wild_reloc.specs.declared.expression.Taken.TheVariants as less
 use Rattle.wild_reloc.specs.declared.expression.Term.{Term}
 use Rattle.wild_reloc.specs.declared.expression.Term.TheVariants as term
-use Rattle.wild_reloc.specs.Formula.{Formula, Value, formula, SymbolAddress, NoValue, NoField}
+use Rattle.wild_reloc.specs.Formula.{Formula, Value, formula, SymbolAddress, StubDistance, NoValue, NoField}
 use Rattle.wild_reloc.specs.declared.info.RelocationKind.{RelocationKind}
 use Rattle.wild_reloc.specs.declared.info.RelocationKind.TheVariants as kinds
 use Rattle.wild_layout.specs.Geometry.{NamesSymbol}
 use Rattle.wild_layout.specs.Numbers.{AddendFits}
-use Rattle.wild_layout.specs.Values.{term_of, is_symbol}
-use Rattle.wild_layout.proofs.DecideLemmas.{field_has}
+use Rattle.wild_layout.specs.Values.{term_of, value_in, is_symbol}
+use Rattle.wild_layout.proofs.DecideLemmas.{HasField, field_has, moved_has}
+use Rattle.wild_layout.proofs.ReachedLemmas.{IsCarried, ComesTo}
 use Rattle.wild_layout.proofs.DecisionLemmas.{own_choice}
 use Rattle.wild_loader.specs.declared.world.World.{World}
 use Rattle.wild_loader.specs.declared.memory.Memory.{Memory}
@@ -36,14 +40,16 @@ use Rattle.wild_meaning.specs.Formula.{KnowsOffsets, HasOffsetMode, Gives, Gives
 use Rattle.wild_meaning.specs.Reference.{IsAsked, IsStubbed, TakesItself, IsLinkedAlone}
 use Rattle.wild_references.specs.Laws.{FieldHolds, FieldIsLinked, IsKeptReference}
 use Rattle.wild_references.specs.Terms.{value_by_row, HasTerm, IsFollowed}
-use Rattle.wild_references.proofs.Alone.{not_left, followed, taken, left_follows}
+use Rattle.wild_references.proofs.Alone.{not_left, followed, taken, takes_none, left_follows}
 use Rattle.wild_references.proofs.Descriptors.{descriptor_kept, call_kept}
 use Rattle.wild_references.proofs.Fields.{KindLaws, LinkedLaws, IsItemLoaded, field_within, place_is, place_ends, value_reads, address_reads, left_bytes, left_reads, SeenAs}
-use Rattle.wild_references.proofs.KnownRows.{IsSeen, descriptor_is}
+use Rattle.wild_references.proofs.KnownRows.{IsSeen, branch_is, descriptor_is}
 use Rattle.wild_references.proofs.Referents.{is_address, sized_is}
+use Rattle.wild_references.proofs.ThunkKinds.{stub_row}
 use Rattle.wild_references.proofs.ValueKinds.{plain_given}
 use Rattle.wild_references.proofs.RowFields.{row_holds}
-use Rattle.wild_references.proofs.BranchFields.{branch_holds}
+use Rattle.wild_references.proofs.BranchFields.{branch_reads, branch_holds}
+use Rattle.wild_references.proofs.ConditionFields.{own_goes, branch_links}
 use Rattle.wild_references.proofs.Treated.{treated_by, suits_by, symbol_named}
 use Rattle.wild_references.proofs.Written.{IsValue, IsAddress, IsLeftField, IsCall, Writes, row_here, relocation_written}
 
@@ -86,8 +92,8 @@ gives_by l w m s r info x laws v h f none = by_term (expression_of info.kind).te
     by_term term.Nothing e = absurd (let both : true ≡ false = no_term info.kind e v in cc)
 
 -- what the writer computes for it, where an excepted one is asked
-term_is : (l : Layout) (w : World) (m : Memory) (s : Item) (i : ℕ) (r : InputRelocation) → IsItemLoaded l w m s → IsAsked l w s r → (v : IsValue l s i r) → HasTerm l w m s r v.field.row v.value
-term_is l w m s i r h asked v =
+term_is : (l : Layout) (w : World) (m : Memory) (s : Item) (i : ℕ) (r : InputRelocation) (x : ℕ) → IsItemLoaded l w m s → IsAsked l w s r → (v : IsValue l s i r) → value_in l v.field.row v.field.term r.addend (place_of s.address r) ≡ x → HasTerm l w m s r v.field.row x
+term_is l w m s i r x h asked v is =
     let field = field_has l s r v.size v.value v.field in
     record {
       placed = h.placed;
@@ -100,7 +106,7 @@ term_is l w m s i r h asked v =
       expressed = v.fits.expressed;
       term = v.field.term;
       given = v.field.given;
-      value = v.field.value;
+      value = is;
       place = place_is l w m s i r v.size h v.plain.has.listed field;
       ends = place_ends l w m s i r v.size h v.plain.has.listed field;
       asked = λ relative movable k named absolute. asked (record {
@@ -112,10 +118,14 @@ term_is l w m s i r h asked v =
       });
     }
 
+-- the place of a field lies in the item
+within : (l : Layout) (w : World) (m : Memory) (s : Item) (i : ℕ) (r : InputRelocation) (z : RelocationSize) → IsItemLoaded l w m s → slice_get s.relocations i ≡ Some r → HasField l r z → r.offset ≤ length s.bytes
+within l w m s i r z h listed f = (let e = field_within l w m s i r z h listed f in omega (arith, e))
+
 value_followed : (l : Layout) (w : World) (m : Memory) (s : Item) (i : ℕ) (r : InputRelocation) → IsItemLoaded l w m s → (v : IsValue l s i r) → (IsLinkedAlone l s r → ⊥) → IsFollowed l r (value_by_row v.field.row)
 value_followed l w m s i r h v alone =
     subst (λ (q : Value). IsFollowed l r q) (sym v.fits.value)
-    (followed l w m s r v.fits.formula h.placed (holds_at (NamesSymbol l) s.relocations i r v.plain.has.listed h.symbols) v.fits.known (λ k named left. not_left l s r v.field.row k (treatments.Value v.field.row) v.fits h.room v.field.treated (λ e. cc) (λ e. cc) (λ e. cc) v.field.known named left) alone)
+    (followed l w m s r v.fits.formula h.placed (holds_at (NamesSymbol l) s.relocations i r v.plain.has.listed h.symbols) v.fits.known (λ k named left. not_left l s r v.field.row k (treatments.Value v.field.row) v.fits h.room v.field.treated (λ e. cc) (λ e. cc) (λ e. cc) v.field.known named left) (λ k named whose. own_goes l s i r _ k v.plain.own v.plain.has.listed (within l w m s i r v.size h v.plain.has.listed (field_has l s r v.size v.value v.field)) h.placed.symbols (holds_at (NamesSymbol l) s.relocations i r v.plain.has.listed h.symbols k named) named whose) alone)
 
 -- a descriptor's reference that is kept is no offset
 no_offset : (l : Layout) (w : World) (m : Memory) (s : Item) (i : ℕ) (r : InputRelocation) → IsItemLoaded l w m s → (v : IsValue l s i r) → v.field.row.kind ≡ kinds.TlsDesc → HasOffsetMode l s → ⊥
@@ -134,26 +144,46 @@ record IsSeenValue (l : Layout) (w : World) (m : Memory) (s : Item) (i : ℕ) (r
   gives : Gives v.fits.formula.value l w m s r value
   seen : SeenAs v.fits.formula.form v.value value
 
-gives_value : (l : Layout) (w : World) (m : Memory) (s : Item) (i : ℕ) (r : InputRelocation) → IsItemLoaded l w m s → IsAsked l w s r → (v : IsValue l s i r) → (IsLinkedAlone l s r → ⊥) → IsSeenValue l w m s i r v
-gives_value l w m s i r h asked v alone = by_seen v.fits.seen
+-- the value itself
+gives_own : (l : Layout) (w : World) (m : Memory) (s : Item) (i : ℕ) (r : InputRelocation) → IsItemLoaded l w m s → (v : IsValue l s i r) → IsFollowed l r (value_by_row v.field.row) → HasTerm l w m s r v.field.row v.value → IsSeenValue l w m s i r v
+gives_own l w m s i r h v follow there = by_seen v.fits.seen
   where
-    there : HasTerm l w m s r v.field.row v.value
-    there = term_is l w m s i r h asked v
-
-    follow : IsFollowed l r (value_by_row v.field.row)
-    follow = value_followed l w m s i r h v alone
-
     by_seen : IsSeen l.machine v.field.row.kind v.fits.formula.form → IsSeenValue l w m s i r v
     by_seen (inl whole) = record { value = v.value; gives = subst (λ (q : Value). Gives q l w m s r v.value) v.fits.value (gives_by l w m s r v.field.row v.value h.kinds whole there follow (no_offset l w m s i r h v)); seen = inl refl }
     by_seen (inr p) =
         let g = h.kinds.part v.field.row p.part l w m s r v.value p.on there follow in
         record { value = g.0; gives = subst (λ (q : Value). Gives q l w m s r g.0) v.fits.value g.1; seen = inr (p.low, g.2) }
 
+-- or the distance of a thunk
+carried_value : (l : Layout) (s : Item) (i : ℕ) (r : InputRelocation) → (v : IsValue l s i r) → v.field.row.thunkable ≡ true → v.fits.formula.value ≡ StubDistance
+carried_value l s i r v t =
+    let b = branch_is l.machine r.number v.field.row v.field.known t in
+    sym v.fits.value ∙ (stub_row v.field.row b.carries.whole b.kind).value
+
+gives_carried : (l : Layout) (w : World) (m : Memory) (s : Item) (i : ℕ) (r : InputRelocation) (x : ℕ) → IsItemLoaded l w m s → (v : IsValue l s i r) → IsFollowed l r (value_by_row v.field.row) → HasTerm l w m s r v.field.row x → IsCarried l s r v.field.row x v.value → IsSeenValue l w m s i r v
+gives_carried l w m s i r x h v follow there c =
+    let b = branch_is l.machine r.number v.field.row v.field.known c.thunkable in
+    let g = subst (λ (n : ℕ). Gives StubDistance l w m s r n) c.distance (h.kinds.thunk v.field.row b.carries l w m s r x c.thunk b.on there h.thunks follow c.far c.found c.alone) in
+    record { value = v.value; gives = subst (λ (q : Value). Gives q l w m s r v.value) (sym (carried_value l s i r v c.thunkable)) g; seen = inl refl }
+
+gives_value : (l : Layout) (w : World) (m : Memory) (s : Item) (i : ℕ) (r : InputRelocation) → IsItemLoaded l w m s → IsAsked l w s r → (v : IsValue l s i r) → (IsLinkedAlone l s r → ⊥) → IsSeenValue l w m s i r v
+gives_value l w m s i r h asked v alone = by_what v.field.comes
+  where
+    x : ℕ
+    x = value_in l v.field.row v.field.term r.addend (place_of s.address r)
+
+    follow : IsFollowed l r (value_by_row v.field.row)
+    follow = value_followed l w m s i r h v alone
+
+    by_what : ComesTo l s r v.field.row x v.value → IsSeenValue l w m s i r v
+    by_what (inl same) = gives_own l w m s i r h v follow (term_is l w m s i r v.value h asked v same)
+    by_what (inr c) = gives_carried l w m s i r x h v follow (term_is l w m s i r x h asked v refl) c
+
 gives_address : (l : Layout) (w : World) (m : Memory) (s : Item) (i : ℕ) (r : InputRelocation) → IsItemLoaded l w m s → (a : IsAddress l s i r) → (IsLinkedAlone l s r → ⊥) → Gives a.fits.formula.value l w m s r ((a.value + w.base) % 2 ^ 64)
 gives_address l w m s i r h a alone =
     let listed = holds_at (NamesSymbol l) s.relocations i r a.plain.has.listed h.symbols in
     let value : SymbolAddress ≡ a.fits.formula.value = sym (a.fits.full a.moved.by.kind a.moved.by.width).0 in
-    let f = followed l w m s r a.fits.formula h.placed listed a.fits.known (λ k named left. not_left l s r a.moved.row k treatments.BaseRelative a.fits h.room a.moved.treated (λ e. cc) (λ e. cc) (λ e. cc) a.moved.known named left) alone in
+    let f = followed l w m s r a.fits.formula h.placed listed a.fits.known (λ k named left. not_left l s r a.moved.row k treatments.BaseRelative a.fits h.room a.moved.treated (λ e. cc) (λ e. cc) (λ e. cc) a.moved.known named left) (λ k named whose. own_goes l s i r _ k a.plain.own a.plain.has.listed (within l w m s i r (ByteSize Eight) h a.plain.has.listed (moved_has l s r a.value a.packed a.moved)) h.placed.symbols (listed k named) named whose) alone in
     subst (λ (q : Value). Gives q l w m s r ((a.value + w.base) % 2 ^ 64)) value (h.kinds.address l w m s r a.value a.packed h.placed listed a.plain.own.made (subst (λ (q : Value). IsFollowed l r q) (sym value) f))
 
 -- ---- the reference
@@ -208,7 +238,7 @@ written_holds l w m s i r h asked alone (inr (inl a)) = address_holds l w m s i 
 written_holds l w m s i r h asked alone (inr (inr (inl f))) = left_holds l w m s i r h f
 written_holds l w m s i r h asked alone (inr (inr (inr (inl c)))) = call_holds l w m s i r h c
 written_holds l w m s i r h asked alone (inr (inr (inr (inr (inl f))))) = (row_holds l w m s i r h asked f).holds
-written_holds l w m s i r h asked alone (inr (inr (inr (inr (inr f))))) = (branch_holds l w m s i r h asked f).holds
+written_holds l w m s i r h asked alone (inr (inr (inr (inr (inr f))))) = branch_holds l w m s r h.kinds h.thunks (branch_reads l w m s i r h asked f)
 
 pub field_holds : (l : Layout) (w : World) (m : Memory) (s : Item) (i : ℕ) (r : InputRelocation) → IsItemLoaded l w m s → IsKeptReference l s i r → IsAsked l w s r → (IsLinkedAlone l s r → ⊥) → FieldHolds l w m s r
 field_holds l w m s i r h k asked alone = written_holds l w m s i r h asked alone (relocation_written l s i r k.decision h.tables.agree k.has k.keeps k.refers)
@@ -288,22 +318,32 @@ takes_by l s i f v e (inl offset) = inl (subst TakesOffset (sym e) offset)
 takes_by l s i f v e (inr t) = inr (subst TakesAddress (sym e) t.0)
 
 value_links : (l : Layout) (w : World) (m : Memory) (s : Item) (i : ℕ) (r : InputRelocation) → IsItemLoaded l w m s → (a : IsLinkedAlone l s r) → w.base ≡ 0 → IsValue l s i r → FieldIsLinked l w m s r
-value_links l w m s i r h a zero v =
-    let t = taken l s r v.fits.formula v.fits.known a in
-    let alone = alone_by l s a.symbol v.fits.formula (value_by_row v.field.row) v.fits.value t in
-    let takes = takes_by l s a.symbol v.fits.formula (value_by_row v.field.row) v.fits.value t in
-    let there = term_is l w m s i r h (λ e. zero) v in
-    record {
+value_links l w m s i r h a zero v = by_what v.field.comes
+  where
+    t : TakesItself l s a.symbol v.fits.formula
+    t = taken l s r v.fits.formula v.fits.known a
+
+    alone : (IsStubbed l a.symbol → ⊥) ⊎ TakesOffset (value_by_row v.field.row)
+    alone = alone_by l s a.symbol v.fits.formula (value_by_row v.field.row) v.fits.value t
+
+    takes : TakesOffset (value_by_row v.field.row) ⊎ TakesAddress (value_by_row v.field.row)
+    takes = takes_by l s a.symbol v.fits.formula (value_by_row v.field.row) v.fits.value t
+
+    by_seen : HasTerm l w m s r v.field.row v.value → IsSeen l.machine v.field.row.kind v.fits.formula.form → GivesLinked (value_by_row v.field.row) l w s r v.value
+    by_seen there (inl whole) = links_by l w m s r v.field.row v.value a.symbol h.linked whole there zero a.named alone takes
+    by_seen there (inr p) = h.linked.part v.field.row p.part l w m s r v.value a.symbol there zero a.named alone takes
+
+    by_what : ComesTo l s r v.field.row (value_in l v.field.row v.field.term r.addend (place_of s.address r)) v.value → FieldIsLinked l w m s r
+    by_what (inl same) = record {
       formula = v.fits.formula;
       known = v.fits.known;
       value = v.value;
-      gives = subst (λ (q : Value). GivesLinked q l w s r v.value) v.fits.value (by_seen alone takes there v.fits.seen);
+      gives = subst (λ (q : Value). GivesLinked q l w s r v.value) v.fits.value (by_seen (term_is l w m s i r v.value h (λ e. zero) v same) v.fits.seen);
       field = value_reads l w m s i r v.value h v (inl refl);
     }
-  where
-    by_seen : (IsStubbed l a.symbol → ⊥) ⊎ TakesOffset (value_by_row v.field.row) → TakesOffset (value_by_row v.field.row) ⊎ TakesAddress (value_by_row v.field.row) → HasTerm l w m s r v.field.row v.value → IsSeen l.machine v.field.row.kind v.fits.formula.form → GivesLinked (value_by_row v.field.row) l w s r v.value
-    by_seen alone takes there (inl whole) = links_by l w m s r v.field.row v.value a.symbol h.linked whole there zero a.named alone takes
-    by_seen alone takes there (inr p) = h.linked.part v.field.row p.part l w m s r v.value a.symbol there zero a.named alone takes
+    by_what (inr c) =
+        let is = carried_value l s i r v c.thunkable in
+        absurd (takes_none l s r v.fits.formula v.fits.known (λ o. (let none : TakesOffset StubDistance = subst TakesOffset is o in none)) (λ a. (let none : TakesAddress StubDistance = subst TakesAddress is a in none)) a)
 
 -- an address has no offset, so that it takes the symbol's own
 bare_by : (l : Layout) (s : Item) (i : ℕ) (f : Formula) → SymbolAddress ≡ f.value → TakesItself l s i f → IsStubbed l i → ⊥
@@ -325,21 +365,13 @@ address_links l w m s i r h a zero v =
       field = address_reads l w m s i r h v;
     }
 
--- an expression that takes neither is none of these
-takes_none : (l : Layout) (s : Item) (r : InputRelocation) (f : Formula) → formula_of l.machine r.number ≡ Some f → (TakesOffset f.value → ⊥) → (TakesAddress f.value → ⊥) → IsLinkedAlone l s r → ⊥
-takes_none l s r f known offset address a = by_takes (taken l s r f known a)
-  where
-    by_takes : TakesItself l s a.symbol f → ⊥
-    by_takes (inl o) = offset o
-    by_takes (inr t) = address t.0
-
 written_links : (l : Layout) (w : World) (m : Memory) (s : Item) (i : ℕ) (r : InputRelocation) → IsItemLoaded l w m s → (a : IsLinkedAlone l s r) → w.base ≡ 0 → Writes l s i r → FieldIsLinked l w m s r
 written_links l w m s i r h a zero (inl v) = value_links l w m s i r h a zero v
 written_links l w m s i r h a zero (inr (inl v)) = address_links l w m s i r h a zero v
 written_links l w m s i r h a zero (inr (inr (inl f))) = absurd (left_follows l w m s i r h.placed (holds_at (NamesSymbol l) s.relocations i r f.plain.has.listed h.symbols) f f.fits.known a)
 written_links l w m s i r h a zero (inr (inr (inr (inl c)))) = absurd (takes_none l s r (formula NoValue NoField) c.known (λ o. o) (λ o. o) a)
 written_links l w m s i r h a zero (inr (inr (inr (inr (inl f))))) = (let held = row_holds l w m s i r h (λ e. zero) f in absurd (takes_none l s r held.holds.formula held.holds.known held.offset held.address a))
-written_links l w m s i r h a zero (inr (inr (inr (inr (inr f))))) = (let held = branch_holds l w m s i r h (λ e. zero) f in absurd (takes_none l s r held.holds.formula held.holds.known held.offset held.address a))
+written_links l w m s i r h a zero (inr (inr (inr (inr (inr f))))) = branch_links l w m s r h.linked (branch_reads l w m s i r h (λ e. zero) f) a zero
 
 pub field_links : (l : Layout) (w : World) (m : Memory) (s : Item) (i : ℕ) (r : InputRelocation) → IsItemLoaded l w m s → IsKeptReference l s i r → IsLinkedAlone l s r → w.base ≡ 0 → FieldIsLinked l w m s r
 field_links l w m s i r h k a zero = written_links l w m s i r h a zero (relocation_written l s i r k.decision h.tables.agree k.has k.keeps k.refers)

@@ -148,9 +148,9 @@ each_beside law l s i j r q row v k d x86 decided p own h =
           let same : r ≡ q = (let z : Some r ≡ Some q = sym p.has.listed ∙ there in cc) in
           subst (λ (x : InputRelocation). IsBesideField l x (template_start row r + k)) same (own_beside l s i r row v k x86 p own))
       | inr other ↦ elim (is_call d) [
-        | inr plain ↦ law l s x86 decided i j r q row v d p.has h other (λ e c. plain c) (template_start row r + k) low high
+        | inr plain ↦ law l s decided i j r q row v d p.has h other (λ e c. plain c) (template_start row r + k) low high
         | inl call ↦ elim (cases_eq j (i + 1)) [
-          | inr far ↦ law l s x86 decided i j r q row v d p.has h other (λ e c. far e) (template_start row r + k) low high
+          | inr far ↦ law l s decided i j r q row v d p.has h other (λ e c. far e) (template_start row r + k) low high
           | inl next ↦
               (let at : HasDecision l s (i + 1) q Partner = subst (λ (x : ℕ). HasDecision l s x q Partner) next (subst (λ (x : Decision). HasDecision l s j q x) call h) in
               taken_beside l s i r q row v k x86 p own at)

@@ -171,7 +171,7 @@ no_call law l s i r first row v from o x86 decided p alone q =
           let low : template_start row r ≤ r.offset = omega (arith, before) in
           let high : r.offset < template_start row r + pattern_size row = omega (arith, before, room) in
           let f = slot_formula r.number t.number.0 t.number.1 t.number.2 in
-          not_beside r.offset (form_width f.0.form) f.2 (law l s x86 decided i (j + 1) r r row v d.0 p.has (record { listed = q.has.next; decided = d.1 }) other (λ e c. not_itself t e) r.offset low high f.0 (formula_there l.machine r.number f.0 x86 f.1)))
+          not_beside r.offset (form_width f.0.form) f.2 (law l s decided i (j + 1) r r row v d.0 p.has (record { listed = q.has.next; decided = d.1 }) other (λ e c. not_itself t e) r.offset low high f.0 (formula_there l.machine r.number f.0 x86 f.1)))
     ]
   where
     not_itself : IsTakenAlong l s q.has.index first r → q.has.index + 1 ≡ i + 1 → ⊥

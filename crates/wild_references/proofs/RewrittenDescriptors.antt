@@ -67,7 +67,7 @@ third_info : info_written CALL_THIRD ≡ tp_off (imm16 16 32) (unsigned 32) 1
 unfolding static_row thread_row
 third_info = refl
 
-abbrev call_rows : Rewriting
+abbrev pub call_rows : Rewriting
 call_rows = rewriting DescriptorCall (CALL_FIRST ∷ CALL_SECOND ∷ CALL_THIRD ∷ CALL_FOURTH ∷ []) judged.call_to_offset
 
 -- word k of a call is written, with the first relocation's symbol and addend

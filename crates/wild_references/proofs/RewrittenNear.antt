@@ -74,7 +74,7 @@ info_is : info_written ADDRESS_SECOND ≡ near_info
 unfolding static_row
 info_is = refl
 
-abbrev address_rows : Rewriting
+abbrev pub address_rows : Rewriting
 address_rows = rewriting Address (ADDRESS_FIRST ∷ ADDRESS_SECOND ∷ []) judged.address_to_near
 
 -- ---- the value

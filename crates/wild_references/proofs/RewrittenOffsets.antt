@@ -221,7 +221,7 @@ slot_info : info_written SLOT_FIRST ≡ tp_off (imm16 16 32) (unsigned 32) 1
 unfolding static_row thread_row
 slot_info = refl
 
-abbrev slot_rows : Rewriting
+abbrev pub slot_rows : Rewriting
 slot_rows = rewriting OffsetSlot (SLOT_FIRST ∷ SLOT_SECOND ∷ []) judged.slot_to_offset
 
 -- both words of a pair are written

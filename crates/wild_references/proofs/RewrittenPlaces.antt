@@ -31,7 +31,7 @@ use Rattle.wild_layout.specs.declared.decision.Decision.TheVariants.{Rewritten}
 use Rattle.wild_layout.specs.Choice.{question_of, is_partner}
 use Rattle.wild_layout.specs.Sites.{template_start}
 use Rattle.wild_layout.proofs.ChoiceLemmas.{IsChosen}
-use Rattle.wild_layout.proofs.DecisionLemmas.{IsRewritten, decide_rewritten}
+use Rattle.wild_layout.proofs.DecisionLemmas.{IsRewritten, rewritten_x86_64}
 use Rattle.wild_geometry.specs.Loaded.{HasDecision}
 use Rattle.wild_meaning.specs.Section.{IsSet}
 use Rattle.wild_loader.specs.Instruction.{stands}
@@ -65,9 +65,9 @@ pub record IsPlacedRow (l : Layout) (s : Item) (i : ℕ) (r : InputRelocation) (
   pub changing : IsChanging row
   pub fits : RowFits row
 
-pub placed_row : LawsBelow → (l : Layout) (s : Item) (i : ℕ) (r : InputRelocation) (row : Row) (v : ℕ) → HasDecision l s i r (Rewritten row v) → IsPlacedRow l s i r row v
-placed_row laws l s i r row v has =
-    let made = decide_rewritten l s i r row v has.listed has.decided in
+pub placed_row : LawsBelow → (l : Layout) (s : Item) (i : ℕ) (r : InputRelocation) (row : Row) (v : ℕ) → l.machine ≡ machine.X86_64 → HasDecision l s i r (Rewritten row v) → IsPlacedRow l s i r row v
+placed_row laws l s i r row v x86 has =
+    let made = rewritten_x86_64 l s i r row v x86 has.listed has.decided in
     let chosen = made.chosen in
     let q = question_of l s r chosen.symbol (slice_get s.relocations (i + 1)) in
     let stands = laws.stand q row chosen.chosen in

@@ -13,7 +13,8 @@ use Rattle.wild_words.proofs.Basics.{implied, listed_passes}
 use Rattle.wild_types.specs.declared.kind.Machine.TheVariants as machine
 use Rattle.wild_types.specs.declared.input.InputRelocation.{InputRelocation}
 use Rattle.wild_types.specs.declared.layout.Layout.{Layout}
-use Rattle.wild_types.specs.Flags.{has_flag, undefined_weak}
+use Rattle.wild_types.specs.declared.symbol.ValueFlags.{ValueFlags}
+use Rattle.wild_types.specs.Flags.{has_flag, interposable, absolute, dynamic, undefined_weak}
 use Rattle.wild_types.specs.Item.{Item}
 use Rattle.wild_types.specs.Lookups.{executable}
 use Rattle.wild_slot.specs.Treatment.{flags_at}
@@ -212,7 +213,7 @@ pub record IsRewrittenWord (l : Layout) (s : Item) (i : ℕ) (r : InputRelocatio
   pub among : pattern_of row ≡ Among sequence word
 
 -- what each such row asks
-abbrev is_word : Pattern → Bool
+abbrev pub is_word : Pattern → Bool
 is_word (Among q k) = true
 is_word other = false
 
@@ -238,7 +239,7 @@ abbrev is_address : Pattern → Bool
 is_address (Among Address k) = true
 is_address other = false
 
-abbrev asks_near : ValueTest → Bool
+abbrev pub asks_near : ValueTest → Bool
 asks_near (value.OwnNear behind) = true
 asks_near other = false
 
@@ -249,9 +250,20 @@ each_is_near : list_all is_near_address rows_aarch64 ≡ true
 unfolding rows_aarch64
 each_is_near = refl
 
-not_weak : (t : ValueTest) (q : Question) → asks_near t ≡ true → takes_value t q ≡ true → has_flag q.flags undefined_weak ≡ false
-not_weak (value.OwnNear behind) q near h = not-true (has_flag q.flags undefined_weak) (and_parts _ _ (and_parts _ _ h).0).1
-not_weak other q near h = cc
+-- a near address is of an own symbol that is there and moves
+pub record IsNearSymbol (f : ValueFlags) : Type 0 where
+  pub own : interposable f ≡ false
+  pub moves : has_flag f absolute ≡ false
+  pub here : has_flag f dynamic ≡ false
+  pub defined : has_flag f undefined_weak ≡ false
+
+pub near_symbol : (t : ValueTest) (q : Question) → asks_near t ≡ true → takes_value t q ≡ true → IsNearSymbol q.flags
+near_symbol (value.OwnNear behind) q near h =
+    let weak = and_parts _ _ (and_parts _ _ h).0 in
+    let own = and_parts _ _ weak.0 in
+    let address = and_parts _ _ own.1 in
+    record { own = not-true _ own.0; moves = not-true _ address.0; here = not-true _ address.1; defined = not-true _ weak.1 }
+near_symbol other q near h = cc
 
 in_code : (b c : Bool) → b ≡ true → (not b || c) ≡ true → c ≡ true
 in_code true c e h = h
@@ -311,4 +323,4 @@ address_there l s i r row t e =
     let q = question_around l s i r t.symbol in
     let c = chosen_word q row t.sequence t.word t.chosen t.among in
     let near = implied _ _ (listed_passes is_near_address rows_aarch64 row each_is_near c.listed) (ap is_address (t.among ∙ ap (λ (x : Sequence). Among x t.word) e)) in
-    not_weak row.value q near c.applied.value
+    (near_symbol row.value q near c.applied.value).defined

@@ -30,7 +30,7 @@ use Rattle.wild_meaning.specs.Sequence.{size_of, bytes_of, by_word, IsOwnByte, d
 use Rattle.wild_meaning.specs.Field.{InNoField}
 use Rattle.wild_meaning.specs.ReferentAArch64.{IsAbsent}
 use Rattle.wild_meaning.specs.Partners.{HasPartner}
-use Rattle.wild_meaning.specs.Template.{AddsNothing, counts_from, IsInstruction, IsSequence}
+use Rattle.wild_meaning.specs.Template.{AddsNothing, counts_from, IsInstruction, IsSequence, IsOfSequence}
 use Rattle.wild_meaning.proofs.BitLemmas.{bit_code}
 use Rattle.wild_references.proofs.WordsAArch64.{fours, words_from, words_read}
 use Rattle.wild_references.proofs.RewrittenRuns.{kind_of, run_of, run_stands, IsRewrittenWord, IsRunThere, address_there}
@@ -58,7 +58,7 @@ there rs i n e some = by (slice_get rs i) refl
     by None h = absurd (some (sym e ∙ (rw h refl)))
     by (Some p) h = (p, h, rw h refl)
 
-part : (s : Item) (index : ℕ) (symbol : Option ℕ) (place n : ℕ) (ns : List ℕ) (rest : List RelocationInfo) → (n ≡ 0 → ⊥) → follow symbol place (n ∷ ns) (info_at s.relocations index ∷ rest) ≡ true → IsPart s symbol place n index × (follow symbol (place + 4) ns rest ≡ true)
+pub part : (s : Item) (index : ℕ) (symbol : Option ℕ) (place n : ℕ) (ns : List ℕ) (rest : List RelocationInfo) → (n ≡ 0 → ⊥) → follow symbol place (n ∷ ns) (info_at s.relocations index ∷ rest) ≡ true → IsPart s symbol place n index × (follow symbol (place + 4) ns rest ≡ true)
 part s index symbol place n ns rest some h =
     let r = info_at s.relocations index in
     let a = and_parts (r.number == n && r.offset == place && same_symbol r.symbol symbol && none_added r.addend) (follow symbol (place + 4) ns rest) h in
@@ -103,7 +103,7 @@ known_run DescriptorCall = (46, omega arith, refl)
 known_run OffsetSlot = (47, omega arith, refl)
 known_run Address = (48, omega arith, refl)
 
-run_size : (q : Sequence) → size_of (run_of q) ≡ 4 * length (types_of q)
+pub run_size : (q : Sequence) → size_of (run_of q) ≡ 4 * length (types_of q)
 run_size DescriptorCall = refl
 run_size OffsetSlot = refl
 run_size Address = refl
@@ -177,6 +177,9 @@ pub record IsJudgedRun (l : Layout) (s : Item) (r : InputRelocation) (q : Sequen
   pub sequence : IsSequence l s first rest start (run_of q)
   pub at : sequence.index ≡ index
   pub one : Contains (first ∷ rest) r
+
+pub of_run : (l : Layout) (s : Item) (r : InputRelocation) (q : Sequence) (start index : ℕ) → (j : IsJudgedRun l s r q start index) → IsOfSequence l s r start (run_of q) j.first
+of_run l s r q start index j = record { rest = j.rest; sequence = j.sequence; one = j.one }
 
 same_at : (s : Item) (a b : ℕ) (p r : InputRelocation) → slice_get s.relocations a ≡ Some p → slice_get s.relocations b ≡ Some r → b ≡ a → p ≡ r
 same_at s a b p r there here e = (let both : Some p ≡ Some r = sym there ∙ subst (λ (n : ℕ). slice_get s.relocations n ≡ Some r) e here in cc)

@@ -74,7 +74,7 @@ low_is : info_written CALL_FOURTH_SLOT ≡ low_info
 unfolding static_row thread_row
 low_is = refl
 
-abbrev call_rows : Rewriting
+abbrev pub call_rows : Rewriting
 call_rows = rewriting DescriptorCall (CALL_FIRST ∷ CALL_SECOND ∷ CALL_THIRD_SLOT ∷ CALL_FOURTH_SLOT ∷ []) judged.call_to_slot
 
 -- ---- the values

@@ -1,4 +1,4 @@
--- Instructions that are rewritten hold, and so do the calls that they take along.
+-- Instructions of x86-64 that are rewritten hold, and so do the calls that they take along.
 use Rattle.std.proofs.Common.{◌≡◌, ℕ, ◌+◌, ◌≤◌, inl, inr, Bool, true, false, [], ◌∷◌, refl, sym, ap, ◌∙◌, arith, subst}
 use Rattle.std.specs.Prelude.{◌==◌, not, Some, Ok, slice_get}
 use Rattle.std.proofs.lemmas.Bool.{cases_Bool}
@@ -23,11 +23,11 @@ use Rattle.wild_loader.specs.declared.world.World.{World}
 use Rattle.wild_types.specs.Item.{Item}
 use Rattle.wild_meaning.specs.Sequence.{TargetInSlot, Instruction, size_of}
 use Rattle.wild_meaning.specs.Template.{IsSingle, IsTemplate, reads_alone, DoesDemanded}
-use Rattle.wild_meaning.specs.Reference.{CountsFromPlace, IsAsked, ReadsOwnSlots}
+use Rattle.wild_meaning.specs.Reference.{CountsFromPlace, IsAsked, IsTakenAlong, HoldsRewritten, ReadsOwnSlots}
 use Rattle.wild_types.specs.declared.kind.Machine.{Machine}
 use Rattle.wild_types.specs.declared.kind.Machine.TheVariants as machine
 use Rattle.wild_references.specs.Laws.{IsLoadedItem}
-use Rattle.wild_references.specs.EffectLaws.{RewrittenStand, RewrittenHold, PartnersHold}
+use Rattle.wild_references.specs.EffectLaws.{StandsAt}
 use Rattle.wild_references.proofs.RewrittenForms.{instruction_of}
 use Rattle.wild_references.proofs.RewrittenPlaces.{LawsBelow, IsPlacedRow, placed_row, size_is}
 use Rattle.wild_references.proofs.RewrittenAlone.{called}
@@ -130,18 +130,18 @@ row_held laws l w m s i r row v h p = by (is_told row) refl
         let same = plain_is row p.changing.listed (truly (row.number == r_x86_64_gotpcrel) plain) in
         subst (λ (x : Row). IsPlacedRow l s i r x v → IsHeld l w m s r x) (sym same) (λ q. plain_held laws l w m s i r v h q) p
 
-pub rewritten_stand : LawsBelow → RewrittenStand
-rewritten_stand laws l w m s h i r row v has =
-    let t = row_held laws l w m s i r row v h (placed_row laws l s i r row v has) in
+pub instruction_stands : LawsBelow → (l : Layout) (w : World) (m : Memory) (s : Item) → IsLoadedItem machine.X86_64 l w m s → (i : ℕ) (r : InputRelocation) (row : Row) (v : ℕ) → HasDecision l s i r (Rewritten row v) → StandsAt l s r (template_start row r) (pattern_size row)
+instruction_stands laws l w m s h i r row v has =
+    let t = row_held laws l w m s i r row v h (placed_row laws l s i r row v h.on has) in
     record { from = t.from; instruction = t.instruction; first = r; template = t.template; before = t.before; behind = t.behind }
 
 -- which words code reads is not asked on x86-64
 words_free : (l : Layout) (w : World) (m : Memory) (s : Item) (first : InputRelocation) (start : ℕ) (o : Instruction) → l.machine ≡ machine.X86_64 → ReadsOwnSlots l.machine l w m s first start o
 words_free l w m s first start o x = subst (λ (k : Machine). ReadsOwnSlots k l w m s first start o) (sym x) tt
 
-pub rewritten_hold : LawsBelow → RewrittenHold
-rewritten_hold laws l w m s h i r row v has asked =
-    let t = row_held laws l w m s i r row v h (placed_row laws l s i r row v has) in
+pub instruction_holds : LawsBelow → (l : Layout) (w : World) (m : Memory) (s : Item) → IsLoadedItem machine.X86_64 l w m s → (i : ℕ) (r : InputRelocation) (row : Row) (v : ℕ) → HasDecision l s i r (Rewritten row v) → IsAsked l w s r → HoldsRewritten l w m s r
+instruction_holds laws l w m s h i r row v has asked =
+    let t = row_held laws l w m s i r row v h (placed_row laws l s i r row v h.on has) in
     record { start = t.from; instruction = t.instruction; first = r; template = t.template; does = t.does (λ sort. asked); words = words_free l w m s r t.from t.instruction h.on }
 
 -- ---- the calls of sequences
@@ -166,11 +166,11 @@ before_call l w m s i r h has =
         let by = sequence_is_rewritten l s j row d.0 q d.1 in
         record { first = q.relocation; row = row; value = by.0; has = record { listed = q.listed; decided = d.1 ∙ ap (λ (x : Decision). Ok x) by.1 }; skips = q.takes; listed = listed }
 
-pub partners_hold : LawsBelow → PartnersHold
-partners_hold laws l w m s h i r has =
+pub partner_holds : LawsBelow → (l : Layout) (w : World) (m : Memory) (s : Item) → IsLoadedItem machine.X86_64 l w m s → (i : ℕ) (r : InputRelocation) → HasDecision l s i r Partner → IsTakenAlong l w m s r
+partner_holds laws l w m s h i r has =
     let b = before_call l w m s i r h has in
     let t = b.1 in
-    let p = placed_row laws l s b.0 t.first t.row t.value t.has in
+    let p = placed_row laws l s b.0 t.first t.row t.value h.on t.has in
     record {
       start = template_start t.row t.first;
       instruction = instruction_of t.row;

@@ -75,7 +75,7 @@ field_out laws l s i j r q v from x w row x86 decided t h other low high =
             (let f = four_there in
             let width = four_bytes f.0 f.1 in
             let at = at_field l s i r v from t in
-            absurd (not_beside width at (laws.alone l s x86 decided j i q r row w (Rewritten PLAIN_LEA v) h t.row.has other (λ e c. cc) x above inside f.0 (formula_there l.machine r.number f.0 x86 t.row.chosen.number f.1))))
+            absurd (not_beside width at (laws.alone l s decided j i q r row w (Rewritten PLAIN_LEA v) h t.row.has other (λ e c. cc) x above inside f.0 (formula_there l.machine r.number f.0 x86 t.row.chosen.number f.1))))
       ]
     ]
   where
@@ -100,7 +100,7 @@ apart : LawsBelow → (l : Layout) (s : Item) (i j : ℕ) (r q : InputRelocation
 apart laws l s i j r q v from w row x86 decided t h other low high = by_cell (is_free (get_or (cells_of (pattern_of row)) (from - template_start row q) cells.Any)) refl
   where
     there : Window l s j q row w
-    there = window l s j q row w h
+    there = window l s j q row w x86 h
 
     passes : (b : Bool) → b ≡ false → (b || list_all (λ (o : Instruction). pair_ok o.template.cells (cells_of (pattern_of row))) (instructions_of machine.X86_64)) ≡ true → pair_ok wide_load.template.cells (cells_of (pattern_of row)) ≡ true
     passes true e k = cc
@@ -149,7 +149,7 @@ out_of_windows laws l s i r v from x86 decided t j q row w h =
 pub prefix_stays : LawsBelow → (l : Layout) (w : World) (m : Memory) (s : Item) (i : ℕ) (r : InputRelocation) (v from : ℕ) → IsLoadedItem machine.X86_64 l w m s → IsWider l s i r v from → IsInputByte w m s from
 prefix_stays laws l w m s i r v from h t =
     let inside = room l s i r v from t.plain in
-    input_byte l w m s from h (omega (arith, inside)) t.alone (out_of_windows laws l s i r v from h.on h.decided t)
+    input_byte machine.X86_64 l w m s from h (omega (arith, inside)) t.alone (out_of_windows laws l s i r v from h.on h.decided t)
 
 -- ---- the same bytes
 

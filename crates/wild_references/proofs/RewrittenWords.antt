@@ -1,8 +1,13 @@
 -- What is decided of the relocations of a run that is rewritten.
---   word_written      where a row is chosen that changes its word, that is what is written
---   asked_there       each word of a run asks the same question
+--   word_written        where a row is chosen that changes its word, that is what is written
+--   words_are_written   so it is of each relocation of an item
+--   rewritten_word      what is rewritten is a word of a run
+--   asked_there         each word of a run asks the same question
 use Rattle.std.proofs.Common.{◌≡◌, ℕ, ◌+◌, ◌-◌, Bool, true, false, refl, sym, ap, ◌∙◌, subst, arith}
-use Rattle.std.specs.Prelude.{Option, Some, Result, Ok, Err, if◌then◌else◌, slice_get}
+use Rattle.std.specs.Prelude.{Option, Some, Result, Ok, Err, ◌||◌, if◌then◌else◌, slice_get}
+use Rattle.std.specs.List.{list_all}
+use Rattle.std.proofs.lemmas.Option.{slice_get_within}
+use Rattle.wild_words.proofs.Basics.{or_other, listed_passes}
 use Rattle.wild_types.specs.declared.kind.Machine.{Machine}
 use Rattle.wild_types.specs.declared.kind.Machine.TheVariants as machine
 use Rattle.wild_types.specs.declared.fault.Fault.{Fault}
@@ -13,15 +18,24 @@ use Rattle.wild_types.specs.Item.{Item}
 use Rattle.wild_reloc.specs.Field.{allows}
 use Rattle.wild_relax.specs.declared.reference.UnknownSequence.{UnknownSequence}
 use Rattle.wild_relax.specs.declared.row.Row.{Row}
-use Rattle.wild_relax.specs.Linked.{keeps_bytes}
+use Rattle.wild_relax.specs.declared.pattern.Pattern.{Pattern}
+use Rattle.wild_relax.specs.declared.pattern.Pattern.TheVariants.{Among}
+use Rattle.wild_relax.specs.declared.pattern.Sequence.{Sequence}
+use Rattle.wild_relax.specs.Linked.{pattern_of, keeps_bytes}
+use Rattle.wild_relax.specs.Question.{Question}
 use Rattle.wild_relax.specs.RewriteX86_64.{rewrite_of, info_written}
+use Rattle.wild_relax.specs.RowsAArch64.{rows_aarch64, chosen_aarch64}
 use Rattle.wild_relax.specs.SequenceAArch64.{words_before}
 use Rattle.wild_relax.specs.TogetherAArch64.{asked_at}
 use Rattle.wild_layout.specs.declared.decision.Decision.{Decision}
 use Rattle.wild_layout.specs.declared.decision.Decision.TheVariants.{Field, Rewritten}
-use Rattle.wild_layout.specs.Choice.{infos_from, asked_of, question_around, choice_around, choice_on, is_partner}
+use Rattle.wild_layout.specs.Choice.{infos_from, asked_of, question_around, choice_around_by, choice_around, choice_on, is_partner}
 use Rattle.wild_layout.specs.Decide.{place_to, term_to, value_to, rewritten_to, decide_with, decide}
 use Rattle.wild_layout.specs.Values.{value_in}
+use Rattle.wild_layout.proofs.ChoiceLemmas.{no_partner_aarch64}
+use Rattle.wild_layout.proofs.DecisionLemmas.{rewritten_aarch64}
+use Rattle.wild_geometry.specs.Loaded.{IsDecided, HasDecision}
+use Rattle.wild_references.proofs.RewrittenRuns.{IsRewrittenWord, is_word}
 use Rattle.wild_references.proofs.RewrittenOffsets.{IsWrittenWord}
 
 -- ---- the decision
@@ -46,16 +60,49 @@ word_written l s i r row d on listed chosen changes alone h = by_term (term_to l
     made = subst (λ (c : Result (Option Row) UnknownSequence). decide_with l s r c ≡ Ok d) chosen on_machine
 
     by_test : (a v : ℕ) (b : Bool) → term_to l r (info_written row) (place_to s r row) ≡ Ok a → value_in l (info_written row) a ((rewrite_of row).addend r.addend) (place_to s r row) ≡ v → allows (info_written row) v ≡ b
-        → (if b then Ok (if keeps_bytes row then Field (info_written row).size v else Rewritten row v) else Err (faults.OutOfRange v)) ≡ Ok d → IsDecidedWord l s i r row d
+        → (if b then Ok (Rewritten row v) else Err (faults.OutOfRange v)) ≡ Ok d → IsDecidedWord l s i r row d
     by_test a v false given value allowed e = cc
     by_test a v true given value allowed e =
-        let same : Ok (Rewritten row v) ≡ Ok d = rw changes at e in
         let is : d ≡ Rewritten row v = cc in
         record { value = v; is = is; written = record { has = record { listed = listed; decided = h ∙ ap (λ (x : Decision). Ok x) is }; term = a; given = given; value = value; allowed = allowed } }
 
     by_term : (t : Result ℕ Fault) → term_to l r (info_written row) (place_to s r row) ≡ t → value_to l s r row t ≡ Ok d → IsDecidedWord l s i r row d
     by_term (Err f) given e = cc
-    by_term (Ok a) given e = by_test a (value_in l (info_written row) a ((rewrite_of row).addend r.addend) (place_to s r row)) (allows (info_written row) (value_in l (info_written row) a ((rewrite_of row).addend r.addend) (place_to s r row))) given refl refl e
+    by_term (Ok a) given e = by_test a (value_in l (info_written row) a ((rewrite_of row).addend r.addend) (place_to s r row)) (allows (info_written row) (value_in l (info_written row) a ((rewrite_of row).addend r.addend) (place_to s r row))) given refl refl (rw changes at e)
+
+choice_there : (l : Layout) (s : Item) (i symbol : ℕ) (r : InputRelocation) (row : Row) → r.symbol ≡ Some symbol → chosen_aarch64 (question_around l s i r symbol) ≡ Ok (Some row) → choice_around l s i r ≡ Ok (Some row)
+unfolding choice_around_by
+choice_there l s i symbol r row named h = rw named h
+
+-- where a row is chosen that changes its word, the word is written
+abbrev pub WordsAreWritten : Layout → Item → ℕ → Type 0
+WordsAreWritten l s symbol = (i : ℕ) (r : InputRelocation) (row : Row) → slice_get s.relocations i ≡ Some r → r.symbol ≡ Some symbol → chosen_aarch64 (question_around l s i r symbol) ≡ Ok (Some row) → keeps_bytes row ≡ false → (v : ℕ) × IsWrittenWord l s i r row v
+
+pub words_are_written : (l : Layout) (s : Item) (symbol : ℕ) → l.machine ≡ machine.AArch64 → IsDecided l s → WordsAreWritten l s symbol
+words_are_written l s symbol on decided i r row listed named chosen changes =
+    let d = decided.each i (slice_get_within s.relocations i r listed) in
+    let w = word_written l s i r row d.0 on listed (choice_there l s i symbol r row named chosen) changes (no_partner_aarch64 l s i on) d.1 in
+    (w.value, w.written)
+
+-- ---- words of runs
+
+abbrev keeps_or_word : Row → Bool
+keeps_or_word row = keeps_bytes row || is_word (pattern_of row)
+
+each_is_word : list_all keeps_or_word rows_aarch64 ≡ true
+unfolding rows_aarch64
+each_is_word = refl
+
+among : (p : Pattern) → is_word p ≡ true → (q : Sequence) × (k : ℕ) × (p ≡ Among q k)
+among (Among q k) h = (q, k, refl)
+among other h = cc
+
+pub rewritten_word : (l : Layout) (s : Item) (i : ℕ) (r : InputRelocation) (row : Row) (v : ℕ) → l.machine ≡ machine.AArch64 → HasDecision l s i r (Rewritten row v) → IsRewrittenWord l s i r row
+rewritten_word l s i r row v on has =
+    let w = rewritten_aarch64 l s i r row v on has.listed has.decided in
+    let c = w.chosen in
+    let t = among (pattern_of row) (or_other (keeps_bytes row) (is_word (pattern_of row)) (listed_passes keeps_or_word rows_aarch64 row each_is_word c.listed) w.changes) in
+    record { on = on; listed = has.listed; symbol = c.symbol; named = c.named; chosen = c.chosen; sequence = t.0; word = t.1; among = t.2 }
 
 -- ---- the question
 

@@ -1,8 +1,8 @@
 -- The words of a run that its references keep: each has the bits of its formula's value.
 use Rattle.std.proofs.Common.{◌≡◌, ℕ, ◌+◌, ◌<◌, ◌⊎◌, inl, inr, true, false, List, [], ◌∷◌, length, refl, sym, ◌∙◌, subst}
-use Rattle.std.specs.Prelude.{slice_range, Some, Contains}
+use Rattle.std.specs.Prelude.{Bool, slice_range, Some, Contains, ◌||◌, ◌==◌}
 use Rattle.wild_words.specs.Words.{number}
-use Rattle.wild_records.specs.Abi.Relocation.{r_aarch64_jump26, r_aarch64_call26}
+use Rattle.wild_records.specs.Abi.Relocation.{r_aarch64_tstbr14, r_aarch64_condbr19, r_aarch64_jump26, r_aarch64_call26}
 use Rattle.wild_types.specs.declared.kind.Machine.{Machine}
 use Rattle.wild_types.specs.declared.kind.Machine.TheVariants as machine
 use Rattle.wild_types.specs.declared.input.InputRelocation.{InputRelocation}
@@ -137,8 +137,17 @@ slot_word g n l w m s r q start at o first k t c number place =
 
 -- ---- the two parts of an address are asked together
 
+-- the type of a conditional branch
+abbrev is_conditional : ℕ → Bool
+is_conditional n = n == r_aarch64_tstbr14 || n == r_aarch64_condbr19
+
+not_conditional : (n : ℕ) → is_conditional n ≡ false → (n ≡ r_aarch64_tstbr14) ⊎ (n ≡ r_aarch64_condbr19) → ⊥
+not_conditional n h (inl e) = (let both : is_conditional r_aarch64_tstbr14 ≡ false = subst (λ (k : ℕ). is_conditional k ≡ false) e h in cc)
+not_conditional n h (inr e) = (let both : is_conditional r_aarch64_condbr19 ≡ false = subst (λ (k : ℕ). is_conditional k ≡ false) e h in cc)
+
 -- a relocation type that has a part of a symbol's address
 pub record IsOfAddress (n : ℕ) (f : Formula) : Type 0 where
+  pub straight : is_conditional n ≡ false
   pub known : aarch64_formula n ≡ Some f
   pub takes : TakesAddress f.value
   pub part : f.value ≡ SymbolAddress → ⊥
@@ -176,6 +185,7 @@ part_word g n l w m s r q start at first k own t symbol c number place = has_wor
       formula = own.formula;
       known = subst (λ (x : Machine). formula_of x r.number ≡ Some own.formula) (sym k.on) own.is.known;
       takes = by (subst (λ (f : Formula). TakesItself l s a.symbol f) (same_formula l q.number g a.formula k.on known a.known) a.takes);
+      direct = λ through. not_conditional r.number own.is.straight through.conditional;
     })
       where
         by : TakesItself l s a.symbol g → TakesItself l s a.symbol own.formula

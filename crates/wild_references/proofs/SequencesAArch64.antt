@@ -121,12 +121,13 @@ pub record HasThree (l : Layout) (s : Item) (first : InputRelocation) (start i :
   pub is : rest ≡ second ∷ third ∷ fourth ∷ []
   pub two : HasPartner l s first second start i p
   pub three : HasPartner l s first third start (i + 1) q
+  pub four : HasPartner l s first fourth start (i + 1 + 1) o
 
-has_three : (l : Layout) (s : Item) (first : InputRelocation) (start i : ℕ) (p q o : Partner) (rest : List InputRelocation) → HasPartners l s first start i (p ∷ q ∷ o ∷ []) rest → HasThree l s first start i p q o rest
+pub has_three : (l : Layout) (s : Item) (first : InputRelocation) (start i : ℕ) (p q o : Partner) (rest : List InputRelocation) → HasPartners l s first start i (p ∷ q ∷ o ∷ []) rest → HasThree l s first start i p q o rest
 has_three l s first start i p q o [] h = absurd h
 has_three l s first start i p q o (a ∷ []) h = absurd h.1
 has_three l s first start i p q o (a ∷ b ∷ []) h = absurd h.1.1
-has_three l s first start i p q o (a ∷ b ∷ c ∷ []) h = record { second = a; third = b; fourth = c; is = refl; two = h.0; three = h.1.0 }
+has_three l s first start i p q o (a ∷ b ∷ c ∷ []) h = record { second = a; third = b; fourth = c; is = refl; two = h.0; three = h.1.0; four = h.1.1.0 }
 has_three l s first start i p q o (a ∷ b ∷ c ∷ e ∷ rs) h = absurd h.1.1.1
 
 -- the call itself has no field
@@ -186,11 +187,11 @@ call_run l w m s r start first k =
 
 address_page : IsOfAddress r_aarch64_adr_prel_pg_hi21 (page_of_value PageDistance)
 unfolding aarch64_formula
-address_page = record { known = refl; takes = tt; part = λ e. cc; offset = λ h. h }
+address_page = record { straight = refl; known = refl; takes = tt; part = λ e. cc; offset = λ h. h }
 
 address_low : IsOfAddress r_aarch64_add_abs_lo12_nc (low_of_value SymbolPart)
 unfolding aarch64_formula
-address_low = record { known = refl; takes = tt; part = λ e. cc; offset = λ h. h }
+address_low = record { straight = refl; known = refl; takes = tt; part = λ e. cc; offset = λ h. h }
 
 -- the address of a symbol that is there
 high_stands : (l : Layout) (w : World) (m : Memory) (s : Item) (r : InputRelocation) (i a : ℕ) → l.machine ≡ machine.AArch64 → r.symbol ≡ Some i → (IsAbsent l i → ⊥) → IsReferent l.machine PageDistance l w m s r a → IsOneAddress l w m i a

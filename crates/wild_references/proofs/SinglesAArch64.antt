@@ -1,5 +1,5 @@
 -- An instruction of one word of AArch64 whose reference keeps it does what it demands.
-use Rattle.std.proofs.Common.{◌≡◌, ℕ, zero, suc, ◌+◌, ◌-◌, ◌%◌, ◌^◌, ◌<◌, ◌⊎◌, inl, inr, true, List, [], ◌∷◌, length, refl, sym, ap, ◌∙◌, subst, arith}
+use Rattle.std.proofs.Common.{◌≡◌, ℕ, zero, suc, ◌+◌, ◌-◌, ◌%◌, ◌^◌, ◌<◌, ◌≤◌, ◌⊎◌, inl, inr, true, List, [], ◌∷◌, length, refl, sym, ap, ◌∙◌, subst, arith}
 use Rattle.std.specs.Prelude.{◌++◌, map, slice_range, slice_index_or, Some, Contains}
 use Rattle.std.specs.Int.{w64, cast_unsigned}
 use Rattle.wild_words.specs.Words.{number}
@@ -20,7 +20,7 @@ use Rattle.wild_meaning.specs.WordsAArch64.{is_filled, filled_numbers}
 use Rattle.wild_meaning.specs.Item.{place_at}
 use Rattle.wild_meaning.specs.Field.{formula_of, FieldReads}
 use Rattle.wild_meaning.specs.Formula.{Gives}
-use Rattle.wild_meaning.specs.Sequence.{Target, FieldBits, Instruction, of_word, runs_of_words, instructions_of}
+use Rattle.wild_meaning.specs.Sequence.{Sort, Target, FieldBits, Instruction, of_word, runs_of_words, IsOwnByte, instructions_of}
 use Rattle.wild_meaning.specs.Template.{IsInstruction, counts_from, reads, effect_of, demand_of, bits_of, DoesDemanded}
 use Rattle.wild_references.specs.Laws.{FieldHolds}
 use Rattle.wild_references.proofs.Right.{low_place}
@@ -51,6 +51,21 @@ is_word o c none = by c.0 c.1 c.2
     by zero lt e = record { number = r_aarch64_jump26; is = inr (inl refl, sym e) }
     by (suc zero) lt e = record { number = r_aarch64_call26; is = inr (inr refl, sym e) }
     by (suc (suc k)) lt e = in_bits filled_numbers o k (omega (arith, lt)) e none
+
+-- its field is all of it
+pub no_own_byte_of_word : (o : Instruction) → IsWord o → (k : ℕ) → IsOwnByte o k → ⊥
+no_own_byte_of_word o word k own = by word.is
+  where
+    none : (sort : Sort) → IsOwnByte (of_word sort word.number) k → ⊥
+    none sort h = by_field h.inside h.beside
+      where
+        by_field : k < 4 → (k < 0) ⊎ (4 ≤ k) → ⊥
+        by_field low (inl a) = omega (arith, a)
+        by_field low (inr a) = omega (arith, low, a)
+
+    by : (o ≡ of_word FieldBits word.number) ⊎ (((word.number ≡ r_aarch64_jump26) ⊎ (word.number ≡ r_aarch64_call26)) × (o ≡ of_word Target word.number)) → ⊥
+    by (inl e) = none FieldBits (subst (λ (x : Instruction). IsOwnByte x k) e own)
+    by (inr e) = none Target (subst (λ (x : Instruction). IsOwnByte x k) e.1 own)
 
 the_number : (n m : ℕ) → Contains (n ∷ []) m → m ≡ n
 the_number n m c = by c.0 c.1 c.2

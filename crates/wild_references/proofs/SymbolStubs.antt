@@ -1,5 +1,5 @@
 -- The stub of a symbol: code that goes there comes to the symbol's value.
-use Rattle.std.proofs.Common.{◌≡◌, ℕ, ◌+◌, ◌%◌, ◌^◌, ◌<◌, inl, inr, Bool, true, false, List, ◌∷◌, ◌++◌, Option, Some, None, refl, sym, ap, ◌∙◌, arith, subst}
+use Rattle.std.proofs.Common.{◌≡◌, ℕ, ◌+◌, ◌%◌, ◌^◌, ◌<◌, ◌⊎◌, inl, inr, Bool, true, false, List, ◌∷◌, ◌++◌, Option, Some, None, refl, sym, ap, ◌∙◌, arith, subst}
 use Rattle.std.specs.Prelude.{Ok, if◌then◌else◌, option_and_then}
 use Rattle.wild_types.specs.declared.fault.Missing.TheVariants as missing
 use Rattle.wild_slot.specs.declared.slot.SlotItem.{SlotItem}
@@ -14,7 +14,7 @@ use Rattle.wild_clauses.proofs.ClauseLemmas.{not_thread}
 use Rattle.wild_layout.specs.SlotValues.{resolution_of, stub_of, stub_address}
 use Rattle.wild_loader.specs.declared.memory.Memory.{Memory}
 use Rattle.wild_loader.specs.declared.world.World.{World}
-use Rattle.wild_reloc.specs.Formula.{Value, StubDistance}
+use Rattle.wild_reloc.specs.Formula.{Value, StubDistance, Distance}
 use Rattle.wild_types.specs.declared.input.InputRelocation.{InputRelocation}
 use Rattle.wild_meaning.specs.Formula.{IsTarget}
 use Rattle.wild_meaning.specs.ReferentAArch64.{StandsOnAArch64}
@@ -110,8 +110,12 @@ goal_given law l w m symbol i term p named given =
     let goal : Denotes l w m i ((w.base + term) % 2 ^ 64) = inr (stub_is l w m i term (stub_stands law l w m i term p (given_some missing.Stub i (stub_of l i) term here))) in
     subst (λ (o : Option ℕ). IsTarget l w m o ((w.base + term) % 2 ^ 64)) (sym named) goal
 
--- and it is L to an AArch64 reader: a branch with the addend is at what stands for the symbol and that
-pub goal_stands : StubLaws → (v : Value) (l : Layout) (w : World) (m : Memory) (r : InputRelocation) (i term : ℕ) → IsPlaced l w m → v ≡ StubDistance → stub_address l (Some i) ≡ Ok term → StandsOnAArch64 v l w m r i ((w.base + term) % 2 ^ 64)
-goal_stands law v l w m r i term p e given =
-    let there = stub_stands law l w m i term p (given_some missing.Stub i (stub_of l i) term given) in
-    subst (λ (q : Value). StandsOnAArch64 q l w m r i ((w.base + term) % 2 ^ 64)) (sym e) (record { symbol = (w.base + term) % 2 ^ 64; denoted = inr (stub_is l w m i term there); comes = inl refl })
+-- and it is L to an AArch64 reader: a branch with the addend is at what stands for the symbol and that; and S in a distance
+pub goal_stands : StubLaws → (v : Value) (l : Layout) (w : World) (m : Memory) (r : InputRelocation) (i term : ℕ) → IsPlaced l w m → (v ≡ StubDistance) ⊎ (v ≡ Distance) → stub_address l (Some i) ≡ Ok term → StandsOnAArch64 v l w m r i ((w.base + term) % 2 ^ 64)
+goal_stands law v l w m r i term p which given =
+    let there : Denotes l w m i ((w.base + term) % 2 ^ 64) = inr (stub_is l w m i term (stub_stands law l w m i term p (given_some missing.Stub i (stub_of l i) term given))) in
+    let P : Value → Type 0 = λ q. StandsOnAArch64 q l w m r i ((w.base + term) % 2 ^ 64) in
+    elim which [
+      | inl e ↦ subst P (sym e) (record { symbol = (w.base + term) % 2 ^ 64; denoted = there; comes = inl refl })
+      | inr e ↦ subst P (sym e) there
+    ]

@@ -11,7 +11,7 @@ use Rattle.wild_slot.specs.declared.treatment.Treatment.TheVariants as treatment
 use Rattle.wild_slot.specs.Treatment.{named, kind_treatment, is_slot, suits}
 use Rattle.wild_reloc.specs.Agreement as shape
 use Rattle.wild_reloc.specs.Expression.{expression_of, paged, taken_of, expressed, slot_sort, writes}
-use Rattle.wild_reloc.specs.Formula.{Value, StubDistance, StubFromTable, SlotAddress, SlotDistance, SlotPageDistance, SlotFromTable, SlotFromTablePage}
+use Rattle.wild_reloc.specs.Formula.{Value, Distance, StubDistance, StubFromTable, SlotAddress, SlotDistance, SlotPageDistance, SlotFromTable, SlotFromTablePage}
 use Rattle.wild_reloc.specs.declared.expression.Class.TheVariants as class
 use Rattle.wild_reloc.specs.declared.expression.SlotSort.{SlotSort}
 use Rattle.wild_reloc.specs.declared.expression.SlotSort.TheVariants as sorts
@@ -34,7 +34,7 @@ use Rattle.wild_meaning.specs.Formula.{page_of, IsReferent, IsPlaceRelative, Has
 use Rattle.wild_meaning.specs.Slot.{IsSlot}
 use Rattle.wild_meaning.specs.Reference.{IsStubbed}
 use Rattle.wild_references.specs.Terms.{IsPlaced, is_expressed, value_by_row, HasTerm, IsFollowed}
-use Rattle.wild_references.specs.Laws.{RowGives, RowGivesLinked, TermGives, TermGivesLinked, SlotsGive, GivesPart, PartsGive, PartsGiveLinked}
+use Rattle.wild_references.specs.Laws.{RowGives, RowGivesLinked, TermGives, TermGivesLinked, StubsStand, SlotsGive, GivesPart, PartsGive, PartsGiveLinked}
 use Rattle.wild_references.proofs.AddressSlots.{slots_stand}
 use Rattle.wild_references.proofs.DescriptorSlots.{descriptors_stand}
 use Rattle.wild_references.proofs.Referents.{no_mask, with_mask, of_table, sized_is, absent, present, own_parts, not_own, named_absent, own_at, own_referent, referent}
@@ -75,22 +75,23 @@ symbols_link law = λ info e v. by_kind law info e (symbol_kind info.kind e v)
 -- ---- L
 
 -- L, as the writer has it, or the place itself
-stub_refers : StubLaws → (v : Value) (l : Layout) (w : World) (m : Memory) (s : Item) (r : InputRelocation) (info : RelocationKindInfo) (x : ℕ) → (h : HasTerm l w m s r info x) → (expression_of info.kind).term ≡ term.Stub → named r.symbol (λ i. treatments.Value h.row) ≡ treatments.Value h.row → (v ≡ StubDistance) ⊎ (l.machine ≡ machine.X86_64) → (l.machine ≡ machine.AArch64 → is_place (taken_of info.kind info.mask) ≡ true) → IsReferent l.machine v l w m s r ((w.base + h.term) % 2 ^ 64)
+stub_refers : StubLaws → (v : Value) (l : Layout) (w : World) (m : Memory) (s : Item) (r : InputRelocation) (info : RelocationKindInfo) (x : ℕ) → (h : HasTerm l w m s r info x) → (expression_of info.kind).term ≡ term.Stub → named r.symbol (λ i. treatments.Value h.row) ≡ treatments.Value h.row → ((v ≡ StubDistance) ⊎ (v ≡ Distance)) ⊎ (l.machine ≡ machine.X86_64) → (l.machine ≡ machine.AArch64 → is_place (taken_of info.kind info.mask) ≡ true) → IsReferent l.machine v l w m s r ((w.base + h.term) % 2 ^ 64)
 stub_refers law v l w m s r info x h stub treated which place = by_own (is_own_place l.machine l r info) refl h.given
   where
-    on_both : l.machine ≡ machine.AArch64 → l.machine ≡ machine.X86_64 → ⊥
-    on_both a b = (let e : machine.AArch64 ≡ machine.X86_64 = sym a ∙ b in cc)
-
-    distance : l.machine ≡ machine.AArch64 → (v ≡ StubDistance) ⊎ (l.machine ≡ machine.X86_64) → v ≡ StubDistance
+    distance : l.machine ≡ machine.AArch64 → ((v ≡ StubDistance) ⊎ (v ≡ Distance)) ⊎ (l.machine ≡ machine.X86_64) → (v ≡ StubDistance) ⊎ (v ≡ Distance)
     distance on (inl e) = e
-    distance on (inr x86) = absurd (on_both on x86)
+    distance on (inr x86) = (let e : machine.AArch64 ≡ machine.X86_64 = sym on ∙ x86 in cc)
+
+    relative_by : (v ≡ StubDistance) ⊎ (v ≡ Distance) → IsPlaceRelative v
+    relative_by (inl e) = subst IsPlaceRelative (sym e) tt
+    relative_by (inr e) = subst IsPlaceRelative (sym e) tt
 
     by_own : (b : Bool) → is_own_place l.machine l r info ≡ b → (if b then Ok (undefined_weak_target r.number (place_of s.address r)) else term_of l r.symbol info.kind) ≡ Ok h.term → IsReferent l.machine v l w m s r ((w.base + h.term) % 2 ^ 64)
     by_own true e g =
         let o = own_parts l.machine l r info e in
         let n = named_absent l r.symbol o.absent in
         let a = absent l w m r n.0 h.placed h.listed n.1 n.2 in
-        let relative : IsPlaceRelative v = subst IsPlaceRelative (sym (distance o.on which)) tt in
+        let relative = relative_by (distance o.on which) in
         let term : undefined_weak_target r.number (place_of s.address r) ≡ h.term = cc in
         let at = own_at w s r h.place ∙ ap (λ (n : ℕ). (w.base + n) % 2 ^ 64) term in
         subst (λ (n : ℕ). IsReferent l.machine v l w m s r n) at (own_referent v l w m s r n.0 o.on n.1 (relative, a))
@@ -108,15 +109,38 @@ stub_kind kinds.PltRelative e = inl refl
 stub_kind kinds.PltRelGotBase e = inr refl
 stub_kind other e = cc
 
-stub_distance : StubLaws → (info : RelocationKindInfo) → info.kind ≡ kinds.PltRelative → RowGives info
-stub_distance law info kind = λ l w m s r x h f.
+-- the distance of the stub, as the writer has it
+record IsStubDistance (v : Value) (l : Layout) (w : World) (m : Memory) (s : Item) (r : InputRelocation) (info : RelocationKindInfo) (x : ℕ) : Type 0 where
+  is : value_by_row info ≡ StubDistance
+  symbol : ℕ
+  referent : IsReferent l.machine v l w m s r symbol
+  value : x ≡ (symbol + more r + (2 ^ 64 - place_at w s r.offset)) % 2 ^ 64
+
+stub_distance_is : StubLaws → (v : Value) → (v ≡ StubDistance) ⊎ (v ≡ Distance) → (info : RelocationKindInfo) → info.kind ≡ kinds.PltRelative → (l : Layout) (w : World) (m : Memory) (s : Item) (r : InputRelocation) (x : ℕ) → HasTerm l w m s r info x → IsStubDistance v l w m s r info x
+stub_distance_is law v which info kind l w m s r x h =
     let mask = no_mask l.machine term.Stub taken.Place info.mask (subst (λ (k : RelocationKind). is_expressed l.machine (expression_of k).term (expression_of k).taken info.mask ≡ true) kind h.expressed) refl in
-    let is : value_by_row info ≡ StubDistance = value_is info kinds.PltRelative None kind mask ∙ sized_is info.size StubDistance refl in
     let less : taken_of info.kind info.mask ≡ taken.Place = taken_is info kinds.PltRelative None kind mask in
     let treated = subst (λ (k : RelocationKind). kind_treatment l s.flags h.number r.symbol h.row k ≡ treatments.Value h.row) kind h.treated in
-    let a = stub_refers law StubDistance l w m s r info x h (ap (λ (k : RelocationKind). (expression_of k).term) kind) treated (inl refl) (λ on. ap is_place less) in
     let value = subst (λ (u : Taken). value_less l u h.term r.addend (place_of s.address r) ≡ x) less h.value in
-    subst (λ (v : Value). Gives v l w m s r x) (sym is) ((w.base + h.term) % 2 ^ 64, a, less_place l w m s r info x h value)
+    record {
+      is = value_is info kinds.PltRelative None kind mask ∙ sized_is info.size StubDistance refl;
+      symbol = (w.base + h.term) % 2 ^ 64;
+      referent = stub_refers law v l w m s r info x h (ap (λ (k : RelocationKind). (expression_of k).term) kind) treated (inl which) (λ on. ap is_place less);
+      value = less_place l w m s r info x h value;
+    }
+
+stub_distance : StubLaws → (info : RelocationKindInfo) → info.kind ≡ kinds.PltRelative → RowGives info
+stub_distance law info kind = λ l w m s r x h f.
+    let d = stub_distance_is law StubDistance (inl refl) info kind l w m s r x h in
+    subst (λ (v : Value). Gives v l w m s r x) (sym d.is) (d.symbol, d.referent, d.value)
+
+flat : (x c q : ℕ) → (x + c + q) % 2 ^ 64 ≡ ((x + c) % 2 ^ 64 + q) % 2 ^ 64
+flat x c q = omega arith
+
+pub stubs_stand : StubLaws → StubsStand
+stubs_stand law info kind l w m s r x on h =
+    let d = stub_distance_is law Distance (inr refl) info kind l w m s r x h in
+    ((d.symbol + more r) % 2 ^ 64, record { symbol = d.symbol; denoted = d.referent; sum = refl }, d.value ∙ flat d.symbol (more r) (2 ^ 64 - place_at w s r.offset))
 
 stub_offset : StubLaws → (info : RelocationKindInfo) → info.kind ≡ kinds.PltRelGotBase → RowGives info
 stub_offset law info kind = λ l w m s r x h f.

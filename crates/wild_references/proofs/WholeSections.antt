@@ -12,13 +12,14 @@ use Rattle.wild_meaning.proofs.OutputLemmas.{still_fixed, moving_movable}
 use Rattle.wild_references.proofs.KeptItems.{item_lies, addends_fit}
 use Rattle.wild_references.specs.Terms.{SymbolsFit, MovesByPages, IsPlaced}
 use Rattle.wild_references.specs.Laws.{HasBytes, IsLoadedItem, ItemFieldsHold}
+use Rattle.wild_references.specs.Thunks.{ThunksGoOn}
 use Rattle.wild_references.proofs.Fields.{Tables, KindLaws, LinkedLaws, IsItemLoaded}
 use Rattle.wild_references.proofs.References.{field_holds, field_links}
 
 -- ---- a layout in a legal world
 
 symbols_fit : (l : Layout) → HaveTheirFlags l → NumbersFit l → IsLaidOut l → SymbolsFit l
-symbols_fit l own numbers laid = record { named = laid.definitions; own = own; flags = laid.slot_flags; dynsyms = laid.dynsyms; numbers = numbers.symbols }
+symbols_fit l own numbers laid = record { named = laid.definitions; final = laid.final; own = own; flags = laid.slot_flags; dynsyms = laid.dynsyms; numbers = numbers.symbols }
 
 pub placed : (k : Machine) (l : Layout) (w : World) (m : Memory) (s : Item) → IsLoadedItem k l w m s → IsPlaced l w m
 placed k l w m s h = record {
@@ -37,14 +38,16 @@ placed k l w m s h = record {
 
 -- ---- a kept item
 
-item_loaded : (k : Machine) (l : Layout) (w : World) (m : Memory) (s : Item) → Tables → KindLaws → LinkedLaws → IsLoadedItem k l w m s → IsItemLoaded l w m s
-item_loaded k l w m s tables kinds linked h =
+item_loaded : (k : Machine) (l : Layout) (w : World) (m : Memory) (s : Item) → Tables → KindLaws → LinkedLaws → ThunksGoOn → IsLoadedItem k l w m s → IsItemLoaded l w m s
+item_loaded k l w m s tables kinds linked go h =
     let lies = item_lies l s h.laid h.kept in
+    let there = placed k l w m s h in
     record {
       tables = tables;
       kinds = kinds;
       linked = linked;
-      placed = placed k l w m s h;
+      placed = there;
+      thunks = go l w m there.paged h.loaded h.laid h.thunks;
       room = lies.room;
       symbols = lies.symbols;
       addends = addends_fit l s h.numbers h.kept;
@@ -54,9 +57,9 @@ item_loaded k l w m s tables kinds linked h =
       item = h.item;
     }
 
-pub item_fields_hold : Tables → KindLaws → LinkedLaws → ItemFieldsHold
-item_fields_hold tables kinds linked = λ k l w m s h.
-    let there = item_loaded k l w m s tables kinds linked h in
+pub item_fields_hold : Tables → KindLaws → LinkedLaws → ThunksGoOn → ItemFieldsHold
+item_fields_hold tables kinds linked go = λ k l w m s h.
+    let there = item_loaded k l w m s tables kinds linked go h in
     record {
       references = λ i r kept asked alone. field_holds l w m s i r there kept asked alone;
       linked = λ i r kept a zero. field_links l w m s i r there kept a zero;

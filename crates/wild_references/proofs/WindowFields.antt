@@ -11,7 +11,6 @@ use Rattle.wild_types.specs.Item.{Item}
 use Rattle.wild_types.specs.declared.layout.Layout.{Layout}
 use Rattle.wild_types.specs.Rows.{row_of}
 use Rattle.wild_reloc.specs.Field.{size_width, field_width}
-use Rattle.wild_reloc.specs.FormulaX86_64.{x86_64_formula}
 use Rattle.wild_reloc.specs.TableX86_64.{x86_64_rows, x86_64_row}
 use Rattle.wild_reloc.specs.declared.info.RelocationKind.{RelocationKind}
 use Rattle.wild_reloc.specs.declared.info.RelocationKind.TheVariants as kinds
@@ -37,11 +36,12 @@ use Rattle.wild_layout.specs.Sites.{field_site, template_site, site_for}
 use Rattle.wild_layout.proofs.DecideLemmas.{HasField, IsNothing, decided_field, decided_moved, decided_left, decided_nothing, field_has, moved_has, left_has}
 use Rattle.wild_slot.proofs.TreatmentLemmas.{IsSilent}
 use Rattle.wild_layout.proofs.ChoiceLemmas.{IsChosen, choice_row, chosen_listed, IsSequence}
-use Rattle.wild_layout.proofs.SiteLemmas.{length-template_site}
-use Rattle.wild_layout.proofs.DecisionLemmas.{decide_nothing, decide_moved, decide_left, decide_field, decide_rewritten, decide_partner, sequence_is_rewritten}
+use Rattle.wild_layout.proofs.SiteLemmas.{window_in, length-template_site}
+use Rattle.wild_layout.proofs.DecisionLemmas.{decide_nothing, decide_moved, decide_left, decide_field, rewritten_x86_64, decide_partner, sequence_is_rewritten}
 use Rattle.wild_geometry.specs.Loaded.{IsDecided, HasDecision}
 use Rattle.wild_references.specs.Laws.{KeepsInstruction}
-use Rattle.wild_references.proofs.WindowRows.{chosen_stands, width_of, is_well, each_is_well, field_lies, calls_are_well, call_width_is}
+use Rattle.wild_references.proofs.KnownRows.{formula_there}
+use Rattle.wild_references.proofs.WindowRows.{chosen_stands, width_by, width_of, is_well, each_is_well, field_lies, calls_are_well, call_width_is}
 
 -- ---- the row that stands at a relocation
 
@@ -103,18 +103,13 @@ partner_there l s i r row distance c known = by (slice_get s.relocations (i + 1)
 
 -- ---- how wide a field is
 
--- each row's field is as wide as that of its formula
-each_width : list_all (λ (e : ℕ × RelocationKindInfo). width_of e.0 == field_width e.1) x86_64_rows ≡ true
-unfolding x86_64_formula
-each_width = refl
-
 row_here : (l : Layout) (n : ℕ) (o : Option RelocationKindInfo) → l.machine ≡ machine.X86_64 → row_of l.machine n ≡ o → x86_64_row n ≡ o
 unfolding row_of
 row_here l n o x86 h = rw x86 at h
 
 pub width_is : (n : ℕ) (row : RelocationKindInfo) → x86_64_row n ≡ Some row → width_of n ≡ field_width row
-unfolding x86_64_row
-width_is n row h = eqb-true _ _ (entry_passes (λ (m : ℕ) (r : RelocationKindInfo). width_of m == field_width r) x86_64_rows each_width n row h)
+unfolding row_of
+width_is n row h = (let f = formula_there machine.X86_64 n row h in ap width_by f.1 ∙ f.2)
 
 -- a type whose field is left alone has none
 abbrev is_silent : RelocationKind → Bool
@@ -196,13 +191,13 @@ pub record IsWindow (l : Layout) (s : Item) (r : InputRelocation) (row : Row) (v
   pub long : length (template_site s r row v).bytes ≡ pattern_size row
   pub field : field_of (pattern_of row) + width_of r.number ≤ pattern_size row
 
-pub window_is : (l : Layout) (s : Item) (i : ℕ) (r : InputRelocation) (row : Row) (v : ℕ) → HasDecision l s i r (Rewritten row v) → IsWindow l s r row v
-window_is l s i r row v h =
+pub window_is : (l : Layout) (s : Item) (i : ℕ) (r : InputRelocation) (row : Row) (v : ℕ) → l.machine ≡ machine.X86_64 → HasDecision l s i r (Rewritten row v) → IsWindow l s r row v
+window_is l s i r row v x86 h =
     let next = slice_get s.relocations (i + 1) in
-    let w = decide_rewritten l s i r row v h.listed h.decided in
+    let w = rewritten_x86_64 l s i r row v x86 h.listed h.decided in
     let field = field_lies row (row_at l s r next row w.chosen).well w.changes in
     let number = ap width_of w.chosen.number in
-    record { before = w.chosen.before; long = length-template_site l s r next row v w; field = omega (arith, field, number) }
+    record { before = w.chosen.before; long = length-template_site s r row v (window_in l s i r row v (inl w)); field = omega (arith, field, number) }
 
 field_has_site : (l : Layout) (s : Item) (j : ℕ) (q : InputRelocation) (d : Decision) (z : RelocationSize) (v : ℕ) → HasDecision l s j q d → width_of q.number ≡ size_width z → site_for s q d ≡ field_site s q.offset z v ∷ [] → HasSite l s j q d
 field_has_site l s j q d z v h width only =
@@ -216,7 +211,7 @@ call_site l s i q row v d p listed h is =
     let at_row = row_at l s p.relocation (Some q) row c in
     let well = calls_are_well row at_row.well p.takes in
     let call = call_is l s p.relocation q row well.distance at_row well.known in
-    let w = window_is l s i p.relocation row v h in
+    let w = window_is l s i p.relocation row v p.machine h in
     let before = w.before in
     let long = w.long in
     let lies = well.lies in
@@ -240,7 +235,7 @@ has_site l s j q (Field z v) x86 whole h = inr (field_has_site l s j q (Field z 
 has_site l s j q (Moved v packed) x86 whole h = inr (field_has_site l s j q (Moved v packed) (ByteSize Eight) (if packed then v else 0) h (kept_width l s j q (Moved v packed) x86 h tt) refl)
 has_site l s j q (Left z n symbol addend) x86 whole h = inr (field_has_site l s j q (Left z n symbol addend) z 0 h (kept_width l s j q (Left z n symbol addend) x86 h tt) refl)
 has_site l s j q (Rewritten row v) x86 whole h =
-    let w = window_is l s j q row v h in
+    let w = window_is l s j q row v x86 h in
     let before = w.before in
     let long = w.long in
     let field = w.field in

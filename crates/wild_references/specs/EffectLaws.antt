@@ -1,5 +1,4 @@
--- Instructions in memory, kept or rewritten, those of x86-64 outputs where no machine is named: what makes each reference of a section hold,
--- beyond its fields.
+-- Instructions in memory, kept or rewritten: what makes each reference of a section hold, beyond its fields.
 --   WindowsAreAlone      no other relocation has a field among the bytes of an instruction that is rewritten
 --   RewrittenStand       an instruction that is rewritten is one that the reader knows, all of it
 --   RewrittenHold        the code that is written in place of an instruction does what that demands
@@ -12,7 +11,6 @@
 --   ItemsHold            all of this together
 use Rattle.std.specs.Prelude.{◌≡◌, ℕ, ◌+◌, ◌<◌, ◌≤◌, ◌⊎◌, ◌∷◌, length, Some, Contains}
 use Rattle.wild_types.specs.declared.kind.Machine.{Machine}
-use Rattle.wild_types.specs.declared.kind.Machine.TheVariants as machine
 use Rattle.wild_types.specs.declared.input.InputRelocation.{InputRelocation}
 use Rattle.wild_types.specs.declared.layout.Layout.{Layout}
 use Rattle.wild_reloc.specs.Formula.{Formula}
@@ -37,7 +35,7 @@ IsBesideField l r k = (f : Formula) → formula_of l.machine r.number ≡ Some f
 
 -- no other relocation than the call of the sequence itself has a field among the bytes of an instruction that is rewritten
 abbrev pub WindowsAreAlone : Type 0
-WindowsAreAlone = (l : Layout) (s : Item) → l.machine ≡ machine.X86_64 → IsDecided l s → (i j : ℕ) (r q : InputRelocation) (row : Row) (v : ℕ) (d : Decision) → HasDecision l s i r (Rewritten row v) → HasDecision l s j q d → (i ≡ j → ⊥) → (j ≡ i + 1 → d ≡ Partner → ⊥)
+WindowsAreAlone = (l : Layout) (s : Item) → IsDecided l s → (i j : ℕ) (r q : InputRelocation) (row : Row) (v : ℕ) (d : Decision) → HasDecision l s i r (Rewritten row v) → HasDecision l s j q d → (i ≡ j → ⊥) → (j ≡ i + 1 → d ≡ Partner → ⊥)
     → (k : ℕ) → template_start row r ≤ k → k < template_start row r + pattern_size row → IsBesideField l q k
 
 -- an instruction that the reader knows has all the bytes from start on, so many of them, and the reference belongs to it; it
@@ -52,17 +50,18 @@ pub record StandsAt (l : Layout) (item : Item) (r : InputRelocation) (start size
 
 -- all bytes that are rewritten are those of an instruction that the reader knows
 abbrev pub RewrittenStand : Type 0
-RewrittenStand = (l : Layout) (w : World) (m : Memory) (s : Item) → IsLoadedItem machine.X86_64 l w m s → (i : ℕ) (r : InputRelocation) (row : Row) (v : ℕ) → HasDecision l s i r (Rewritten row v) → StandsAt l s r (template_start row r) (pattern_size row)
+RewrittenStand = (machine : Machine) (l : Layout) (w : World) (m : Memory) (s : Item) → IsLoadedItem machine l w m s → (i : ℕ) (r : InputRelocation) (row : Row) (v : ℕ) → HasDecision l s i r (Rewritten row v) → StandsAt l s r (template_start row r) (pattern_size row)
 
 -- where an instruction is rewritten, the loaded code does what it demands, at each base at which the reference is asked
 abbrev pub RewrittenHold : Type 0
-RewrittenHold = (l : Layout) (w : World) (m : Memory) (s : Item) → IsLoadedItem machine.X86_64 l w m s → (i : ℕ) (r : InputRelocation) (row : Row) (v : ℕ) → HasDecision l s i r (Rewritten row v) → IsAsked l w s r → HoldsRewritten l w m s r
+RewrittenHold = (machine : Machine) (l : Layout) (w : World) (m : Memory) (s : Item) → IsLoadedItem machine l w m s → (i : ℕ) (r : InputRelocation) (row : Row) (v : ℕ) → HasDecision l s i r (Rewritten row v) → IsAsked l w s r → HoldsRewritten l w m s r
 
 -- the call of a sequence that is rewritten is taken along by that
 abbrev pub PartnersHold : Type 0
-PartnersHold = (l : Layout) (w : World) (m : Memory) (s : Item) → IsLoadedItem machine.X86_64 l w m s → (i : ℕ) (r : InputRelocation) → HasDecision l s i r Partner → IsTakenAlong l w m s r
+PartnersHold = (machine : Machine) (l : Layout) (w : World) (m : Memory) (s : Item) → IsLoadedItem machine l w m s → (i : ℕ) (r : InputRelocation) → HasDecision l s i r Partner → IsTakenAlong l w m s r
 
--- where an instruction is rewritten its field names a slot of the symbol, so that the symbol is followed whichever module has it
+-- where an instruction is rewritten its field names a slot of the symbol, so that the symbol is followed whichever module has it; or no
+-- other module has the symbol
 abbrev pub RewrittenAreFollowed : Type 0
 RewrittenAreFollowed = (l : Layout) (s : Item) (i : ℕ) (r : InputRelocation) (row : Row) (v : ℕ) → HasDecision l s i r (Rewritten row v) → IsLinkedAlone l s r → ⊥
 

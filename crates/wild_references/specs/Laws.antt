@@ -2,6 +2,7 @@
 --   RowGives info         the value of a row is what the row's expression gives
 --   RowGivesLinked info   or what it gives with the output's own symbol
 --   TermGives t           so it is of each row with that term; SlotsGive of slots
+--   StubsStand            what the distance of a stub gives of the symbol itself
 --   PartsGive             of a part of an address below its page, what the bits of the value are those of
 --   AddressesGive, AddressesGiveLinked   an address that moves is S + A, once it is moved
 --   EntriesGive           so is what an entry stores in a field that is left to it
@@ -18,13 +19,14 @@ use Rattle.wild_types.specs.declared.kind.Machine.TheVariants as machine
 use Rattle.wild_types.specs.declared.input.InputRelocation.{InputRelocation}
 use Rattle.wild_types.specs.declared.layout.Layout.{Layout}
 use Rattle.wild_types.specs.ResolvedFlags.{HaveTheirFlags}
-use Rattle.wild_reloc.specs.Formula.{Value, SymbolAddress, Formula, Reads, Keeps}
+use Rattle.wild_reloc.specs.Formula.{Value, SymbolAddress, Distance, Formula, Reads, Keeps}
 use Rattle.wild_reloc.specs.Expression.{expression_of, writes}
 use Rattle.wild_reloc.specs.declared.expression.Term.{Term}
 use Rattle.wild_reloc.specs.declared.expression.Term.TheVariants as term
 use Rattle.wild_reloc.specs.declared.expression.SlotSort.{SlotSort}
 use Rattle.wild_reloc.specs.declared.expression.SlotSort.TheVariants as sorts
 use Rattle.wild_reloc.specs.declared.expression.Class.TheVariants as class
+use Rattle.wild_reloc.specs.declared.info.RelocationKind.TheVariants as kinds
 use Rattle.wild_reloc.specs.declared.info.RelocationKindInfo.{RelocationKindInfo}
 use Rattle.wild_reloc.specs.declared.info.RelocationSize.{RelocationSize}
 use Rattle.wild_layout.specs.declared.decision.Decision.{Decision}
@@ -34,6 +36,7 @@ use Rattle.wild_layout.specs.Numbers.{NumbersFit}
 use Rattle.wild_layout.specs.Geometry.{IsLaidOut, NamesSymbol}
 use Rattle.wild_geometry.specs.Loaded.{IsDecided, InMemory, number_at, ReadsLeft, HasDecision, HasItem}
 use Rattle.wild_geometry.specs.Slots.{HasSlots}
+use Rattle.wild_geometry.specs.Thunks.{HasThunks}
 use Rattle.wild_loader.specs.declared.memory.Memory.{Memory}
 use Rattle.wild_loader.specs.declared.world.World.{World}
 use Rattle.wild_meaning.specs.World.{IsFirstModule, IsLoadable, IsLegal}
@@ -64,6 +67,10 @@ TermGives t = (info : RelocationKindInfo) → (expression_of info.kind).term ≡
 
 abbrev pub TermGivesLinked : Term → Type 0
 TermGivesLinked t = (info : RelocationKindInfo) → (expression_of info.kind).term ≡ t → writes (expression_of info.kind).class ≡ true → RowGivesLinked info
+
+-- on AArch64 what a row writes as the distance of a stub is the distance of the symbol, for which the stub stands
+abbrev pub StubsStand : Type 0
+StubsStand = (info : RelocationKindInfo) → info.kind ≡ kinds.PltRelative → (l : Layout) (w : World) (m : Memory) (s : Item) (r : InputRelocation) (x : ℕ) → l.machine ≡ machine.AArch64 → HasTerm l w m s r info x → Gives Distance l w m s r x
 
 -- of slots whichever module has the symbol; of a descriptor's in code whose references are no offsets ("ELF Handling For Thread-Local
 -- Storage", "Linker Relaxations")
@@ -142,7 +149,7 @@ abbrev pub HasBytes : Machine → Item → Type 0
 HasBytes machine.X86_64 s = ⊤
 HasBytes machine.AArch64 s = All (λ (b : ℕ). b < 256) s.bytes
 
--- a kept item of an output for machine k in a legal world, and a memory that has slots and stubs, and the item as it was decided
+-- a kept item of an output for machine k in a legal world, and a memory that has slots, stubs and thunks, and the item as it was decided
 pub record IsLoadedItem (k : Machine) (l : Layout) (w : World) (m : Memory) (s : Item) : Type 0 where
   pub on : l.machine ≡ k
   pub paged : MovesByPages k l w
@@ -154,6 +161,7 @@ pub record IsLoadedItem (k : Machine) (l : Layout) (w : World) (m : Memory) (s :
   pub laid : IsLaidOut l
   pub loaded : m.machine ≡ processor_of l.machine
   pub slots : HasSlots l w m
+  pub thunks : HasThunks l w m
   pub kept : IsKept l s
   pub decided : IsDecided l s
   pub item : HasItem l w m s InMemory

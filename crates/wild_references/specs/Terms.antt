@@ -29,7 +29,7 @@ use Rattle.wild_reloc.specs.declared.info.PageMask.{PageMask}
 use Rattle.wild_reloc.specs.declared.info.PageMask.TheVariants as masks
 use Rattle.wild_reloc.specs.declared.info.RelocationKindInfo.{RelocationKindInfo}
 use Rattle.wild_layout.specs.Values.{term_at, value_in}
-use Rattle.wild_layout.specs.Geometry.{DefinitionNames, NamesSymbol}
+use Rattle.wild_layout.specs.Geometry.{DefinitionNames, DefinitionsAreFinal, NamesSymbol}
 use Rattle.wild_layout.specs.SlotOrder.{EachAgrees}
 use Rattle.wild_layout.specs.ListedSymbols.{AreListed}
 use Rattle.wild_layout.specs.Numbers.{SymbolNumbers}
@@ -45,10 +45,11 @@ use Rattle.wild_meaning.specs.Formula.{IsPlaceRelative, TakesAddress, TakesOffse
 use Rattle.wild_meaning.specs.Reference.{IsStubbed}
 use Rattle.wild_meaning.specs.Linked.{processor_of}
 
--- each symbol's definition is one of the layout's symbols, resolutions have their symbols' flags, which agree with slots and
+-- each symbol's definition is one of the layout's symbols, which defines itself, resolutions have their symbols' flags, which agree with slots and
 -- stubs, indexes are positions in the dynamic symbol table, and the addresses that were decided of them fit
 pub record SymbolsFit (l : Layout) : Type 0 where
   pub named : All (DefinitionNames l) l.symbols
+  pub final : DefinitionsAreFinal l
   pub own : HaveTheirFlags l
   pub flags : EachAgrees l
   pub dynsyms : AreListed l

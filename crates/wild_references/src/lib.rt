@@ -2,14 +2,18 @@
 #![tactic(auto)]
 
 ghost use Rattle.wild_reloc.specs.declared.expression.Term.TheVariants as term;
-ghost use Rattle.wild_references.specs.Laws.{AddressesGive, AddressesGiveLinked, EntriesGive, ItemFieldsHold, ItemsHaveBytes, OutputsMoveByPages, PartsGive, PartsGiveLinked, SlotsGive, TermGives, TermGivesLinked, ThreadPlacesAreKnown};
+ghost use Rattle.wild_references.specs.Laws.{AddressesGive, AddressesGiveLinked, EntriesGive, ItemFieldsHold, ItemsHaveBytes, OutputsMoveByPages, PartsGive, PartsGiveLinked, SlotsGive, StubsStand, TermGives, TermGivesLinked, ThreadPlacesAreKnown};
 ghost use Rattle.wild_references.specs.Stubs.{StubsGoOn};
+ghost use Rattle.wild_references.specs.Thunks.{ThunksGive, ThunksGoOn};
 ghost use Rattle.wild_references.specs.Filled.{FilledInstructionsDo};
 ghost use Rattle.wild_references.specs.EffectLaws.{InstructionsAreKept, ItemsHold, KeptInstructionsDo, OthersAreKept, PartnersHold, RewrittenAreFollowed, RewrittenHold, RewrittenStand, SequencesAreKept, WindowsAreAlone};
 
 use wild_geometry::machines_have_their_facts;
 use wild_loader::{stubs_are_read, stubs_of_words_are_read};
-use wild_relax::{rewrites_keep_the_effect, rewrites_stay_in_their_patterns};
+use wild_relax::{
+    aarch64_rewrites_keep_the_effect, aarch64_rows_stand_together, rewrites_keep_the_effect,
+    rewrites_stay_in_their_patterns,
+};
 use wild_reloc::widths_of_fields;
 
 /// S + A, of a symbol that does not move or in an output that does not, and S + A less the place or the table.
@@ -23,7 +27,8 @@ pub fn symbols_are_given()
 
 /// L + A, less the place or the table.
 pub fn stubs_are_given()
-    ensures { TermGives term.Stub }
+    ensures gives { TermGives term.Stub }
+    ensures stand { StubsStand }
 {
     stubs_are_read();
     stubs_of_words_are_read();
@@ -32,6 +37,14 @@ pub fn stubs_are_given()
 /// G + A, less the place or the table, of slots of each sort.
 pub fn slots_are_given()
     ensures { SlotsGive }
+{
+    stubs_are_read();
+    stubs_of_words_are_read();
+}
+
+/// L + A - P of a branch that goes by a thunk.
+pub fn thunks_are_given()
+    ensures { ThunksGive }
 {
     stubs_are_read();
     stubs_of_words_are_read();
@@ -97,6 +110,13 @@ pub fn stubs_go_on()
     stubs_of_words_are_read();
 }
 
+/// Each thunk in memory, used or not, goes on to its target.
+pub fn thunks_go_on()
+    ensures { ThunksGoOn }
+{
+    stubs_of_words_are_read();
+}
+
 /// A laid out output moves by pages in a legal world, and its items have bytes.
 pub fn outputs_move_by_pages()
     ensures pages { OutputsMoveByPages }
@@ -111,6 +131,8 @@ pub fn item_fields_hold()
     widths_of_fields();
     symbols_are_given();
     stubs_are_given();
+    thunks_are_given();
+    thunks_go_on();
     slots_are_given();
     parts_are_given();
     distances_of_the_table_are_given();
@@ -144,9 +166,14 @@ pub fn rewritten_instructions_hold()
     symbols_are_given();
     offsets_from_the_thread_pointer_are_given();
     slots_are_given();
+    aarch64_rows_stand_together();
+    aarch64_rewrites_keep_the_effect();
+    stubs_are_read();
+    stubs_of_words_are_read();
 }
 
-/// The field of an instruction that is rewritten names a slot of its symbol, and not the symbol itself.
+/// The field of an instruction that is rewritten names a slot of its symbol, and not the symbol itself, or the symbol is the output's
+/// own alone.
 pub fn rewritten_instructions_are_followed()
     ensures { RewrittenAreFollowed }
 {}
@@ -158,9 +185,9 @@ pub fn other_bytes_are_kept()
     ensures instructions { InstructionsAreKept }
     ensures others { OthersAreKept }
 {
-    machines_have_their_facts();
     rewritten_instructions_hold();
     rewrites_stay_in_their_patterns();
+    aarch64_rows_stand_together();
 }
 
 /// An instruction that is kept does what it demands, by its fields.

@@ -82,7 +82,7 @@ thunk_is k t =
     words_of-spelled (thunk_words k t) (adrp_small (k / 4096 % 2 ^ 21), (add_small (t % 4096), (omega arith, tt)))
     ∙ rw (fields_agree Adr (k / 4096 % 2 ^ 21) 0x90000010, fields_agree Imm12 (t % 4096) 0x91000210) refl
 
-within : (p t : ℕ) → nat_le (p / 4096) (t / 4096 + 2 ^ 20) && nat_lt (t / 4096) (p / 4096 + 2 ^ 20) ≡ true → Within (2 ^ 32) (page p) (page t)
+pub within : (p t : ℕ) → nat_le (p / 4096) (t / 4096 + 2 ^ 20) && nat_lt (t / 4096) (p / 4096 + 2 ^ 20) ≡ true → Within (2 ^ 32) (page p) (page t)
 within p t h =
     let parts = and_parts _ _ h in
     let low : p / 4096 ≤ t / 4096 + 2 ^ 20 = leb-true _ _ parts.0 in

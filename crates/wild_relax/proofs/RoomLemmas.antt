@@ -4,7 +4,7 @@ use Rattle.std.specs.Prelude.{Option, Some, None, Ok, Err, Result, ◌&&◌, ◌
 use Rattle.std.specs.List.{list_all}
 use Rattle.std.proofs.lemmas.Bool.Decides.{nat_tests}
 use Rattle.std.proofs.lemmas.Bool.{and_parts, or_cases, eqb-true}
-use Rattle.wild_words.proofs.Basics.{implied, listed_passes}
+use Rattle.wild_words.proofs.Basics.{listed_passes}
 use Rattle.wild_types.specs.Kinds.{is_executable}
 use Rattle.wild_types.specs.Lookups.{executable}
 use Rattle.wild_relax.specs.declared.reference.UnknownSequence.{UnknownSequence}
@@ -17,7 +17,7 @@ use Rattle.wild_relax.specs.RowSymbols.{takes_symbol, takes_value, is_mandatory}
 use Rattle.wild_relax.specs.RowSequences.{has_its_sequence, has_partner}
 use Rattle.wild_relax.specs.Rows.{rows_x86_64, applies, unknown_sequence, standing_x86_64, chosen_x86_64}
 use Rattle.wild_relax.specs.Rewrite.{Rewrite, HasRoom}
-use Rattle.wild_relax.specs.RowsAArch64.{rows_aarch64, applies_aarch64, has_its_words, standing_aarch64, chosen_aarch64, is_branch, branch_alone, branch_aarch64}
+use Rattle.wild_relax.specs.RowsAArch64.{rows_aarch64, applies_aarch64, has_its_words, standing_aarch64, chosen_aarch64}
 use Rattle.wild_relax.specs.RewriteX86_64.{rewrite_of}
 
 -- what a first row is
@@ -63,6 +63,10 @@ each_lies : list_all lies_in_its_own rows_x86_64 ≡ true
 unfolding rows_x86_64
 each_lies = refl
 
+each_word_lies : list_all lies_in_its_own rows_aarch64 ≡ true
+unfolding rows_aarch64
+each_word_lies = refl
+
 room_in : (bs : List ℕ) (offset : ℕ) (p : Pattern) (w : Rewrite) → stands_before bs offset p ≡ true → lies_in w p ≡ true → HasRoom w offset (length bs)
 unfolding stands_before stands_at
 room_in bs offset p w s l = record { before = grind (arith, nat_tests); behind = grind (arith, nat_tests) }
@@ -97,13 +101,17 @@ chosen_is q row e =
     let first = standing_first q row good.same in
     record { here = first.here; listed = first.listed; whole = good.whole }
 
+has_room : (q : Question) (row : Row) → applies q row ≡ true → has_its_sequence q row ≡ true → lies_in_its_own row ≡ true → HasRoom (rewrite_of row) (relocation_of q).offset (length q.bytes)
+has_room q row here whole lies =
+    ⊎_elim
+    (λ l. room_in q.bytes (relocation_of q).offset row.always (rewrite_of row) (always_stands q row here (and_parts _ _ l).0) (and_parts _ _ l).1)
+    (λ l. room_in q.bytes (relocation_of q).offset row.needed (rewrite_of row) (needed_stands q row whole) l)
+    (or_cases _ _ lies)
+
 pub chosen_has_room : (q : Question) (row : Row) → chosen_x86_64 q ≡ Ok (Some row) → HasRoom (rewrite_of row) (relocation_of q).offset (length q.bytes)
 chosen_has_room q row e =
     let first = chosen_is q row e in
-    ⊎_elim
-    (λ l. room_in q.bytes (relocation_of q).offset row.always (rewrite_of row) (always_stands q row first.here (and_parts _ _ l).0) (and_parts _ _ l).1)
-    (λ l. room_in q.bytes (relocation_of q).offset row.needed (rewrite_of row) (needed_stands q row first.whole) l)
-    (or_cases _ _ (listed_passes lies_in_its_own rows_x86_64 row each_lies first.listed))
+    has_room q row first.here first.whole (listed_passes lies_in_its_own rows_x86_64 row each_lies first.listed)
 
 -- ---- AArch64
 
@@ -112,42 +120,23 @@ pub standing_first_aarch64 : (q : Question) (row : Row) → standing_aarch64 q �
 unfolding standing_aarch64
 standing_first_aarch64 q row e = first_is (applies_aarch64 q) rows_aarch64 row e
 
--- what a row of branches is
-pub record IsBranchRow (q : Question) (row : Row) : Type 0 where
-  pub here : applies q row ≡ true
+-- what a chosen row is there
+pub record IsChosenThere (q : Question) (row : Row) : Type 0 where
+  pub here : applies_aarch64 q row ≡ true
   pub listed : Contains rows_aarch64 row
-  pub branch : is_branch row ≡ true
+  pub whole : has_its_words q row ≡ true
 
-pub branch_is : (q : Question) (row : Row) → branch_aarch64 q ≡ Some row → IsBranchRow q row
-unfolding branch_aarch64 chosen_aarch64
-branch_is q row e = by_chosen (chosen_aarch64 q) refl e
-  where
-    by_test : (r : Row) (b : Bool) → chosen_aarch64 q ≡ Ok (Some r) → is_branch r ≡ b → (if b then Some r else None) ≡ Some row → IsBranchRow q row
-    by_test r false is k h = cc
-    by_test r true is k h =
-        let same : r ≡ row = cc in
-        let good = checked_is (has_its_words q) (unknown_sequence q) (standing_aarch64 q) r is in
-        let first = standing_first_aarch64 q r good.same in
-        subst (IsBranchRow q) same (record { here = (and_parts _ _ first.here).0; listed = first.listed; branch = k })
+pub chosen_is_aarch64 : (q : Question) (row : Row) → chosen_aarch64 q ≡ Ok (Some row) → IsChosenThere q row
+unfolding chosen_aarch64
+chosen_is_aarch64 q row e =
+    let good = checked_is (has_its_words q) (unknown_sequence q) (standing_aarch64 q) row e in
+    let first = standing_first_aarch64 q row good.same in
+    record { here = first.here; listed = first.listed; whole = good.whole }
 
-    by_chosen : (c : Result (Option Row) UnknownSequence) → chosen_aarch64 q ≡ c → branch_alone c ≡ Some row → IsBranchRow q row
-    by_chosen (Ok None) is h = cc
-    by_chosen (Ok (Some r)) is h = by_test r (is_branch r) is refl h
-    by_chosen (Err e) is h = cc
-
--- it stands by itself
-abbrev stands_alone : Row → Bool
-stands_alone row = not (is_branch row) || not row.anywhere && lies_in (rewrite_of row) row.always
-
-each_stands_alone : list_all stands_alone rows_aarch64 ≡ true
-unfolding rows_aarch64
-each_stands_alone = refl
-
-pub branch_has_room : (q : Question) (row : Row) → branch_aarch64 q ≡ Some row → HasRoom (rewrite_of row) (relocation_of q).offset (length q.bytes)
-branch_has_room q row e =
-    let k = branch_is q row e in
-    let l = and_parts _ _ (implied _ _ (listed_passes stands_alone rows_aarch64 row each_stands_alone k.listed) k.branch) in
-    room_in q.bytes (relocation_of q).offset row.always (rewrite_of row) (always_stands q row k.here l.0) l.1
+pub chosen_has_room_aarch64 : (q : Question) (row : Row) → chosen_aarch64 q ≡ Ok (Some row) → HasRoom (rewrite_of row) (relocation_of q).offset (length q.bytes)
+chosen_has_room_aarch64 q row e =
+    let c = chosen_is_aarch64 q row e in
+    has_room q row (and_parts _ _ c.here).0 (and_parts _ _ c.whole).0 (listed_passes lies_in_its_own rows_aarch64 row each_word_lies c.listed)
 
 -- ---- what a row asks
 

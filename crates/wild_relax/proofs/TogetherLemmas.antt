@@ -1,5 +1,5 @@
 -- The rows of a sequence of AArch64 stand together: each is asked of the same relocations, words and symbol.
-use Rattle.std.proofs.Common.{◌≡◌, ℕ, zero, suc, ◌+◌, ◌-◌, ◌*◌, ◌%◌, ◌^◌, ◌<◌, ◌≤◌, inl, inr, Bool, true, false, List, [], ◌∷◌, length, drop, refl, sym, ap, ◌∙◌, arith, subst, eq-eqb}
+use Rattle.std.proofs.Common.{◌≡◌, ℕ, zero, suc, ◌+◌, ◌-◌, ◌*◌, ◌%◌, ◌^◌, ◌<◌, ◌≤◌, ◌⊎◌, inl, inr, Bool, true, false, List, [], ◌∷◌, length, drop, refl, sym, ap, ◌∙◌, arith, subst, eq-eqb}
 use Rattle.std.specs.Prelude.{⊤, Option, Some, None, Ok, Contains, ◌==◌, ◌&&◌, ◌||◌, not, if◌then◌else◌, slice_get, slice_index_or, slice_range}
 use Rattle.std.proofs.lemmas.Bool.{cases_Bool, and_parts, and_from, eqb-true, leb-true, le-leb, not-true}
 use Rattle.std.specs.List.{list_all}
@@ -15,6 +15,7 @@ use Rattle.wild_relax.specs.declared.pattern.Sequence.{Sequence}
 use Rattle.wild_relax.specs.declared.pattern.Sequence.TheVariants.{DescriptorCall, OffsetSlot, Address}
 use Rattle.wild_relax.specs.declared.reference.RelocationInfo.{RelocationInfo}
 use Rattle.wild_relax.specs.declared.row.Row.{Row}
+use Rattle.wild_relax.specs.declared.row.SymbolTest.TheVariants as symbol
 use Rattle.wild_relax.specs.declared.row.ValueTest.TheVariants as value
 use Rattle.wild_relax.specs.declared.table_aarch64.TheConstants.{PLT, TEST, CONDITION, IFUNC_JUMP, JUMP, IFUNC_CALL, CALL, CALL_FIRST, CALL_SECOND, CALL_THIRD, CALL_FOURTH, CALL_THIRD_SLOT, CALL_FOURTH_SLOT, SLOT_FIRST, SLOT_SECOND, ADDRESS_FIRST, ADDRESS_SECOND}
 use Rattle.wild_aarch64.specs.Row as judged
@@ -29,7 +30,7 @@ use Rattle.wild_relax.specs.Rows.{applies, unknown_sequence}
 use Rattle.wild_relax.specs.RowsAArch64.{rows_aarch64, rows_with_aarch64, applies_aarch64, has_its_words, standing_aarch64, chosen_aarch64}
 use Rattle.wild_relax.specs.SequenceAArch64.{types_of, same_symbol, follow, words_at, sequence_start, is_among, has_around, stand_as}
 use Rattle.wild_relax.specs.TogetherAArch64.{asked_at, IsOneOf, RowsStandTogether, ChosenStand}
-use Rattle.wild_relax.proofs.RoomLemmas.{IsApplied, applied, checked_is, always_stands, needed_stands, standing_first_aarch64}
+use Rattle.wild_relax.proofs.RoomLemmas.{IsApplied, applied, chosen_is_aarch64, always_stands, needed_stands}
 use Rattle.wild_relax.proofs.SectionLemmas.{stands_on, at_place, either_at}
 use Rattle.wild_relax.proofs.RowsAArch64Lemmas.{standing_is}
 
@@ -245,6 +246,41 @@ room_of q s k j n first h m low =
     let offset = m.offset in
     let within = h.within in
     omega (arith, offset, within, low)
+
+-- ---- conditional branches
+
+with_test : rows_with_aarch64 abi.r_aarch64_tstbr14 ≡ TEST ∷ []
+unfolding rows_with_aarch64 rows_aarch64
+with_test = refl
+
+with_condition : rows_with_aarch64 abi.r_aarch64_condbr19 ≡ CONDITION ∷ []
+unfolding rows_with_aarch64 rows_aarch64
+with_condition = refl
+
+-- a row stands at one in code to a weak symbol that another module may define
+pub record IsConditional (q : Question) : Type 0 where
+  pub number : ((relocation_of q).number ≡ abi.r_aarch64_tstbr14) ⊎ ((relocation_of q).number ≡ abi.r_aarch64_condbr19)
+  pub section : executable q.section_flags ≡ true
+  pub symbol : takes_symbol symbol.UndefinedWeak q ≡ true
+  pub value : takes_value value.Interposable q ≡ true
+  pub room : (relocation_of q).offset ≤ length q.bytes
+
+pub conditional_chosen : (q : Question) → IsConditional q → (row : Row) × (chosen_aarch64 q ≡ Ok (Some row))
+conditional_chosen q c = by c.number
+  where
+    on : (b : Bool) → (b || true) ≡ true
+    on true = refl
+    on false = refl
+
+    by : ((relocation_of q).number ≡ abi.r_aarch64_tstbr14) ⊎ ((relocation_of q).number ≡ abi.r_aarch64_condbr19) → (row : Row) × (chosen_aarch64 q ≡ Ok (Some row))
+    by (inl n) = (
+      TEST,
+      first_then q abi.r_aarch64_tstbr14 TEST [] n with_test (record { number = n; on = on q.relax; section = c.section; symbol = c.symbol; thread = refl; value = c.value; addend = refl; bytes = nothing_stands q.bytes (relocation_of q).offset c.room; around = refl }) (has_nothing q TEST refl refl refl c.room),
+    )
+    by (inr n) = (
+      CONDITION,
+      first_then q abi.r_aarch64_condbr19 CONDITION [] n with_condition (record { number = n; on = on q.relax; section = c.section; symbol = c.symbol; thread = refl; value = c.value; addend = refl; bytes = nothing_stands q.bytes (relocation_of q).offset c.room; around = refl }) (has_nothing q CONDITION refl refl refl c.room),
+    )
 
 -- what each row of a sequence asks alike
 record Alike (q : Question) (row : Row) : Type 0 where
@@ -546,20 +582,16 @@ either_around q pattern.Nothing always n a = a
 either_around q other always n a = n
 
 pub chosen_word : (q : Question) (row : Row) (s : Sequence) (k : ℕ) → chosen_aarch64 q ≡ Ok (Some row) → pattern_of row ≡ pattern.Among s k → IsChosenWord q row s k
-unfolding chosen_aarch64
 chosen_word q row s k e p =
-    let good = checked_is (has_its_words q) (unknown_sequence q) (standing_aarch64 q) row e in
-    let first = standing_first_aarch64 q row good.same in
-    let t = there q row first.here good.whole in
+    let c = chosen_is_aarch64 q row e in
+    let t = there q row c.here c.whole in
     let around = subst (λ (x : Pattern). has_around q x ≡ true) p (either_around q row.needed row.always t.needed t.before) in
-    record { listed = first.listed; applied = t.applied; among = among_parts q s k around }
+    record { listed = c.listed; applied = t.applied; among = among_parts q s k around }
 
 pub rows_stand_together : RowsStandTogether
-unfolding chosen_aarch64
 rows_stand_together q row s k e p =
-    let good = checked_is (has_its_words q) (unknown_sequence q) (standing_aarch64 q) row e in
-    let first = standing_first_aarch64 q row good.same in
-    pick rows_aarch64 row finds_all first.listed q s k (there q row first.here good.whole) p
+    let c = chosen_is_aarch64 q row e in
+    pick rows_aarch64 row finds_all c.listed q s k (there q row c.here c.whole) p
 
 -- ---- one row
 
@@ -580,22 +612,20 @@ unfolding x86_64_row static_row thread_row rows_aarch64
 each_fits = refl
 
 pub chosen_stand : ChosenStand
-unfolding chosen_aarch64
 chosen_stand q row e =
-    let good = checked_is (has_its_words q) (unknown_sequence q) (standing_aarch64 q) row e in
-    let first = standing_first_aarch64 q row good.same in
-    let here = and_parts (applies q row) (has_around q row.always) first.here in
-    let whole = and_parts (has_its_sequence q row) (has_around q row.needed) good.whole in
+    let c = chosen_is_aarch64 q row e in
+    let here = and_parts (applies q row) (has_around q row.always) c.here in
+    let whole = and_parts (has_its_sequence q row) (has_around q row.needed) c.whole in
     let at = either_at q.bytes (relocation_of q).offset row row.needed (λ h. at_place q.bytes (relocation_of q).offset row.always (always_stands q row here.0 h)) (at_place q.bytes (relocation_of q).offset row.needed (needed_stands q row whole.0))
-    (listed_passes (λ (r : Row). stands_on r.needed r) rows_aarch64 row each_stands_on first.listed) in
-    let begins : field_of (pattern_of row) ≡ 0 = eqb-true _ 0 (listed_passes (λ (r : Row). field_of (pattern_of r) == 0) rows_aarch64 row each_begins first.listed) in
+    (listed_passes (λ (r : Row). stands_on r.needed r) rows_aarch64 row each_stands_on c.listed) in
+    let begins : field_of (pattern_of row) ≡ 0 = eqb-true _ 0 (listed_passes (λ (r : Row). field_of (pattern_of r) == 0) rows_aarch64 row each_begins c.listed) in
     let inside = at.inside in
     record {
-      listed = first.listed;
-      here = first.here;
-      whole = good.whole;
+      listed = c.listed;
+      here = c.here;
+      whole = c.whole;
       number = (applied q row here.0).number;
       begins = begins;
       inside = omega (arith, inside, begins);
-      fits = λ changes. (let both = and_parts _ _ (or_other (keeps_bytes row) (pattern_size row == 4 && fits_in row) (listed_passes keeps_or_fits rows_aarch64 row each_fits first.listed) changes) in (eqb-true _ 4 both.0, both.1));
+      fits = λ changes. (let both = and_parts _ _ (or_other (keeps_bytes row) (pattern_size row == 4 && fits_in row) (listed_passes keeps_or_fits rows_aarch64 row each_fits c.listed) changes) in (eqb-true _ 4 both.0, both.1));
     }

@@ -15,6 +15,7 @@ pub mod Keep
 pub mod Section
 pub mod Laws
 pub mod ThunkAArch64
+pub mod Padding
 pub mod LawsAArch64
 pub mod FieldsAArch64
 pub mod KeepAArch64

@@ -10,7 +10,7 @@ use Rattle.wild_relax.specs.declared.aarch64.ElfAArch64Relaxation.{ElfAArch64Rel
 use Rattle.wild_relax.specs.declared.x86_64.ElfX86_64Relaxation.{ElfX86_64Relaxation}
 use Rattle.wild_relax.specs.Question.{Question}
 use Rattle.wild_relax.specs.Rows.{chosen_x86_64}
-use Rattle.wild_relax.specs.RowsAArch64.{branch_aarch64}
+use Rattle.wild_relax.specs.RowsAArch64.{chosen_aarch64}
 use Rattle.wild_relax.specs.RowSymbols.{is_mandatory}
 
 -- with whether it is taken also where rewriting is off
@@ -30,7 +30,7 @@ abbrev pub relaxation_x86_64 : Question → Result (Option ElfX86_64Relaxation) 
 relaxation_x86_64 q = with_duty of_x86_64 q (chosen_x86_64 q)
 
 abbrev pub relaxation_aarch64 : Question → Result (Option ElfAArch64Relaxation) UnknownSequence
-relaxation_aarch64 q = with_duty of_aarch64 q (Ok (branch_aarch64 q))
+relaxation_aarch64 q = with_duty of_aarch64 q (chosen_aarch64 q)
 
 -- ---- by machine
 
@@ -43,7 +43,7 @@ rows_of row (Err e) = Err e
 -- the first row that stands at a relocation, or why it is refused
 abbrev pub chosen_of : Machine → Question → Result (Option Row) UnknownSequence
 chosen_of machine.X86_64 q = chosen_x86_64 q
-chosen_of machine.AArch64 q = Ok (branch_aarch64 q)
+chosen_of machine.AArch64 q = chosen_aarch64 q
 
 -- the duty changes no row
 pub rows_with_duty : (q : Question) (found : Result (Option Row) UnknownSequence) → rows_of (λ (r : ElfX86_64Relaxation). r.row) (with_duty of_x86_64 q found) ≡ found
@@ -51,7 +51,7 @@ rows_with_duty q (Ok None) = refl
 rows_with_duty q (Ok (Some row)) = refl
 rows_with_duty q (Err e) = refl
 
-pub branches_with_duty : (q : Question) (found : Result (Option Row) UnknownSequence) → rows_of (λ (r : ElfAArch64Relaxation). r.row) (with_duty of_aarch64 q found) ≡ found
-branches_with_duty q (Ok None) = refl
-branches_with_duty q (Ok (Some row)) = refl
-branches_with_duty q (Err e) = refl
+pub words_with_duty : (q : Question) (found : Result (Option Row) UnknownSequence) → rows_of (λ (r : ElfAArch64Relaxation). r.row) (with_duty of_aarch64 q found) ≡ found
+words_with_duty q (Ok None) = refl
+words_with_duty q (Ok (Some row)) = refl
+words_with_duty q (Err e) = refl

@@ -4,17 +4,13 @@
 --   applies_aarch64 q row     the row stands
 --   standing_aarch64 q        the first row that stands
 --   chosen_aarch64 q          that row, or why it is refused
---   branch_aarch64 q          that row, where it changes no byte but its field's
-use Rattle.std.specs.Prelude.{ℕ, ◌==◌, Bool, true, false, not, ◌&&◌, if◌then◌else◌, List, ◌++◌, Option, Some, None, Result, Ok, Err}
+use Rattle.std.specs.Prelude.{ℕ, ◌==◌, Bool, ◌&&◌, List, ◌++◌, Option, Result}
 use Rattle.std.specs.List.{filter}
 use Rattle.wild_relax.specs.declared.reference.UnknownSequence.{UnknownSequence}
 use Rattle.wild_relax.specs.declared.row.Row.{Row}
-use Rattle.wild_relax.specs.declared.row.SymbolTest.{SymbolTest}
-use Rattle.wild_relax.specs.declared.row.SymbolTest.TheVariants as symbol
 use Rattle.wild_relax.specs.declared.table_aarch64.TheConstants.{WITH_PLT32, WITH_TSTBR14, WITH_CONDBR19, WITH_JUMP26, WITH_CALL26, WITH_TLSDESC_ADR_PAGE21, WITH_TLSDESC_LD64_LO12, WITH_TLSDESC_ADD_LO12, WITH_TLSDESC_CALL, WITH_TLSIE_ADR_GOTTPREL_PAGE21, WITH_TLSIE_LD64_GOTTPREL_LO12_NC, WITH_ADR_PREL_PG_HI21, WITH_ADD_ABS_LO12_NC}
 use Rattle.wild_relax.specs.Question.{Question}
 use Rattle.wild_relax.specs.First.{first_standing, checked}
-use Rattle.wild_relax.specs.Linked.{keeps_bytes}
 use Rattle.wild_relax.specs.RowSequences.{has_its_sequence}
 use Rattle.wild_relax.specs.Rows.{applies, unknown_sequence}
 use Rattle.wild_relax.specs.SequenceAArch64.{has_around}
@@ -47,22 +43,3 @@ standing_aarch64 q = first_standing (applies_aarch64 q) rows_aarch64
 -- the first row that stands; refused without its sequence
 unfoldable pub chosen_aarch64 : Question → Result (Option Row) UnknownSequence
 chosen_aarch64 q = checked (has_its_words q) (unknown_sequence q) (standing_aarch64 q)
-
--- ---- rows of branches
-
-abbrev pub is_of_weak : SymbolTest → Bool
-is_of_weak symbol.UndefinedWeak = true
-is_of_weak other = false
-
--- the row changes no byte but its field's, whatever the symbol is
-abbrev pub is_branch : Row → Bool
-is_branch row = keeps_bytes row && not (is_of_weak row.symbol)
-
-abbrev pub branch_alone : Result (Option Row) UnknownSequence → Option Row
-branch_alone (Ok None) = None
-branch_alone (Ok (Some row)) = if is_branch row then Some row else None
-branch_alone (Err e) = None
-
--- the first row that stands, where it is one of these: a word of a sequence is not rewritten, and a conditional branch goes to what S is
-unfoldable pub branch_aarch64 : Question → Option Row
-branch_aarch64 q = branch_alone (chosen_aarch64 q)

@@ -1,10 +1,7 @@
--- Thunks of AArch64: code near a branch that goes on to a target too far for it; and what code leaves free (Arm Architecture Reference
--- Manual, C6.2).
+-- Thunks of AArch64: code near a branch that goes on to a target too far for it (Arm Architecture Reference Manual, C6.2).
 --   thunk_aarch64 thunk target   the thunk at an address that goes on to another
---   nops n                       n bytes of code that does nothing
 --   is_variant other             a symbol that is called by other rules than the base standard's
-use Rattle.std.specs.Prelude.{ℕ, ◌+◌, ◌/◌, ◌%◌, ◌^◌, ◌==◌, Bool, ◌&&◌, nat_le, nat_lt, if◌then◌else◌, List, [], ◌∷◌, map}
-use Rattle.std.specs.List.{range_with_len}
+use Rattle.std.specs.Prelude.{ℕ, ◌+◌, ◌/◌, ◌%◌, ◌^◌, ◌==◌, Bool, ◌&&◌, nat_le, nat_lt, List, [], ◌∷◌}
 use Rattle.wild_reloc.specs.Immediate.{inserted}
 use Rattle.wild_reloc.specs.declared.instruction.AArch64Instruction.TheVariants.{Adr, Imm12}
 use Rattle.wild_slot.specs.StubAArch64.{spelled, page_of, distance_from}
@@ -26,14 +23,6 @@ thunk_aarch64 thunk target = record {
   reaches = nat_le (thunk / 4096) (target / 4096 + 2 ^ 20) && nat_lt (target / 4096) (thunk / 4096 + 2 ^ 20);
   bytes = spelled (thunk_words (distance_from (page_of thunk) (page_of target)) target);
 }
-
--- the bytes of `nop`, over and over
-abbrev pub nop_byte : ℕ → ℕ
-nop_byte k = if k % 4 == 0 then 0x1f else (if k % 4 == 1 then 0x20 else (if k % 4 == 2 then 0x03 else 0xd5))
-
--- so many of them, cut at the end
-abbrev pub nops : ℕ → List ℕ
-nops n = map nop_byte (range_with_len 0 n)
 
 -- the bit of st_other ("ELF for the Arm 64-bit Architecture", "Symbol Table", STO_AARCH64_VARIANT_PCS)
 abbrev pub is_variant : ℕ → Bool

@@ -1,12 +1,12 @@
-//! AArch64 ("ELF for the Arm 64-bit Architecture"), with thunks and what code leaves free.
+//! AArch64 ("ELF for the Arm 64-bit Architecture"), with thunks.
 ghost use Rattle.std.specs.Prelude.{◌≡◌, length, is_ok, IfErr, OnOk, OnErr};
-ghost use Rattle.wild_relax.specs.ThunkAArch64.{thunk_words, thunk_aarch64, nop_byte, nops, is_variant};
+ghost use Rattle.wild_relax.specs.ThunkAArch64.{thunk_words, thunk_aarch64, is_variant};
 
 use crate::arch::Arch;
 use crate::reference::{Reference, UnknownSequence};
 use crate::relaxation::Relaxation;
 use crate::row::{Row, is_mandatory};
-use crate::rows_aarch64::choose_branch;
+use crate::rows_aarch64::choose_aarch64;
 use wild_records::abi::symbol::STO_AARCH64_VARIANT_PCS;
 use wild_reloc::{AArch64Instruction, RelName, aarch64};
 use wild_slot::{page_of, put_words};
@@ -19,10 +19,8 @@ impl Arch for ElfAArch64 {
     ghost use Rattle.std.specs.Prelude.{refl};
     ghost use Rattle.wild_types.specs.declared.kind.Machine.TheVariants.{AArch64};
     ghost use Rattle.wild_reloc.specs.declared.names.RelName.TheVariants as names;
-    ghost use Rattle.wild_relax.specs.ThunkAArch64.{nops};
-    ghost use Rattle.wild_relax.specs.RowsAArch64.{branch_aarch64};
-    ghost use Rattle.wild_relax.specs.Relaxation.{relaxation_aarch64, branches_with_duty};
-    ghost use Rattle.std.specs.Prelude.{Ok};
+    ghost use Rattle.wild_relax.specs.RowsAArch64.{chosen_aarch64};
+    ghost use Rattle.wild_relax.specs.Relaxation.{relaxation_aarch64, words_with_duty};
 
     type Relaxation = ElfAArch64Relaxation;
 
@@ -32,11 +30,9 @@ impl Arch for ElfAArch64 {
 
     ghost relaxation = { relaxation_aarch64 };
 
-    ghost nop_padding = { nops };
-
     ghost same_machine = { refl };
 
-    ghost same_rows = { λ q. branches_with_duty q (Ok (branch_aarch64 q)) };
+    ghost same_rows = { λ q. words_with_duty q (chosen_aarch64 q) };
 
     #[inline]
     fn arch_identifier() -> Machine {
@@ -47,14 +43,10 @@ impl Arch for ElfAArch64 {
         aarch64::rel_type_to_string(number)
     }
 
-    fn fill_nop_padding(room: &mut [u8]) {
-        fill_nop_padding(room);
-    }
-
     fn new_relaxation(
         reference: &Reference,
     ) -> Result<Option<ElfAArch64Relaxation>, UnknownSequence> {
-        match choose_branch(reference) {
+        match choose_aarch64(reference)? {
             None => Ok(None),
             Some(row) => Ok(Some(ElfAArch64Relaxation {
                 row,
@@ -153,27 +145,6 @@ fn thunk_words(distance: u64, target_address: u64) -> [u32; 3]
     let adrp = AArch64Instruction::Adr.insert(ADRP_X16, distance / PAGE % 0x20_0000);
     let add = AArch64Instruction::Imm12.insert(ADD_X16, target_address % PAGE);
     [adrp, add, BR_X16]
-}
-
-fn nop_byte(place: usize) -> u8
-    ensures { result ≡ nop_byte place }
-{
-    match place % 4 {
-        0 => 0x1f,
-        1 => 0x20,
-        2 => 0x03,
-        _ => 0xd5,
-    }
-}
-
-/// Fills the padding of a section of code with `nop`, cut at the end.
-#[tactic(auto, using(std::proofs::lemmas::List::Edits::fill_by_more, std::proofs::lemmas::List::FromFn::fill_by_all))]
-pub fn fill_nop_padding(room: &mut [u8])
-    ensures { room.new ≡ nops (length room.old) }
-{
-    for i in 0..room.len() {
-        room[i] = nop_byte(i);
-    }
 }
 
 /// Whether a symbol with that `st_other` is called by other rules than the base standard's.

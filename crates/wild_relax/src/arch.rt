@@ -1,22 +1,23 @@
 //! What differs between the machines.
-ghost use Rattle.std.specs.Prelude.{◌≡◌, false, length, replicate, if◌then◌else◌, is_ok, IfErr, OnOk, OnErr};
-ghost use Rattle.wild_types.specs.Lookups.{executable};
+ghost use Rattle.std.specs.Prelude.{◌≡◌, false, length, is_ok, IfErr, OnOk, OnErr};
 ghost use Rattle.wild_slot.specs.MachineStub.{stub_of};
 ghost use Rattle.wild_slot.specs.SlotParts.{type_of};
 ghost use Rattle.wild_slot.specs.Storage.{thread_pointer};
 ghost use Rattle.wild_slot.specs.Treatment.{is_barred_type, is_barred_in_shared};
+ghost use Rattle.wild_relax.specs.Padding.{code_filling, filling, repeated};
 
+use crate::padding::{code_filling, fill_over_and_over, filling};
 use crate::reference::{Reference, UnknownSequence};
 use crate::relaxation::Relaxation;
 use wild_reloc::{DynamicRelocationKind, RelName, RelocationKindInfo};
 use wild_slot::{
     PltTooFar, is_barred_in_shared, is_barred_type, thread_pointer, type_of, write_stub,
 };
-use wild_types::{Layout, Machine, is_executable, row_of};
+use wild_types::{Layout, Machine, row_of};
 
 /// A machine that images are written for.
 pub trait Arch {
-    ghost use Rattle.std.specs.Prelude.{ℕ, Bool, List, Option, ◌==◌};
+    ghost use Rattle.std.specs.Prelude.{ℕ, Bool, Option, ◌==◌};
     ghost use Rattle.wild_types.specs.declared.kind.Machine.{Machine};
     ghost use Rattle.wild_types.specs.Rows.{row_of};
     ghost use Rattle.wild_reloc.specs.declared.names.RelName.{RelName};
@@ -39,9 +40,6 @@ pub trait Arch {
     /// The first rewrite that stands at a relocation; refused where what it needs besides is not there.
     ghost relaxation: { Question → Result (Option Self.Relaxation) UnknownSequence };
 
-    /// What stands between sections of code: so many bytes that are not to be run.
-    ghost nop_padding: { ℕ → List ℕ };
-
     /// The machine (gABI, `e_machine`).
     fn arch_identifier() -> Machine
         ensures { result ≡ Self.machine };
@@ -59,17 +57,16 @@ pub trait Arch {
 
     /// Fills the padding of a section of code.
     fn fill_nop_padding(room: &mut [u8])
-        ensures { room.new ≡ Self.nop_padding (length room.old) };
+        ensures { room.new ≡ repeated (code_filling Self.machine) (length room.old) }
+    {
+        fill_over_and_over(room, code_filling(Self::arch_identifier()));
+    }
 
     /// Fills the padding of a section with those flags (`sh_flags`).
     fn fill_section_padding(room: &mut [u8], section_flags: u64)
-        ensures { room.new ≡ (if executable section_flags then Self.nop_padding (length room.old) else replicate (length room.old) 0) }
+        ensures { room.new ≡ repeated (filling Self.machine section_flags) (length room.old) }
     {
-        if is_executable(section_flags) {
-            Self::fill_nop_padding(room);
-        } else {
-            room.fill(0);
-        }
+        fill_over_and_over(room, filling(Self::arch_identifier(), section_flags));
     }
 
     /// Whether the field of that type cannot hold the address of a symbol that another module may define.

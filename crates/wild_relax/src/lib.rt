@@ -5,6 +5,7 @@ pub mod aarch64;
 mod arch;
 mod laws;
 mod laws_aarch64;
+mod padding;
 mod pattern;
 mod reference;
 mod relaxation;
@@ -27,6 +28,7 @@ pub use laws_aarch64::{
     aarch64_code_reaches, aarch64_fields_agree, aarch64_rewrites_keep_the_effect,
     aarch64_rows_stand_together,
 };
+pub use padding::filling;
 pub use pattern::{Cell, GeneralForm, LocalForm, Operation, Pattern, Prefix, Sequence};
 pub use reference::{NO_RELOCATION, Reference, RelocationInfo, UnknownSequence};
 pub use relaxation::{Relaxation, RelaxationKind, RelocationModifier};

@@ -2,10 +2,10 @@
 ghost use Rattle.std.specs.Prelude.{◌≡◌};
 ghost use Rattle.wild_relax.specs.Question.{question};
 ghost use Rattle.wild_relax.specs.First.{first_standing};
-ghost use Rattle.wild_relax.specs.RowsAArch64.{applies_aarch64, has_its_words, standing_aarch64, chosen_aarch64, is_branch, branch_aarch64};
+ghost use Rattle.wild_relax.specs.RowsAArch64.{applies_aarch64, has_its_words, standing_aarch64, chosen_aarch64};
 
 use crate::reference::{Reference, UnknownSequence};
-use crate::row::{Row, SymbolTest, has_its_sequence, is_applied};
+use crate::row::{Row, has_its_sequence, is_applied};
 use crate::sequence::has_around;
 use crate::table_aarch64::rows_with_aarch64;
 
@@ -60,24 +60,5 @@ pub fn choose_aarch64(reference: &Reference) -> Result<Option<Row>, UnknownSeque
             number: reference.relocation().number,
             written: row.row_written(),
         })
-    }
-}
-
-// Whether the row changes no byte but its field's, whatever the symbol is.
-fn is_branch(row: &Row) -> bool
-    ensures { result ≡ is_branch row.now }
-{
-    row.keeps_bytes() && !matches!(row.symbol, SymbolTest::UndefinedWeak)
-}
-
-/// The first row that stands, where it changes no byte but its field's: a word of a sequence is not rewritten, and a conditional
-/// branch goes to what S is.
-#[tactic(auto, unfolding(crate::specs::RowsAArch64::branch_aarch64))]
-pub(crate) fn choose_branch(reference: &Reference) -> Option<Row>
-    ensures { result ≡ branch_aarch64 (question reference.now) }
-{
-    match choose_aarch64(reference) {
-        Ok(Some(row)) if is_branch(&row) => Some(row),
-        _ => None,
     }
 }

@@ -10,7 +10,7 @@ use wild_types::Machine;
 pub struct ElfX86_64;
 
 impl Arch for ElfX86_64 {
-    ghost use Rattle.std.specs.Prelude.{replicate, refl};
+    ghost use Rattle.std.specs.Prelude.{refl};
     ghost use Rattle.wild_types.specs.declared.kind.Machine.TheVariants.{X86_64};
     ghost use Rattle.wild_reloc.specs.declared.names.RelName.TheVariants as names;
     ghost use Rattle.wild_relax.specs.Rows.{chosen_x86_64};
@@ -24,8 +24,6 @@ impl Arch for ElfX86_64 {
 
     ghost relaxation = { relaxation_x86_64 };
 
-    ghost nop_padding = { λ n. replicate n 0xcc };
-
     ghost same_machine = { refl };
 
     ghost same_rows = { λ q. rows_with_duty q (chosen_x86_64 q) };
@@ -37,10 +35,6 @@ impl Arch for ElfX86_64 {
 
     fn rel_type_to_string(number: u32) -> RelName {
         x86_64::rel_type_to_string(number)
-    }
-
-    fn fill_nop_padding(room: &mut [u8]) {
-        room.fill(0xcc);
     }
 
     fn new_relaxation(

@@ -16,10 +16,9 @@ use Rattle.wild_layout.specs.declared.decision.Decision.TheVariants.{Nothing, Fi
 use Rattle.wild_layout.specs.Decide.{decide}
 use Rattle.wild_layout.specs.SectionPlaces.{FieldLies}
 use Rattle.wild_layout.specs.Sites.{template_start, template_site}
-use Rattle.wild_layout.proofs.ChoiceLemmas.{chosen_lies}
 use Rattle.wild_layout.proofs.DecideLemmas.{decided_moved, decided_left, moved_has, left_has, field_ends}
 use Rattle.wild_layout.proofs.DecisionLemmas.{decide_moved, decide_left, decide_rewritten}
-use Rattle.wild_layout.proofs.SiteLemmas.{decide_field_has}
+use Rattle.wild_layout.proofs.SiteLemmas.{decide_field_has, window_in}
 use Rattle.wild_sections.specs.Decided.{TemplateLies, DecisionLies}
 
 pub length-instruction : (s : Item) (r : InputRelocation) (row : Row) (v : ℕ) → TemplateLies (length s.bytes) r row → length (template_site s r row v).bytes ≡ pattern_size row
@@ -33,6 +32,6 @@ decision_lies l s i n r (Field z v) listed whole lies is = field_ends l r z n (d
 decision_lies l s i n r (Moved v packed) listed whole lies is = field_ends l r (ByteSize Eight) n (moved_has l s r v packed (decided_moved l s r v packed (decide_moved l s i r v packed listed is).made)) (holds_at (FieldLies l.machine n) s.relocations i r listed lies)
 decision_lies l s i n r (Left z k j a) listed whole lies is = field_ends l r z n (left_has l s r z k j a (decided_left l s r z k j a (decide_left l s i r z k j a listed is).made)) (holds_at (FieldLies l.machine n) s.relocations i r listed lies)
 decision_lies l s i n r (Rewritten row v) listed whole lies is =
-    let w = decide_rewritten l s i r row v listed is in
-    record { changes = w.changes; fits = (chosen_lies l s r (slice_get s.relocations (i + 1)) row w.chosen w.changes).fits; ends = subst (λ (m : ℕ). template_start row r + pattern_size row ≤ m) (sym whole) w.chosen.inside }
+    let w = window_in l s i r row v (decide_rewritten l s i r row v listed is) in
+    record { changes = w.changes; fits = w.lies.fits; ends = subst (λ (m : ℕ). template_start row r + pattern_size row ≤ m) (sym whole) w.inside }
 decision_lies l s i n r Partner listed whole lies is = tt

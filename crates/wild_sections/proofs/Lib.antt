@@ -1,5 +1,6 @@
 pub mod FaultLemmas
 pub mod PieceLemmas
+pub mod ThunkLemmas
 pub mod ValueLemmas
 pub mod DistanceLemmas
 pub mod DecisionLemmas

@@ -27,7 +27,7 @@ pub(crate) fn address_or(
 }
 
 /// What was decided of the symbol's definition.
-fn resolution_of(layout: &Layout, symbol: SymbolIndex) -> Option<Resolution>
+pub(crate) fn resolution_of(layout: &Layout, symbol: SymbolIndex) -> Option<Resolution>
     ensures { result ≡ resolution_of layout.now symbol }
 {
     match layout.symbols.as_slice().get(layout.canonical(symbol).0) {

@@ -13,6 +13,7 @@ mod relocation;
 mod resolve;
 mod rewritten;
 mod section;
+mod thunk;
 mod values;
 
 pub use home::{Home, section_in_file};

@@ -9,11 +9,12 @@ ghost use Rattle.wild_types.specs.Lookups.{place_of};
 ghost use Rattle.wild_slot.specs.Treatment.{suited};
 ghost use Rattle.wild_types.specs.declared.kind.Machine.TheVariants.{X86_64};
 ghost use Rattle.wild_slot.specs.SlotParts.{type_of};
-ghost use Rattle.wild_layout.specs.Decide.{field, field_for, moved_to, left_to, sized_to, chosen_to, added, decided};
+ghost use Rattle.wild_layout.specs.Decide.{field, reached, field_for, moved_to, left_to, sized_to, chosen_to, added, decided};
 ghost use Rattle.wild_types.specs.Item.{item_now};
 
 use crate::indirect::{decided_address, index_of};
 use crate::resolve::{address_of, displacement, sum, symbol_size, term_at, value_in};
+use crate::thunk::reached;
 use crate::values::Resolved;
 use wild_layout::Decision;
 use wild_relax::Arch;
@@ -28,7 +29,7 @@ pub(crate) const ADDRESS: RelocationSize = RelocationSize::ByteSize(Width::Eight
 
 /// A value in the field of a row, where that takes it.
 #[inline]
-fn field(row: &RelocationKindInfo, value: u64) -> Result<Decision, Fault>
+pub(crate) fn field(row: &RelocationKindInfo, value: u64) -> Result<Decision, Fault>
     ensures { result ≡ field row.now value }
 {
     if row.allows(value) {
@@ -53,10 +54,8 @@ fn field_for<A: Arch>(
 {
     let place = relocation.place_from(item.address);
     let term = term_at(resolved, relocation, row, place)?;
-    field(
-        row,
-        value_in(resolved.layout, row, term, relocation.addend, place),
-    )
+    let value = value_in(resolved.layout, row, term, relocation.addend, place);
+    reached(resolved, item, relocation, row, value)
 }
 
 /// An address that moves with the base: packed, or listed as an entry.
@@ -161,7 +160,8 @@ pub(crate) fn distance_for<A: Arch>(
 {
     let address = address_of(resolved, relocation.symbol)?;
     let place = relocation.place_from(item.address);
-    field(row, displacement(address, relocation.addend, place))
+    let value = displacement(address, relocation.addend, place);
+    reached(resolved, item, relocation, row, value)
 }
 
 /// Whether the row is an S + A - P of x86-64 in an output that does not move, so that its value is written whatever the symbol is.

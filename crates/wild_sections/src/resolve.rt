@@ -83,7 +83,7 @@ pub(crate) fn displacement(symbol: u64, addend: i64, place: u64) -> u64
 
 /// One address less another.
 #[inline]
-fn less(address: u64, start: u64) -> u64
+pub(crate) fn less(address: u64, start: u64) -> u64
     ensures { result ≡ less address start }
 {
     address.wrapping_sub(start)

@@ -7,6 +7,7 @@ ghost use Rattle.wild_types.specs.Item.{item_now};
 use crate::choice::{choice, is_partner};
 use crate::relocation::decided;
 use crate::resolve::{term_at, value_in};
+use crate::thunk::reached;
 use crate::values::Resolved;
 use wild_layout::Decision;
 use wild_relax::{Arch, Row, UnknownSequence};
@@ -39,16 +40,12 @@ fn value_to<A: Arch>(
         row.addend_written(relocation.addend),
         place_to(item, relocation, row),
     );
-    if !info.allows(value) {
-        return Err(Fault::OutOfRange { value });
-    }
     if row.keeps_bytes() {
-        Ok(Decision::Field {
-            size: info.size,
-            value,
-        })
-    } else {
+        reached(resolved, item, relocation, &info, value)
+    } else if info.allows(value) {
         Ok(Decision::Rewritten { row, value })
+    } else {
+        Err(Fault::OutOfRange { value })
     }
 }
 

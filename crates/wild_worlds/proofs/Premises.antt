@@ -240,6 +240,7 @@ few_alone = record {
   valued = λ l item r f known o t a. takes_value l item a.symbol f o t (taken l item r a.symbol f a.named known a);
   left = λ l item r i f n known h a. takes_left l item i f h (taken l item r i f n known a);
   stubbed = λ l item r i f n known o h a. takes_stub l item i f o h (taken l item r i f n known a);
+  branched = λ l item r h a. a.direct h;
 }
 
 -- ---- zeros

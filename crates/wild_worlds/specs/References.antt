@@ -25,7 +25,7 @@ use Rattle.wild_meaning.specs.Field.{formula_of}
 use Rattle.wild_meaning.specs.Formula.{IsPlaceRelative, TakesAddress, TakesOffset}
 use Rattle.wild_types.specs.Item.{Item, item_of}
 use Rattle.wild_meaning.specs.Item.{IsInput, IsKept, IsReference}
-use Rattle.wild_meaning.specs.Reference.{HasPlace, GoesByPlace, IsAsked, IsLeftToLoader, IsStubbed, IsLinkedAlone}
+use Rattle.wild_meaning.specs.Reference.{HasPlace, GoesByPlace, IsAsked, IsLeftToLoader, IsStubbed, GoesByStub, IsLinkedAlone}
 use Rattle.wild_meaning.specs.Linked.{IsBlank}
 use Rattle.wild_reloc.specs.Formula.{Formula}
 use Rattle.wild_laws.specs.FirstTypes.{IsLoadedSection}
@@ -61,13 +61,14 @@ pub record SlotsAreAsked : Type 0 where
 
 -- a reference takes the output's own symbol only where another module may have one: not of a symbol that is not replaceable, nor
 -- without one; not by an expression that has neither the symbol's address nor its offset, as a slot's or a stub's distance; not in
--- a field that is left to a loader, nor where the address is a stub's
+-- a field that is left to a loader, nor where the address is a stub's, nor where a conditional branch goes by one
 pub record FewAreLinkedAlone : Type 0 where
   pub own : (l : Layout) (item : Item) (r : InputRelocation) (i : ℕ) → r.symbol ≡ Some i → IsReplaceable l i false → IsLinkedAlone l item r → ⊥
   pub unnamed : (l : Layout) (item : Item) (r : InputRelocation) → r.symbol ≡ None → IsLinkedAlone l item r → ⊥
   pub valued : (l : Layout) (item : Item) (r : InputRelocation) (f : Formula) → formula_of l.machine r.number ≡ Some f → (TakesOffset f.value → ⊥) → (TakesAddress f.value → ⊥) → IsLinkedAlone l item r → ⊥
   pub left : (l : Layout) (item : Item) (r : InputRelocation) (i : ℕ) (f : Formula) → r.symbol ≡ Some i → formula_of l.machine r.number ≡ Some f → IsLeftToLoader l item i f → IsLinkedAlone l item r → ⊥
   pub stubbed : (l : Layout) (item : Item) (r : InputRelocation) (i : ℕ) (f : Formula) → r.symbol ≡ Some i → formula_of l.machine r.number ≡ Some f → (TakesOffset f.value → ⊥) → IsStubbed l i → IsLinkedAlone l item r → ⊥
+  pub branched : (l : Layout) (item : Item) (r : InputRelocation) → GoesByStub l item r → IsLinkedAlone l item r → ⊥
 
 -- each loaded, allocated input section without data is asked for zeros, but those that each thread has a copy of, at every
 -- address behind the file bytes of a loaded segment

@@ -1,8 +1,7 @@
 use Rattle.std.proofs.Common.{◌≡◌, ℕ, suc, ◌+◌, ◌-◌, ◌<◌, ◌≤◌, ◌⊎◌, inl, inr, List, [], ◌∷◌, ◌++◌, length, get_or, take, flat_map, sym, ap, ◌∙◌, arith, subst}
-use Rattle.std.specs.Prelude.{drop, slice_index}
+use Rattle.std.specs.Prelude.{slice_index}
 use Rattle.std.proofs.lemmas.Bool.{cases_lt}
 use Rattle.std.proofs.lemmas.List.{length-append}
-use Rattle.std.proofs.lemmas.List.FromFn.{length-map-range_with_len}
 use Rattle.wild_words.specs.Words.{Stands}
 use Rattle.wild_words.specs.Overlay.{AreApart}
 use Rattle.wild_words.proofs.OverlayLemmas.{Stands-overlay, length-overlay}
@@ -13,7 +12,8 @@ use Rattle.wild_types.specs.Lists.{total}
 use Rattle.wild_types.specs.Lookups.{image_size}
 use Rattle.wild_layout.specs.Content.{content}
 use Rattle.wild_layout.specs.Geometry.{IsLaidOut}
-use Rattle.wild_layout.specs.Image.{bytes, pieces, padding, padding_byte}
+use Rattle.wild_layout.specs.Image.{bytes, pieces, padding}
+use Rattle.wild_layout.proofs.LayoutLemmas.{length-padding}
 use Rattle.wild_geometry.proofs.tables_stand.Goals as goal
 
 -- ---- bytes one behind the other
@@ -62,10 +62,6 @@ joined whole f (g ∷ gs) at low h =
     first (inr none) = let long = length-append (f g) (flat_map f gs) in record { fits = omega arith; same = λ k l. absurd (omega arith) }
 
 -- ---- the image
-
-length-padding : (l : Layout) → length (padding l) ≡ image_size l
-unfolding padding
-length-padding l = length-map-range_with_len (padding_byte (drop 1 l.sections)) 0 (image_size l)
 
 apart_in : (l : Layout) → IsLaidOut l → AreApart (length (padding l)) (pieces l)
 apart_in l laid = subst (λ (n : ℕ). AreApart n (pieces l)) (sym (length-padding l)) laid.owners

@@ -7,7 +7,9 @@ returns c =
     (record { agree = c.machines_have_their_facts.ensures.rows; widths = c.widths_of_fields.ensures })
     (record {
       symbol = c.symbols_are_given.ensures.gives;
-      stub = c.stubs_are_given.ensures;
+      stub = c.stubs_are_given.ensures.gives;
+      stands = c.stubs_are_given.ensures.stand;
+      thunk = c.thunks_are_given.ensures;
       slot = c.slots_are_given.ensures;
       part = c.parts_are_given.ensures.gives;
       table = c.distances_of_the_table_are_given.ensures;
@@ -24,3 +26,4 @@ returns c =
       own = c.offsets_in_the_module_are_given.ensures.linked;
       address = c.addresses_are_given.ensures.linked;
     })
+    c.thunks_go_on.ensures

@@ -1,0 +1,8 @@
+use Rattle.std.proofs.Common.{take}
+use Rattle.std.specs.List.{list_any}
+use Rattle.wild_layout.specs.Image.{part_owns}
+use Rattle.wild_image.specs.Padding.{Marks}
+use Rattle.wild_image.proofs.marks.mark_parts.Given as goal
+
+abbrev pub invariant-loop-part : goal.invariant-loop-part
+invariant-loop-part l = Marks (λ k. list_any (part_owns l.layout k) (take l.part-index l.layout.parts)) l.initial.taken l.taken

@@ -1,0 +1,6 @@
+use Rattle.std.proofs.Common.{◌&&◌, nat_le, nat_lt}
+use Rattle.wild_image.specs.Padding.{Marks}
+use Rattle.wild_image.proofs.marks.mark_range.Given as goal
+
+abbrev pub invariant-loop-k : goal.invariant-loop-k
+invariant-loop-k l = Marks (λ k. nat_le l.at k && nat_lt k l.k) l.initial.taken l.taken

@@ -1,0 +1,32 @@
+-- Bytes of an image that are marked as taken, and a range of them that is filled.
+--   Marks test from to     what passes the test is marked besides
+--   free taken at end      the bytes of a range that are not
+--   Fills ..               of a range, as far as it was gone through, free bytes were filled, each run of them anew
+--   FillsSection ..        the same of all bytes of a section
+use Rattle.std.specs.Prelude.{◌≡◌, ℕ, ◌<◌, Bool, true, not, ◌&&◌, ◌||◌, if◌then◌else◌, nat_le, nat_lt, List, length, get_or, slice_index}
+use Rattle.wild_types.specs.declared.kind.Machine.{Machine}
+use Rattle.wild_types.specs.declared.section.Section.{Section}
+use Rattle.wild_relax.specs.Padding.{repeated_byte}
+use Rattle.wild_layout.specs.Image.{has_offset, run, filling_of}
+
+-- nothing behind the last mark is free
+abbrev pub is_taken : List Bool → ℕ → Bool
+is_taken taken k = get_or taken k true
+
+pub record Marks (test : ℕ → Bool) (from to : List Bool) : Type 0 where
+  pub long : length to ≡ length from
+  pub marked : (k : ℕ) → k < length from → is_taken to k ≡ is_taken from k || test k
+
+abbrev pub free : List Bool → (at end k : ℕ) → Bool
+free taken at end k = not (is_taken taken k) && (nat_le at k && nat_lt k end)
+
+pub record Fills (bs : List ℕ) (at end next : ℕ) (taken after : List Bool) (old new : List ℕ) : Type 0 where
+  pub marks : Marks (λ k. nat_le at k && nat_lt k next) taken after
+  pub long : length new ≡ length old
+  pub filled : (k : ℕ) → k < length old → slice_index new k ≡ (if free taken at next k then repeated_byte bs (run (free taken at end) k) else slice_index old k)
+
+-- of a section's bytes those that were free are filled
+pub record FillsSection (m : Machine) (s : Section) (taken after : List Bool) (old new : List ℕ) : Type 0 where
+  pub marks : Marks (λ k. has_offset k s) taken after
+  pub long : length new ≡ length old
+  pub filled : (k : ℕ) → k < length old → slice_index new k ≡ (if not (is_taken taken k) && has_offset k s then repeated_byte (filling_of m s) (run (λ j. not (is_taken taken j) && has_offset j s) k) else slice_index old k)

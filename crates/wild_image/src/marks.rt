@@ -1,0 +1,114 @@
+//! Which bytes of an image have an owner.
+ghost use Rattle.std.specs.Prelude.{◌≡◌, ◌≤◌, ◌&&◌, ℕ, nat_le, nat_lt, length, slice_get};
+ghost use Rattle.std.specs.List.{list_any};
+ghost use Rattle.wild_types.specs.FileThunks.{thunks_of};
+ghost use Rattle.wild_layout.specs.Image.{offset_in, is_within, part_owns, section_owns, thunk_owns, file_owns, group_owns, is_owned};
+ghost use Rattle.wild_image.specs.Padding.{Marks};
+
+use wild_types::{
+    File, Group, InputSection, Layout, Part, Role, THUNK_SIZE, Thunk, has_role, wide_sum,
+};
+
+/// Marks the bytes of a range.
+fn mark_range(at: usize, end: usize, taken: &mut [bool])
+    requires { (at ≤ end) × (end ≤ length taken.old) }
+    ensures { Marks (λ (k : ℕ). nat_le at k && nat_lt k end) taken.old taken.new }
+{
+    for k in at..end {
+        taken[k] = true;
+    }
+}
+
+/// Marks so many bytes from an offset on, as far as there are any.
+fn mark(at: u128, size: u64, taken: &mut [bool])
+    ensures { Marks (is_within at size) taken.old taken.new }
+{
+    let all = taken.len() as u128;
+    let start = at.min(all) as usize;
+    let end = at.saturating_add(u128::from(size)).min(all) as usize;
+    mark_range(start, end, taken);
+}
+
+/// The file offset of an address in a part, which may be 2^64 or more.
+fn offset_in(parts: &[Part], part: usize, address: u64) -> u128
+    ensures { result ≡ offset_in (slice_get parts.now part) address }
+{
+    match parts.get(part) {
+        Some(part) => wide_sum(part.offset, address.saturating_sub(part.address)),
+        None => 0,
+    }
+}
+
+/// Marks what a part owns itself.
+fn mark_part(layout: &Layout, part: &Part, taken: &mut [bool])
+    ensures { Marks (λ (k : ℕ). part_owns layout.now k part.now) taken.old taken.new }
+{
+    if !has_role(Role::Raw, part) && layout.takes_file_bytes(part.section) {
+        mark(part.offset as u128, part.size, taken);
+    }
+}
+
+/// Marks what an input section owns.
+fn mark_section(layout: &Layout, section: &InputSection, taken: &mut [bool])
+    ensures { Marks (λ (k : ℕ). section_owns layout.now k section.now) taken.old taken.new }
+{
+    if section.is_filled(layout) {
+        let at = offset_in(layout.parts.as_slice(), section.part, section.address);
+        mark(at, section.size, taken);
+    }
+}
+
+/// Marks what a thunk owns.
+fn mark_thunk(layout: &Layout, thunk: &Thunk, taken: &mut [bool])
+    ensures { Marks (λ (k : ℕ). thunk_owns layout.now k thunk.now) taken.old taken.new }
+{
+    let at = offset_in(layout.parts.as_slice(), layout.primary_part, thunk.address);
+    mark(at, THUNK_SIZE, taken);
+}
+
+/// Marks what a file's input sections own.
+fn mark_sections(layout: &Layout, file: &File, taken: &mut [bool])
+    ensures { Marks (λ (k : ℕ). list_any (section_owns layout.now k) file.now.sections) taken.old taken.new }
+{
+    for section in file.sections.as_slice() {
+        mark_section(layout, section, taken);
+    }
+}
+
+/// Marks what a file's input sections and the thunks that it writes own.
+fn mark_file(layout: &Layout, file: &File, taken: &mut [bool])
+    ensures { Marks (λ (k : ℕ). file_owns layout.now k file.now) taken.old taken.new }
+{
+    mark_sections(layout, file, taken);
+    for thunk in layout.thunks_of(file) {
+        mark_thunk(layout, thunk, taken);
+    }
+}
+
+/// Marks what a group's files own.
+fn mark_group(layout: &Layout, group: &Group, taken: &mut [bool])
+    ensures { Marks (λ (k : ℕ). group_owns layout.now k group.now) taken.old taken.new }
+{
+    for file in group.files.as_slice() {
+        mark_file(layout, file, taken);
+    }
+}
+
+/// Marks what the parts own themselves.
+fn mark_parts(layout: &Layout, taken: &mut [bool])
+    ensures { Marks (λ (k : ℕ). list_any (part_owns layout.now k) layout.now.parts) taken.old taken.new }
+{
+    for part in layout.parts.as_slice() {
+        mark_part(layout, part, taken);
+    }
+}
+
+/// Marks each byte that has an owner.
+pub(crate) fn mark_owned(layout: &Layout, taken: &mut [bool])
+    ensures { Marks (is_owned layout.now) taken.old taken.new }
+{
+    mark_parts(layout, taken);
+    for group in layout.groups.as_slice() {
+        mark_group(layout, group, taken);
+    }
+}

@@ -1,0 +1,78 @@
+-- Words of AArch64 that are rewritten hold.
+--   LawsOfWords               the laws below, as they are called
+--   IsRunOf .., run_of_word   the run of a word that is rewritten, as the reader has it
+--   word_stands, word_holds   the reader knows it, and the loaded code does what it demands
+use Rattle.std.proofs.Common.{◌≡◌, ℕ, inr, refl, arith}
+use Rattle.wild_reloc.specs.declared.expression.Term.TheVariants as term
+use Rattle.wild_types.specs.declared.kind.Machine.TheVariants as machine
+use Rattle.wild_types.specs.declared.input.InputRelocation.{InputRelocation}
+use Rattle.wild_types.specs.declared.layout.Layout.{Layout}
+use Rattle.wild_types.specs.Item.{Item}
+use Rattle.wild_relax.specs.declared.pattern.Sequence.{Sequence}
+use Rattle.wild_relax.specs.declared.pattern.Sequence.TheVariants.{DescriptorCall, OffsetSlot, Address}
+use Rattle.wild_relax.specs.declared.row.Row.{Row}
+use Rattle.wild_relax.specs.KeepAArch64.{RowsOfAArch64Keep}
+use Rattle.wild_relax.specs.Linked.{pattern_size}
+use Rattle.wild_relax.specs.TogetherAArch64.{RowsStandTogether}
+use Rattle.wild_layout.specs.declared.decision.Decision.TheVariants.{Rewritten}
+use Rattle.wild_layout.specs.Sites.{template_start}
+use Rattle.wild_geometry.specs.Loaded.{IsDecided, HasDecision}
+use Rattle.wild_loader.specs.declared.memory.Memory.{Memory}
+use Rattle.wild_loader.specs.declared.world.World.{World}
+use Rattle.wild_meaning.specs.Reference.{HoldsRewritten}
+use Rattle.wild_references.specs.Laws.{IsLoadedItem, TermGives}
+use Rattle.wild_references.specs.EffectLaws.{StandsAt}
+use Rattle.wild_references.proofs.WordWindows.{word_here}
+use Rattle.wild_references.proofs.RewrittenRuns.{run_of, IsRewrittenWord, IsRunThere, run_there}
+use Rattle.wild_references.proofs.RewrittenSequences.{StandsAlone, run_size, IsJudgedRun, of_run, judged_run}
+use Rattle.wild_references.proofs.RewrittenWords.{words_are_written, rewritten_word}
+use Rattle.wild_references.proofs.RewrittenHold.{slot_holds, near_holds, call_holds}
+use Rattle.wild_references.proofs.StubCode.{StubLaws}
+
+-- the word of a call, which has no field, stands alone
+abbrev pub CallsAreAlone : Type 0
+CallsAreAlone = (l : Layout) (s : Item) (i : ℕ) (r : InputRelocation) (row : Row) → IsDecided l s → (t : IsRewrittenWord l s i r row) → (c : IsRunThere l s i r row t.sequence t.word) → t.sequence ≡ DescriptorCall → StandsAlone l s DescriptorCall c.start
+
+pub record LawsOfWords : Type 0 where
+  pub alone : CallsAreAlone
+  pub together : RowsStandTogether
+  pub keeps : RowsOfAArch64Keep
+  pub stubs : StubLaws
+  pub pointer : TermGives term.PointerOffset
+
+-- ---- a word
+
+pub record IsRunOf (l : Layout) (s : Item) (i : ℕ) (r : InputRelocation) (row : Row) : Type 0 where
+  pub word : IsRewrittenWord l s i r row
+  pub there : IsRunThere l s i r row word.sequence word.word
+  pub judged : IsJudgedRun l s r word.sequence there.start there.index
+
+pub run_of_word : CallsAreAlone → (l : Layout) (s : Item) (i : ℕ) (r : InputRelocation) (row : Row) (v : ℕ) → l.machine ≡ machine.AArch64 → IsDecided l s → HasDecision l s i r (Rewritten row v) → IsRunOf l s i r row
+run_of_word alone l s i r row v on decided has =
+    let t = rewritten_word l s i r row v on has in
+    let c = run_there l s i r row t in
+    record { word = t; there = c; judged = judged_run l s i r row t c (alone l s i r row decided t c) }
+
+pub word_stands : CallsAreAlone → (l : Layout) (s : Item) (i : ℕ) (r : InputRelocation) (row : Row) (v : ℕ) → l.machine ≡ machine.AArch64 → IsDecided l s → HasDecision l s i r (Rewritten row v) → StandsAt l s r (template_start row r) (pattern_size row)
+word_stands alone l s i r row v on decided has =
+    let t = run_of_word alone l s i r row v on decided has in
+    let q = t.word.sequence in
+    let c = t.there in
+    let w = word_here l s i r row v on has in
+    let start = w.start in
+    let long = w.size in
+    let place = c.place in
+    let few = c.few in
+    let size = run_size q in
+    record { from = c.start; instruction = run_of q; first = t.judged.first; template = inr (of_run l s r q c.start c.index t.judged); before = omega (arith, start, place); behind = omega (arith, start, long, place, few, size) }
+
+pub word_holds : LawsOfWords → (l : Layout) (w : World) (m : Memory) (s : Item) → IsLoadedItem machine.AArch64 l w m s → (i : ℕ) (r : InputRelocation) (row : Row) (v : ℕ) → HasDecision l s i r (Rewritten row v) → HoldsRewritten l w m s r
+word_holds laws l w m s g i r row v has = by t.word.sequence refl t.there t.judged
+  where
+    t : IsRunOf l s i r row
+    t = run_of_word laws.alone l s i r row v g.on g.decided has
+
+    by : (q : Sequence) → t.word.sequence ≡ q → (c : IsRunThere l s i r row q t.word.word) → IsJudgedRun l s r q c.start c.index → HoldsRewritten l w m s r
+    by DescriptorCall e c j = call_holds laws.together laws.keeps laws.pointer l w m s i r row g t.word e c j (words_are_written l s t.word.symbol g.on g.decided)
+    by OffsetSlot e c j = slot_holds laws.together laws.keeps laws.pointer l w m s i r row g t.word e c j (words_are_written l s t.word.symbol g.on g.decided)
+    by Address e c j = near_holds laws.stubs laws.together laws.keeps l w m s i r row g t.word e c j (words_are_written l s t.word.symbol g.on g.decided)

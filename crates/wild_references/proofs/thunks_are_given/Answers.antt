@@ -1,0 +1,5 @@
+use Rattle.wild_references.proofs.ThunkKinds.{thunks_give}
+use Rattle.wild_references.proofs.thunks_are_given.Goals as goal
+
+pub returns : goal.returns
+returns c = thunks_give (record { value = c.stubs_are_read.ensures.value; plain = c.stubs_of_words_are_read.ensures.plain; marked = c.stubs_of_words_are_read.ensures.marked })

@@ -1,0 +1,61 @@
+-- What thunks do in memory, whether a branch goes by them or not, and what is written where one does (aaelf64, "Call and Jump
+-- relocations").
+--   GoesOn l w m t       code at the thunk goes on to its target
+--   EachThunkGoesOn ..   so does each thunk of the layout
+--   ThunksGoOn           the law
+--   Carries info         branches of a row's type may go by thunks
+--   ThunksGive           the distance to that is what the branch's expression gives
+use Rattle.std.specs.Prelude.{◌≡◌, ℕ, ◌+◌, ◌%◌, ◌^◌, ◌≤◌, ◌⊎◌, true, false, List, Some, None, Ok, Contains}
+use Rattle.wild_types.specs.declared.kind.Machine.TheVariants as machine
+use Rattle.wild_types.specs.declared.input.InputRelocation.{InputRelocation}
+use Rattle.wild_types.specs.Item.{Item}
+use Rattle.wild_types.specs.FileThunks.{thunk_size}
+use Rattle.wild_types.specs.Lookups.{place_of}
+use Rattle.wild_reloc.specs.Range.{contains}
+use Rattle.wild_reloc.specs.Formula.{StubDistance}
+use Rattle.wild_reloc.specs.declared.info.RelocationKind.TheVariants as kinds
+use Rattle.wild_reloc.specs.declared.info.RelocationKindInfo.{RelocationKindInfo}
+use Rattle.wild_types.specs.declared.layout.Thunk.{Thunk}
+use Rattle.wild_types.specs.declared.layout.Layout.{Layout}
+use Rattle.wild_layout.specs.Decide.{added}
+use Rattle.wild_layout.specs.SymbolValues.{less}
+use Rattle.wild_layout.specs.Thunks.{thunk_target, thunk_for}
+use Rattle.wild_layout.specs.Geometry.{IsLaidOut}
+use Rattle.wild_geometry.specs.Thunks.{HasThunks}
+use Rattle.wild_loader.specs.declared.memory.Memory.{Memory}
+use Rattle.wild_loader.specs.declared.world.World.{World}
+use Rattle.wild_loader.specs.Reach.{JumpsTo}
+use Rattle.wild_meaning.specs.Linked.{processor_of}
+use Rattle.wild_meaning.specs.Formula.{Gives}
+use Rattle.wild_references.specs.Terms.{MovesByPages, value_by_row, HasTerm, IsFollowed}
+
+-- the thunk has a target, and the code at its loaded address, which does not wrap, goes on, by one jump, to the base and that
+pub record GoesOn (l : Layout) (w : World) (m : Memory) (t : Thunk) : Type 0 where
+  pub target : ℕ
+  pub known : thunk_target l t ≡ Ok target
+  pub ends : w.base + t.address + thunk_size ≤ 2 ^ 64
+  pub jumps : JumpsTo m (w.base + t.address) ((w.base + target) % 2 ^ 64)
+
+-- each thunk of the layout
+abbrev pub EachThunkGoesOn : Layout → World → Memory → Type 0
+EachThunkGoesOn l w m = (b : List Thunk) (t : Thunk) → Contains l.thunk_blocks b → Contains b t → GoesOn l w m t
+
+-- where memory has the thunks of a laid out output
+abbrev pub ThunksGoOn : Type 0
+ThunksGoOn = (l : Layout) (w : World) (m : Memory) → MovesByPages l.machine l w → m.machine ≡ processor_of l.machine → IsLaidOut l → HasThunks l w m → EachThunkGoesOn l w m
+
+-- ---- branches
+
+-- branches of the row's type may go by thunks: the row is the distance of S or L, whose range has those of the branch itself and of the next
+-- instruction
+pub record Carries (info : RelocationKindInfo) : Type 0 where
+  pub kind : (info.kind ≡ kinds.Relative) ⊎ (info.kind ≡ kinds.PltRelative)
+  pub whole : info.mask ≡ None
+  pub here : contains info.range 0 ≡ true
+  pub next : contains info.range 4 ≡ true
+
+-- where the row's value is out of its range, the thunk of the symbol's definition in the item's block goes on to what the symbol is, so that a
+-- branch which adds nothing comes there by the distance of the thunk
+abbrev pub ThunksGive : Type 0
+ThunksGive = (info : RelocationKindInfo) → Carries info → (l : Layout) (w : World) (m : Memory) (s : Item) (r : InputRelocation) (x : ℕ) (t : Thunk) → l.machine ≡ machine.AArch64 → HasTerm l w m s r info x → EachThunkGoesOn l w m → IsFollowed l r (value_by_row info)
+    → contains info.range x ≡ false → thunk_for l s.thunk_block r.symbol ≡ Some t → added r ≡ 0 → Gives StubDistance l w m s r (less t.address (place_of s.address r))

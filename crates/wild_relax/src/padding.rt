@@ -1,0 +1,36 @@
+//! What fills the bytes of a section that nothing owns.
+ghost use Rattle.std.specs.Prelude.{◌≡◌, length};
+ghost use Rattle.wild_relax.specs.Padding.{code_filling, filling, repeated};
+
+use wild_types::{Machine, is_executable};
+
+/// Four bytes between sections of code: `int3`, which is not to be run, or a `nop`.
+pub fn code_filling(machine: Machine) -> [u8; 4]
+    ensures { result ≡ code_filling machine }
+{
+    match machine {
+        Machine::X86_64 => [0xcc, 0xcc, 0xcc, 0xcc],
+        Machine::AArch64 => [0x1f, 0x20, 0x03, 0xd5],
+    }
+}
+
+/// Four bytes that fill the padding of a section with those flags (`sh_flags`), over and over.
+pub fn filling(machine: Machine, section_flags: u64) -> [u8; 4]
+    ensures { result ≡ filling machine section_flags }
+{
+    if is_executable(section_flags) {
+        code_filling(machine)
+    } else {
+        [0, 0, 0, 0]
+    }
+}
+
+/// Fills a room with four bytes over and over, cut at the end.
+#[tactic(auto, using(std::proofs::lemmas::List::Edits::fill_by_more, std::proofs::lemmas::List::FromFn::fill_by_all))]
+pub fn fill_over_and_over(room: &mut [u8], bytes: [u8; 4])
+    ensures { room.new ≡ repeated bytes (length room.old) }
+{
+    for i in 0..room.len() {
+        room[i] = bytes[i % 4];
+    }
+}

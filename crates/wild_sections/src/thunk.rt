@@ -1,0 +1,128 @@
+//! Branches, which go by thunks where their targets are out of range ("ELF for the Arm 64-bit Architecture", "Call and Jump
+//! relocations").
+ghost use Rattle.std.specs.Prelude.{◌≡◌, ◌<◌, ◌≤◌, All, length};
+ghost use Rattle.wild_types.specs.Item.{item_now};
+ghost use Rattle.wild_types.specs.Lookups.{place_of};
+ghost use Rattle.wild_layout.specs.SymbolValues.{less};
+ghost use Rattle.wild_layout.specs.Thunks.{Ascend, thunk_of, goes_by_definition, thunk_for};
+ghost use Rattle.wild_layout.specs.Decide.{carried, carried_by, reached};
+
+use crate::indirect::resolution_of;
+use crate::relocation::{added, field};
+use crate::resolve::less;
+use crate::values::Resolved;
+use wild_layout::Decision;
+use wild_relax::Arch;
+use wild_reloc::RelocationKindInfo;
+use wild_types::{Fault, InputRelocation, ItemRef, Layout, SymbolIndex, Thunk};
+
+/// The half of two thunks or more that the thunk of a symbol is in, if there is one.
+fn half_of(thunks: &[Thunk], symbol: SymbolIndex) -> &[Thunk]
+    requires some { 2 ≤ length thunks.now }
+    requires order { Ascend thunks.now }
+    ensures order { Ascend result.now }
+    ensures same { thunk_of symbol result.now ≡ thunk_of symbol thunks.now }
+    ensures shorter { length result.now < length thunks.now }
+{
+    let (front, back) = thunks.split_at(thunks.len() / 2);
+    let middle = back[0];
+    if middle.symbol.0 <= symbol.0 {
+        back
+    } else {
+        front
+    }
+}
+
+/// The thunk of a symbol among these.
+fn thunk_of(thunks: &[Thunk], symbol: SymbolIndex) -> Option<Thunk>
+    requires { Ascend thunks.now }
+    ensures { result ≡ thunk_of symbol thunks.now }
+{
+    let mut rest = thunks;
+    while rest.len() > 1 {
+        rest = half_of(rest, symbol);
+    }
+    match rest.first() {
+        Some(thunk) if thunk.symbol == symbol => Some(*thunk),
+        _ => None,
+    }
+}
+
+/// Whether references to a symbol take what its definition goes by.
+fn goes_by_definition(layout: &Layout, symbol: SymbolIndex) -> bool
+    ensures { result ≡ goes_by_definition layout.now symbol }
+{
+    layout.canonical(symbol) == symbol || resolution_of(layout, symbol).is_some()
+}
+
+/// The thunk of a block that carries branches to a symbol.
+fn thunk_for(layout: &Layout, block: usize, symbol: Option<SymbolIndex>) -> Option<Thunk>
+    requires { All Ascend layout.now.thunk_blocks }
+    ensures { result ≡ thunk_for layout.now block symbol }
+{
+    let symbol = symbol?;
+    if goes_by_definition(layout, symbol) {
+        thunk_of(layout.block_of(block), layout.canonical(symbol))
+    } else {
+        None
+    }
+}
+
+/// The distance to a thunk in the field of a branch, to which a thunk has nothing to add.
+fn carried(
+    relocation: &InputRelocation,
+    row: &RelocationKindInfo,
+    distance: u64,
+) -> Result<Decision, Fault>
+    ensures { result ≡ carried relocation.now row.now distance }
+{
+    if !row.range.contains(distance) {
+        return Err(Fault::ThunkOutOfRange { value: distance });
+    }
+    if added(relocation) != 0 {
+        return Err(Fault::ThunkAddend {
+            addend: relocation.addend,
+        });
+    }
+    field(row, distance)
+}
+
+/// The same for the thunk, if there is one, of a branch that the value is too far for.
+#[inline(never)]
+fn carried_by(
+    layout: &Layout,
+    item: &ItemRef,
+    relocation: &InputRelocation,
+    row: &RelocationKindInfo,
+    value: u64,
+) -> Result<Decision, Fault>
+    requires { All Ascend layout.now.thunk_blocks }
+    ensures { result ≡ carried_by relocation.now row.now (place_of item.now.address relocation.now) value (thunk_for layout.now item.now.thunk_block relocation.now.symbol) }
+{
+    match thunk_for(layout, item.thunk_block, relocation.symbol) {
+        Some(thunk) => {
+            let place = relocation.place_from(item.address);
+            carried(relocation, row, less(thunk.address, place))
+        }
+        None => Err(Fault::NoThunk { value }),
+    }
+}
+
+/// A value in the field of a row; a branch out of whose range it is goes by a thunk.
+#[inline]
+#[tactic(auto, unfolding(wild_layout::specs::Decide::reached))]
+pub(crate) fn reached<A: Arch>(
+    resolved: &Resolved<A>,
+    item: &ItemRef,
+    relocation: &InputRelocation,
+    row: &RelocationKindInfo,
+    value: u64,
+) -> Result<Decision, Fault>
+    ensures { result ≡ reached resolved.now.layout.now (item_now item.now) relocation.now row.now value }
+{
+    if row.thunkable && !row.range.contains(value) {
+        carried_by(resolved.layout, item, relocation, row, value)
+    } else {
+        field(row, value)
+    }
+}
