@@ -1,0 +1,4 @@
+pub mod InOrder
+pub mod Ranges
+pub mod Given
+pub mod Worked

@@ -1,0 +1,16 @@
+//! Relocations of a debug section applied in order, and in shards beside each other.
+#![tactic(auto)]
+
+mod in_order;
+mod ranges;
+mod sharded;
+mod step;
+#[cfg(test)]
+mod tests;
+
+pub use in_order::{apply_in_order, fields_lie, other_bytes_stay};
+pub use ranges::{
+    DebugRelocationShardRange, Offsets, Sizes, debug_relocation_shard_ranges_parallel,
+};
+pub use sharded::{apply_by_workers, apply_sharded, ranges_of};
+pub use step::Step;
