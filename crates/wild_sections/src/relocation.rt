@@ -145,8 +145,9 @@ fn chosen_to(
     })
 }
 
-/// The same, where the row is an S + A - P of x86-64.
+/// The same, where the row is an S + A - P of x86-64, which goes by no thunk.
 #[inline]
+#[tactic(auto, unfolding(wild_layout::specs::Decide::reached))]
 pub(crate) fn distance_for<A: Arch>(
     resolved: &Resolved<A>,
     item: &ItemRef,
@@ -155,13 +156,13 @@ pub(crate) fn distance_for<A: Arch>(
 ) -> Result<Decision, Fault>
     requires kind { row.now.kind ≡ Relative }
     requires whole { row.now.mask ≡ None }
+    requires alone { row.now.thunkable ≡ false }
     requires machine { resolved.now.layout.now.machine ≡ X86_64 }
     ensures { result ≡ field_for resolved.now.layout.now (item_now item.now) relocation.now row.now (term_at resolved.now.layout.now relocation.now row.now (place_of item.now.address relocation.now)) }
 {
     let address = address_of(resolved, relocation.symbol)?;
     let place = relocation.place_from(item.address);
-    let value = displacement(address, relocation.addend, place);
-    reached(resolved, item, relocation, row, value)
+    field(row, displacement(address, relocation.addend, place))
 }
 
 /// Whether the row is an S + A - P of x86-64 in an output that does not move, so that its value is written whatever the symbol is.
@@ -169,11 +170,13 @@ pub(crate) fn distance_for<A: Arch>(
 pub(crate) fn is_fixed_distance(layout: &Layout, row: &RelocationKindInfo) -> bool
     ensures kind { result ≡ true → row.now.kind ≡ Relative }
     ensures whole { result ≡ true → row.now.mask ≡ None }
+    ensures alone { result ≡ true → row.now.thunkable ≡ false }
     ensures machine { result ≡ true → layout.now.machine ≡ X86_64 }
     ensures fixed { result ≡ true → is_position_independent layout.now.kind ≡ false }
 {
     matches!(row.kind, RelocationKind::Relative)
         && matches!(row.mask, None)
+        && !row.thunkable
         && matches!(layout.machine, Machine::X86_64)
         && !layout.kind.is_position_independent()
 }
