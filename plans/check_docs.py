@@ -40,6 +40,8 @@ STANDS = {
     "Member of a dynamic symbol": "/dynsyms/0", "Member of `sysv_hash`": "/sysv_hash", "Member of `gnu_hash`": "/gnu_hash",
     "Member of a version definition": "/verdefs/0", "Member of a `resolution`": "/symbols/0/resolution", "Member of a group": "/groups/0",
     "Member of a file": FILE, "Member of `verneed`": f"{FILE}/verneed", "Member of a thunk": "/thunk_blocks/0/0",
+    "Member of an item of `sorted`": "/sorted/0", "Member of an item of `merged`": "/merged/0", "Member of `identity`": "/identity",
+    "Member of a property": "/properties/0", "Member of an item of `strings`": f"{FILE}/sections/0/strings/0",
 }
 CHANGE = re.compile(r"((?:`[/A-Z][^`]*`(?: and )?)+) to (?:`([^`]*)`|(null|-?\d+))(, added)?")
 differences = 0
@@ -379,7 +381,7 @@ def makers():
             same(path, json.loads(read(f"plans/{name.lower()}.json")), json.loads(text))
     for words, plan in [(["make_hello.py"], "hello"), (["make_pie.py"], "pie"), (["make_slots.py"], "slots"), (["make_rewrites.py"], "rewrites"),
                         (["make_aarch64.py"], "aarch64"),
-                        *((["make_shared.py", name], name) for name in ("shared", "uses_shared", "symbols"))]:
+                        *((["make_shared.py", name], name) for name in ("shared", "uses_shared", "symbols", "frames"))]:
         if plan == "aarch64" and not shutil.which(make_aarch64.ASSEMBLER):
             print(f"left out: plans/{words[0]}: there is no {make_aarch64.ASSEMBLER}")
             continue

@@ -3,8 +3,10 @@
 
     plans/make_large.py 65536 > /tmp/large.json
     plans/make_large.py 65536 --fault range > /tmp/broken.json
+    plans/make_large.py 65536 --frames 4 > /tmp/frames.json
 
 Of four sections two are code (calls, R_X86_64_PC32), one is read-only data (PC32, 32 and 32S), one is data (PC32 and 64).
+With `--frames K` each file has a section of frames, with a CIE and K FDEs of each of its sections, and the image their search table.
 A fault is put into the last section:
 
     number   its last relocation has type 99                                 UnsupportedRelocation
@@ -22,6 +24,8 @@ BASE, PAGE, SIZE, COUNT, FILE = 0x400000, 0x1000, 64, 8, 16
 TEXT, RODATA, DATA = 0, 1, 2
 KINDS = [(".text", 6), (".rodata", 2), (".data", 3)]
 CODE, ZEROS = "e800000000909090" * COUNT, "00" * SIZE
+# a CIE and an FDE behind their lengths and ids, each of 24 bytes (LSB, "The .eh_frame section")
+ENTRY, CIE, FDE = 24, "017a5200017810011b0c070890010000", "00000000400000000000000000000000"
 NUMBERS = {TEXT: [2], RODATA: [2, 10, 11, 2], DATA: [2, 1]}
 FAULTS = ["number", "address", "range", "overlap", "field", "member"]
 
@@ -35,18 +39,22 @@ def up(n, align):
 
 
 class Plan:
-    def __init__(self, sections, groups, fault):
-        self.count, self.groups, self.fault = sections, groups, fault
+    def __init__(self, sections, groups, fault, frames=0):
+        self.count, self.groups, self.fault, self.frames = sections, groups, fault, frames
+        self.kinds = list(KINDS)
         self.sizes = [SIZE * sum(part_of(i) == part for i in range(sections)) for part in range(3)]
-        self.segments = [part for part in range(3) if self.sizes[part]]
+        if frames:
+            self.kinds += [(".eh_frame_hdr", 2), (".eh_frame", 2)]
+            self.sizes += [12 + 8 * frames * sections, ENTRY * (up(sections, FILE) // FILE + frames * sections)]
+        self.segments = [part for part, size in enumerate(self.sizes) if size]
         headers = 64 + 56 * len(self.segments)
         self.offsets, self.addresses, end = [], [], headers
-        for part in range(3):
+        for part in range(len(self.kinds)):
             end = up(end, SIZE)
             self.offsets.append(end)
             self.addresses.append(BASE + (part + 1) * PAGE + end)
             end += self.sizes[part]
-        self.names = ["", *(name for name, _ in KINDS), ".shstrtab"]
+        self.names = ["", *(name for name, _ in self.kinds), ".shstrtab"]
         self.names_at, self.names_size = end, sum(len(name) + 1 for name in self.names)
         self.headers_at = up(end + self.names_size, 8)
         self.next = list(self.addresses)
@@ -54,20 +62,20 @@ class Plan:
     def parts(self):
         yield {"role": "file_header", "offset": 0, "address": BASE, "size": 64, "align": 8}
         yield {"role": "program_headers", "offset": 64, "address": BASE + 64, "size": 56 * len(self.segments), "align": 8}
-        for part in range(3):
-            yield {"role": "raw", "section": part + 1, "offset": self.offsets[part], "address": self.addresses[part], "size": self.sizes[part], "align": SIZE}
-        yield {"role": "shstrtab", "section": 4, "offset": self.names_at, "size": self.names_size}
+        for part, role in enumerate(["raw", "raw", "raw", "eh_frame_hdr", "eh_frame"][: len(self.kinds)]):
+            yield {"role": role, "section": part + 1, "offset": self.offsets[part], "address": self.addresses[part], "size": self.sizes[part], "align": SIZE}
+        yield {"role": "shstrtab", "section": len(self.kinds) + 1, "offset": self.names_at, "size": self.names_size}
         yield {"role": "section_headers", "offset": self.headers_at, "size": 64 * len(self.names), "align": 8}
 
     def sections(self):
         yield {}
-        for part, (name, flags) in enumerate(KINDS):
+        for part, (name, flags) in enumerate(self.kinds):
             yield {"name": name.encode().hex(), "kind": 1, "flags": flags, "address": self.addresses[part], "offset": self.offsets[part], "size": self.sizes[part], "align": SIZE}
         yield {"name": b".shstrtab".hex(), "kind": 3, "offset": self.names_at, "size": self.names_size, "align": 1}
 
     def loads(self):
         for part in self.segments:
-            flags = {TEXT: 5, RODATA: 4, DATA: 6}[part]
+            flags = {TEXT: 5, DATA: 6}.get(part, 4)
             where = {"offset": self.offsets[part], "address": self.addresses[part], "physical": self.addresses[part]}
             yield {"kind": 1, "flags": flags, **where, "file_size": self.sizes[part], "mem_size": self.sizes[part], "align": PAGE}
 
@@ -106,15 +114,27 @@ class Plan:
             "relocations": [self.relocation(i, j, part) for j in range(COUNT)],
         }
 
+    def frame_section(self, first, count):
+        """The frames of a file: an FDE's id is the distance back to the CIE, and its code begins where its first relocation says."""
+        def entry(i, rest):
+            return (ENTRY - 4).to_bytes(4, "little").hex() + (ENTRY * i + 4 if i else 0).to_bytes(4, "little").hex() + rest
+        entries = [entry(0, CIE)] + [entry(i, FDE) for i in range(1, self.frames * count + 1)]
+        relocations = [{"offset": ENTRY * i + 8, "number": 2, "symbol": first + (i - 1) // self.frames, "addend": 0} for i in range(1, len(entries))]
+        return {"slot": "frame", "part": 6, "size": ENTRY * len(entries), "flags": 2, "bytes": "".join(entries), "relocations": relocations}
+
     def file(self, first):
         count = min(FILE, self.count - first)
-        return {"first_symbol": first, "symbol_count": count, "sections": [self.input(i) for i in range(first, first + count)]}
+        sections = [self.input(i) for i in range(first, first + count)]
+        if self.frames:
+            sections.append(self.frame_section(first, count))
+            self.next[4] += ENTRY * (1 + self.frames * count)
+        return {"first_symbol": first, "symbol_count": count, "sections": sections}
 
     def group(self, number):
         files = up(self.count, FILE) // FILE
         firsts = range(files * number // self.groups * FILE, files * (number + 1) // self.groups * FILE, FILE)
         before = list(self.next)
-        yield '{"files":['
+        yield ('{"eh_frame_start":' + text(before[4] - self.addresses[4]) + ',"files":[') if self.frames else '{"files":['
         between = ""
         if number == 0:
             yield '{"role":"prelude"}'
@@ -124,12 +144,14 @@ class Plan:
             between = ","
         if number == self.groups - 1:
             yield between + '{"role":"epilogue"}'
-        raw = [self.next[part] - before[part] for part in range(3)]
+        own = [self.next[part] - before[part] for part in range(len(self.kinds))]
         sizes = [part["size"] if number == 0 else 0 for part in self.parts()]
-        yield '],"part_sizes":' + text(sizes[:2] + raw + sizes[5:]) + "}"
+        if self.frames:
+            own[3] = sizes[5]
+        yield '],"part_sizes":' + text(sizes[:2] + own + sizes[2 + len(own) :]) + "}"
 
     def whole(self):
-        yield '{"machine":"x86_64","kind":"static","options":{"strip_all":true},"page_size":' + text(PAGE)
+        yield '{"machine":"x86_64","kind":"static","options":' + text({"strip_all": True, **({"eh_frame_hdr": True} if self.frames else {})}) + ',"page_size":' + text(PAGE)
         for name, items in (("parts", self.parts()), ("sections", self.sections()), ("segments", self.loads()), ("symbols", self.symbols())):
             yield f',"{name}":['
             for i, item in enumerate(items):
@@ -151,11 +173,12 @@ def main():
     parser = argparse.ArgumentParser(description=__doc__, formatter_class=argparse.RawDescriptionHelpFormatter)
     parser.add_argument("sections", type=int, metavar="N")
     parser.add_argument("--groups", type=int, default=1, help="how many groups the files are dealt out to (default: 1)")
+    parser.add_argument("--frames", type=int, default=0, metavar="K", help="how many FDEs each section has (default: none)")
     parser.add_argument("--fault", choices=FAULTS)
     chosen = parser.parse_args()
     if chosen.sections < 1 or chosen.groups < 1:
         parser.error("there is at least one section, and one group")
-    for piece in Plan(chosen.sections, chosen.groups, chosen.fault).whole():
+    for piece in Plan(chosen.sections, chosen.groups, chosen.fault, chosen.frames).whole():
         sys.stdout.write(piece)
 
 

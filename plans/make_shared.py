@@ -1,10 +1,11 @@
 #!/usr/bin/env python3
-"""Writes shared.json, uses_shared.json or symbols.json: has the system's compiler make an object of shared.c, uses_shared.c or
-symbols.c, and lays it out as a shared object or as a position-independent executable that a dynamic linker starts. Run it as
+"""Writes shared.json, uses_shared.json, symbols.json or frames.json: has the system's compiler make an object of shared.c, uses_shared.c,
+symbols.c or frames.cpp, and lays it out as a shared object or as a position-independent executable that a dynamic linker starts. Run it as
 
     plans/make_shared.py shared > plans/shared.json
     plans/make_shared.py uses_shared > plans/uses_shared.json
     plans/make_shared.py symbols > plans/symbols.json
+    plans/make_shared.py frames > plans/frames.json
     plans/make_shared.py NAME SOURCE.c > plan.json
     plans/make_shared.py NAME [SOURCE.c] --machine aarch64 > plan.json
 
@@ -14,7 +15,8 @@ As a linker does, it goes by the relocations: a symbol of a library has a stub w
 its address there, and is copied where code has its address as one of the program. Each symbol of a library that is used
 has an entry of the dynamic symbol table, and each of the object that other modules see has one behind those. References
 to symbols of the object are bound to it, as with the option `-Bsymbolic` of linkers. An output with versions has both hash
-tables, versions and a table of all symbols too.
+tables, versions and a table of all symbols too; one with frames has their search table and the segment by which an unwinder
+finds it.
 """
 import argparse
 from typing import NamedTuple
@@ -60,6 +62,12 @@ MACHINES = {
     ),
 }
 # what is known of the libraries: the symbols that are used of them, with type and size
+UNWIND_SEGMENT = 0x6474E550
+CPP_LIBRARY = ("libstdc++.so.6", {
+    **{name: (FUNCTION, 0) for name in ("__cxa_allocate_exception", "__cxa_throw", "__cxa_rethrow", "__cxa_begin_catch", "__cxa_end_catch", "__gxx_personality_v0")},
+    "_ZTIi": (OBJECT, 16), "_ZTIc": (OBJECT, 16),
+})
+UNWINDER = ("libgcc_s.so.1", {"_Unwind_Resume": (FUNCTION, 0)})
 C_LIBRARY = ("libc.so.6", {"write": (FUNCTION, 0), "fsync": (FUNCTION, 0), "_exit": (FUNCTION, 0), "optind": (OBJECT, 4)})
 
 
@@ -78,6 +86,11 @@ def outputs(machine):
             "versions": [("libsymbols.so", None), ("FIRST", None), ("SECOND", 1)],
             "version_of": {"once": 2, "step": 2, "twice": 3, "status": 3, "thrice": 3, "say": 3},
             "needs": {"libc.so.6": [(machine.versions[0], 4), ("GLIBC_ABI_DT_RELR", 6)], linker: [(machine.versions[1], 5)]},
+        },
+        "frames": {
+            "kind": "dynamic_pie", "compiled": "-fPIE -fexceptions -fasynchronous-unwind-tables -std=c++17", "source": "frames.cpp",
+            "libraries": [CPP_LIBRARY, UNWINDER, C_LIBRARY], "interpreter": machine.interpreter.encode() + b"\0",
+            "options": {"eh_frame_hdr": True, "terminator": True},
         },
     }
 
@@ -124,6 +137,17 @@ def gnu_hash(name):
     return h
 
 
+def fdes(source, frames):
+    """How many entries of the frames are of functions: those whose second word is not 0 (LSB, "The .eh_frame section")."""
+    count = 0
+    for i in frames:
+        data, at = source.bytes(i), 0
+        while at < len(data):
+            count += data[at + 4 : at + 8] != bytes(4)
+            at += 4 + int.from_bytes(data[at : at + 4], "little")
+    return count
+
+
 def is_local(info):
     return info >> 4 == 0
 
@@ -168,13 +192,14 @@ def plan(source, output, started_with, sizes, machine):
     """The plan, where tables have these sizes, and the sizes that they need: they are asked of a first plan."""
     executable = output["kind"] != "shared"
     used = uses(source)
-    loaded = [i for i, h in enumerate(source.headers) if h[1] in (PROGBITS, INIT_ARRAY) and h[2] & ALLOC and h[5]]
+    frames = [i for i, name in enumerate(source.names) if name == b".eh_frame" and output.get("options", {}).get("eh_frame_hdr")]
+    loaded = [i for i, h in enumerate(source.headers) if h[1] in (PROGBITS, INIT_ARRAY) and h[2] & ALLOC and h[5] and i not in frames]
     code = [i for i in loaded if source.headers[i][2] & CODE]
     thread = [i for i in loaded if source.headers[i][2] & TLS]
     first = [i for i in loaded if source.headers[i][1] == INIT_ARRAY]
     data = [i for i in loaded if source.headers[i][2] & WRITE and i not in thread + first]
     strings = [i for i in loaded if i not in code + thread + first + data]
-    order = strings + code + thread + first + data
+    order = strings + code + thread + first + data + frames
 
     # ---- symbols: those of the object, and behind them those of each library
     own = list(source.symbols())[1:]
@@ -242,6 +267,17 @@ def plan(source, output, started_with, sizes, machine):
     t.part("relr_dyn", 8 * sizes["words"])
     t.end()
     inputs = t.inputs(source, strings, ".rodata", PROGBITS, ALLOC)
+    if frames:
+        t.section(".eh_frame_hdr", PROGBITS, ALLOC, 4)
+        table_at = t.part("eh_frame_hdr", 12 + 8 * fdes(source, frames), 4)
+        table_end = t.at
+        t.end()
+        t.section(".eh_frame", PROGBITS, ALLOC, 8)
+        kept = len(t.parts)
+        t.part("eh_frame", sum(source.headers[i][5] for i in frames) + 4, 8)
+        t.end()
+        for i, section in placed(source, frames, kept, 0)[0].items():
+            inputs[i] = {**section, "slot": "frame", "address": 0}
     read_end = t.at
     t.at, t.pages = up(t.at, 16), 1
     code_at = t.at
@@ -350,6 +386,7 @@ def plan(source, output, started_with, sizes, machine):
         segment(LOAD, 6, data_at, data_end, 2 * PAGE + data_at, PAGE, zeros_at + zeros - 2 * PAGE - data_end if zeros else 0),
         segment(DYNAMIC_SEGMENT, 6, dynamic_offset, dynamic_end, dynamic_at, 8),
         segment(TLS_SEGMENT, 4, data_at, thread_end, 2 * PAGE + data_at, 8),
+        *([segment(UNWIND_SEGMENT, 4, table_at, table_end, table_at, 4)] if frames else []),
         {"kind": STACK, "flags": 6},
     ]
     # strings and symbols, entries, words, flags and the end; libraries and the own name; functions at the start; resolvers
@@ -398,7 +435,9 @@ def plan(source, output, started_with, sizes, machine):
 
 def made(name, *given, machine=MACHINES["x86_64"]):
     output = outputs(machine)[name]
-    source = compiled(source_of(f"{name}.c", given), machine.flags.replace("-fPIE", output["compiled"]), machine.compiler)
+    file = output.get("source", f"{name}.c")
+    compiler = machine.compiler.replace("gcc", "g++") if file.endswith(".cpp") else machine.compiler
+    source = compiled(source_of(file, given), machine.flags.replace("-fPIE", output["compiled"]), compiler)
     sizes = {"segments": 0, "rela_dyn_general": 0, "rela_plt": 0, "words": 0, "dynamic": 0}
     while True:
         it, needs = plan(source, output, STARTED_WITH.get(name, []), sizes, machine)

@@ -13,6 +13,7 @@ use Rattle.wild_types.specs.Lists.{through}
 use Rattle.wild_types.specs.Lookups.{is_filled}
 use Rattle.wild_clauses.specs.Contents.{addresses, ends_of, placed_in, file_placed_in, part_placed, parts_placed}
 use Rattle.wild_types.specs.FilePlaces.{given}
+use Rattle.wild_clauses.specs.Thunks.{standing}
 use Rattle.wild_clauses.specs.Misplaced.{both, all_placed, file_all_placed}
 
 both_none : (o : Option ℕ) → both o None ≡ None
@@ -107,7 +108,7 @@ sections_split l part end cursor ends cursors (s ∷ ss) =
 files_split : (l : Layout) (part end cursor : ℕ) (ends cursors : List ℕ) (fs : List File) → through (file_all_placed l part (end ∷ ends)) (cursor ∷ cursors) fs ≡ both (through (file_placed_in l part end) cursor fs) (through (file_all_placed l (part + 1) ends) cursors fs)
 files_split l part end cursor ends cursors [] = refl
 files_split l part end cursor ends cursors (f ∷ fs) =
-    rw (sections_split l part end cursor ends cursors f.sections)
+    rw (sections_split l part end cursor ends cursors (standing l f))
     (split (file_placed_in l part end cursor f) (file_all_placed l (part + 1) ends cursors f) (λ c cs. files_split l part end c ends cs fs))
   where
     split : (a : Option ℕ) (b : Option (List ℕ)) → ((c : ℕ) (cs : List ℕ) → through (file_all_placed l part (end ∷ ends)) (c ∷ cs) fs ≡ both (through (file_placed_in l part end) c fs) (through (file_all_placed l (part + 1) ends) cs fs)) → option_and_then (λ t. through (file_all_placed l part (end ∷ ends)) t fs) (both a b) ≡ both (option_and_then (λ t. through (file_placed_in l part end) t fs) a) (option_and_then (λ t. through (file_all_placed l (part + 1) ends) t fs) b)
@@ -126,7 +127,7 @@ sections_none l part (s ∷ ss) = sections_none l part ss
 
 files_none : (l : Layout) (part : ℕ) (fs : List File) → through (file_all_placed l part []) [] fs ≡ Some []
 files_none l part [] = refl
-files_none l part (f ∷ fs) = rw (sections_none l part f.sections) (files_none l part fs)
+files_none l part (f ∷ fs) = rw (sections_none l part (standing l f)) (files_none l part fs)
 
 pub group_placed : (l : Layout) (part : ℕ) (starts : List ℕ) (g : Group) → is_some (through (file_all_placed l part (ends_of g part starts)) starts g.files) ≡ parts_placed l g part starts
 group_placed l part [] g = rw (files_none l part g.files)

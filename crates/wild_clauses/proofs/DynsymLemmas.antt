@@ -14,7 +14,7 @@ use Rattle.wild_types.specs.declared.layout.Layout.{Layout}
 use Rattle.std.specs.List.{list_all}
 use Rattle.wild_types.specs.FileSymbols.{range_of, copied_again}
 use Rattle.wild_types.specs.Lists.{first_failing, unless, through}
-use Rattle.wild_clauses.specs.Indexes.{part_index_fits, primary_is_there, symbol_misfit, symbol_is_there, block_is_there, thunks_are_there, section_indexes_fit, file_indexes_fit, group_indexes_fit, listed_misfit, entry_is_there, definition_is_own, range_follows, or_place, range_out_of_order}
+use Rattle.wild_clauses.specs.Indexes.{part_index_fits, primary_is_there, symbol_misfit, symbol_is_there, block_is_there, thunks_are_there, section_indexes_fit, file_indexes_fit, group_indexes_fit, listed_misfit, sorted_is_there, merged_is_there, identity_is_there, entry_is_there, definition_is_own, range_follows, or_place, range_out_of_order}
 use Rattle.wild_clauses.specs.VersionTables.{parent_is_there}
 use Rattle.wild_clauses.specs.ClauseTests.{fails, first_error, check_indexes}
 use Rattle.wild_types.specs.Lookups.{section_of, section_of_part, files_of, file_of}
@@ -428,7 +428,13 @@ ranges_ascend l h =
     let parents = fails 9 (first_failing (parent_is_there l) 0 l.verdefs) in
     let listed = fails 9 (listed_misfit l) in
     let thunks = fails 9 (first_failing (thunks_are_there l) 0 l.thunk_blocks) in
-    let begins = first_error entry (first_error copied behind) in
+    let starts = first_error entry (first_error copied behind) in
+    let identity = fails 9 (unless (identity_is_there l)) in
+    let merged = fails 9 (first_failing (merged_is_there l) 0 l.merged) in
+    let sorted = fails 9 (first_failing (sorted_is_there l) 0 l.sorted) in
+    let strings = first_error identity starts in
+    let others = first_error merged strings in
+    let begins = first_error sorted others in
     let beside = first_error thunks begins in
     let later = first_error listed (first_error parents beside) in
     let groups = fails 9 (first_failing (group_indexes_fit l) 0 l.groups) in
@@ -438,7 +444,7 @@ ranges_ascend l h =
     let a = rest_holds primary (first_error symbols (first_error groups later)) p in
     let b = rest_holds symbols (first_error groups later) a in
     let e = rest_holds parents beside (rest_holds listed (first_error parents beside) (rest_holds groups later b)) in
-    let c = rest_holds copied behind (rest_holds entry (first_error copied behind) (rest_holds thunks begins e)) in
+    let c = rest_holds copied behind (rest_holds entry (first_error copied behind) (rest_holds identity starts (rest_holds merged strings (rest_holds sorted others (rest_holds thunks begins e))))) in
     let d = rest_holds own order c in
     let fit = each_weaker (λ (g : Group). group_indexes_fit l g ≡ true) (λ (g : Group). Each (Fits (length l.symbols)) g.files) l.groups (λ g k. group_fits l g k) (each_passes (group_indexes_fit l) 0 l.groups (None-from_fails 9 (first_failing (group_indexes_fit l) 0 l.groups) (first_holds groups later b))) in
     groups_ascend (length l.symbols) 0 0 l.groups fit (None-from_fails 9 (range_out_of_order 0 0 l.groups) d)

@@ -5,6 +5,7 @@ pub mod CoverLemmas
 pub mod DynsymLemmas
 pub mod FieldLemmas
 pub mod MisplacedLemmas
+pub mod OrderedLemmas
 pub mod PassedLemmas
 pub mod SlotPlaceLemmas
 pub mod StartLemmas

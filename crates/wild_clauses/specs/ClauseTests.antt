@@ -21,16 +21,17 @@ use Rattle.wild_clauses.specs.Counts.{counts_fit, role_given}
 use Rattle.wild_clauses.specs.Segments.{segment_out_of_order, bytes_are_loaded, leaves_zero_free, segment_in_image, dynamic_astray}
 use Rattle.wild_types.specs.Parts.{part_with, entry_parts}
 use Rattle.wild_clauses.specs.LoadedTables.{entries_astray, stands_in_entries, entries_follow, table_is_loaded}
-use Rattle.wild_clauses.specs.Indexes.{part_index_fits, primary_is_there, thunks_are_there, symbol_misfit, group_indexes_fit, definition_is_own, range_out_of_order, listed_misfit, entry_is_there}
+use Rattle.wild_clauses.specs.Indexes.{part_index_fits, primary_is_there, thunks_are_there, symbol_misfit, group_indexes_fit, definition_is_own, range_out_of_order, listed_misfit, sorted_is_there, merged_is_there, identity_is_there, entry_is_there}
 use Rattle.wild_types.specs.FileSymbols.{copied_again}
 use Rattle.wild_clauses.specs.SlotPlaces.{slots_astray, slot_is_even, block_is_asked, block_has_base, pair_follows}
 use Rattle.wild_needs.specs.DynamicSymbols.{dynamic_symbols, misplaced, misfit, first_listed}
 use Rattle.wild_clauses.specs.SlotFlags.{first_asked_failing, dynamic_is_interposable, stub_is_value, stub_has_slot, one_slot_for_address, thread_slot_alone, resolver_is_own, slot_agrees, resolver_moves, second_slot_fits}
-use Rattle.wild_clauses.specs.Contents.{addresses, each_section, share_mismatch, has_share_for_each_part, section_misplaced, length_fits, discarded_is_empty, part_is_raw, primary_fits, allocation_agrees, bytes_take_room, fields_lie, tls_fits}
+use Rattle.wild_clauses.specs.Contents.{addresses, each_section, share_mismatch, has_share_for_each_part, section_misplaced, sorted_named_once, names_sorted, length_fits, frames_part_fits, discarded_is_empty, part_is_raw, merged_is_raw, identity_is_raw, primary_fits, front_is_free, allocation_agrees, bytes_take_room, fields_lie, relocations_are_read, tls_fits}
+use Rattle.wild_clauses.specs.Fronts.{reversed_fits, merged_fill, identity_fills, front_shared, identity_is_alone, properties_differ}
 use Rattle.wild_types.specs.FilePlaces.{file_misplaced}
 use Rattle.wild_clauses.specs.Thunks.{ascends, thunks_misplaced, block_lost, machine_takes}
 use Rattle.wild_clauses.specs.GroupStarts.{start_places, no_starts, start_astray}
-use Rattle.wild_clauses.specs.ZeroFree.{name_fits, option_names_fit, section_name_fits, symbol_name_fits, group_names_fit, listed_name_fits, definition_name_fits}
+use Rattle.wild_clauses.specs.ZeroFree.{name_fits, option_names_fit, section_name_fits, symbol_name_fits, group_names_fit, listed_name_fits, definition_name_fits, interp_fits}
 
 -- clause n fails at that place, where there is one
 abbrev pub fails : ℕ → Option ℕ → Result (Unit {0}) Clause
@@ -106,16 +107,25 @@ check_shares l =
     (first_error (fails 7 (first_failing (has_share_for_each_part (length l.parts)) 0 l.groups))
     (fails 7 (file_misplaced true 0 l.groups)))
 
+-- clause 8: merged strings and the linker's name of itself lie in raw parts
+abbrev pub once_fits : Layout → Result (Unit {0}) Clause
+once_fits l = first_error (fails 8 (first_failing (merged_is_raw l) 0 l.merged)) (fails 8 (unless (identity_is_raw l)))
+
 -- clause 8: input sections in their parts
 unfoldable pub check_inputs : Layout → Result (Unit {0}) Clause
 check_inputs l =
     first_error (fails 8 (section_misplaced l (addresses l.parts) 0 l.groups))
+    (first_error (fails 8 (sorted_named_once l 0 l.groups))
+    (first_error (fails 8 (first_failing (names_sorted l) 0 l.sorted))
     (first_error (fails 8 (first_failing (each_section length_fits) 0 l.groups))
+    (first_error (fails 8 (first_failing (each_section (frames_part_fits l)) 0 l.groups))
     (first_error (fails 8 (first_failing (each_section discarded_is_empty) 0 l.groups))
     (first_error (fails 8 (first_failing (each_section (part_is_raw l)) 0 l.groups))
+    (first_error (once_fits l)
     (first_error (fails 8 (unless (primary_fits l)))
+    (first_error (fails 8 (unless (front_is_free l)))
     (first_error (fails 8 (first_failing (each_section (allocation_agrees l)) 0 l.groups))
-    (fails 8 (first_failing (each_section (bytes_take_room l)) 0 l.groups)))))))
+    (fails 8 (first_failing (each_section (bytes_take_room l)) 0 l.groups))))))))))))
 
 -- clause 9: indexes
 unfoldable pub check_indexes : Layout → Result (Unit {0}) Clause
@@ -127,14 +137,19 @@ check_indexes l =
     (first_error (fails 9 (listed_misfit l))
     (first_error (fails 9 (first_failing (parent_is_there l) 0 l.verdefs))
     (first_error (fails 9 (first_failing (thunks_are_there l) 0 l.thunk_blocks))
+    (first_error (fails 9 (first_failing (sorted_is_there l) 0 l.sorted))
+    (first_error (fails 9 (first_failing (merged_is_there l) 0 l.merged))
+    (first_error (fails 9 (unless (identity_is_there l)))
     (first_error (fails 9 (unless (entry_is_there l l.entry)))
     (first_error (fails 9 (copied_again l [] 0 l.groups))
     (first_error (fails 9 (first_failing (definition_is_own l) 0 l.symbols))
-    (fails 9 (range_out_of_order 0 0 l.groups)))))))))))
+    (fails 9 (range_out_of_order 0 0 l.groups))))))))))))))
 
 -- clause 10: fields
 unfoldable pub check_fields : Layout → Result (Unit {0}) Clause
-check_fields l = fails 10 (first_failing (each_section (fields_lie l.machine)) 0 l.groups)
+check_fields l =
+    first_error (fails 10 (first_failing (each_section (fields_lie l.machine)) 0 l.groups))
+    (fails 10 (first_failing (each_section relocations_are_read) 0 l.groups))
 
 -- clause 11: where slots and stubs stand
 unfoldable pub check_slots : Layout → Result (Unit {0}) Clause
@@ -176,7 +191,7 @@ check_slot_flags l =
 unfoldable pub check_tls : Layout → Result (Unit {0}) Clause
 check_tls l = fails 15 (unless (tls_fits l))
 
--- clause 16: where a group's strings and symbols begin
+-- clause 16: where a group's strings, frames and symbols begin
 unfoldable pub check_starts : Layout → Result (Unit {0}) Clause
 check_starts l = fails 16 (start_astray (start_places l.parts) no_starts 0 l.groups)
 
@@ -203,4 +218,18 @@ check_names l =
     (first_error (fails 19 (first_failing symbol_name_fits 0 l.symbols))
     (first_error (fails 19 (first_failing group_names_fit 0 l.groups))
     (first_error (fails 19 (first_failing listed_name_fits 0 l.dynsyms))
-    (fails 19 (first_failing definition_name_fits 0 l.verdefs)))))))
+    (first_error (fails 19 (first_failing definition_name_fits 0 l.verdefs))
+    (fails 19 (unless (interp_fits l.interp)))))))))
+
+-- clause 20: reversed sections
+unfoldable pub check_reversed : Layout → Result (Unit {0}) Clause
+check_reversed l = fails 20 (first_failing (each_section (reversed_fits l.machine)) 0 l.groups)
+
+-- clause 22: merged strings, the linker's name of itself, properties
+unfoldable pub check_fronts : Layout → Result (Unit {0}) Clause
+check_fronts l =
+    first_error (fails 22 (merged_fill l))
+    (first_error (fails 22 (unless (identity_fills l)))
+    (first_error (fails 22 (properties_differ [] 0 l.properties))
+    (first_error (fails 22 (front_shared 0 l.merged))
+    (fails 22 (unless (identity_is_alone l))))))

@@ -2,24 +2,35 @@
 -- a group is the group's.
 --   each_section test g      every input section of the group passes the test
 --   section_misplaced l ..   the first group with an input section out of its part's range
+--   standing l f             the input sections that stand in a file's ranges: its own, and the last file's the sorted ones besides
+--   sorted_unnamed l ..      the first group with a sorted section that is not named once in the order
+--   front_is_free l          nothing else stands where the merged strings and the linker's name of itself do
 --   fields_lie m s           the fields of the section's relocations lie in it
 --   tls_fits ..              thread-local data end where the layout says
 use Rattle.std.specs.Prelude.{ℕ, ◌+◌, ◌==◌, Bool, true, false, not, ◌&&◌, ◌||◌, if◌then◌else◌, nat_le, List, [], ◌∷◌, length, map, Option, Some, None, is_some, slice_get}
-use Rattle.std.specs.List.{list_all}
+use Rattle.std.specs.List.{list_all, list_any}
 use Rattle.wild_types.specs.declared.kind.Machine.{Machine}
 use Rattle.wild_types.specs.declared.kind.Machine.TheVariants as machines
 use Rattle.wild_types.specs.declared.part.Part.{Part}
 use Rattle.wild_types.specs.declared.part.Role.{Role}
 use Rattle.wild_types.specs.declared.part.Role.TheVariants as role
+use Rattle.wild_types.specs.declared.input.Slot.{Slot}
+use Rattle.wild_types.specs.declared.input.Slot.TheVariants as slot
 use Rattle.wild_types.specs.declared.input.InputRelocation.{InputRelocation}
 use Rattle.wild_types.specs.declared.input.InputSection.{InputSection}
 use Rattle.wild_types.specs.declared.file.File.{File}
 use Rattle.wild_types.specs.declared.file.Group.{Group}
+use Rattle.wild_types.specs.declared.layout.SortedSection.{SortedSection}
+use Rattle.wild_types.specs.declared.layout.Merged.{Merged}
 use Rattle.wild_types.specs.declared.layout.Layout.{Layout}
 use Rattle.wild_types.specs.Lists.{total, through}
-use Rattle.wild_types.specs.Lookups.{allocated, section_of, is_allocated_section, is_allocated_part, takes_file_bytes, is_loaded, is_discarded, is_filled}
+use Rattle.wild_types.specs.Lookups.{allocated, section_of, is_allocated_section, is_allocated_part, takes_file_bytes, is_frame, is_discarded, is_filled, owns_bytes}
+use Rattle.wild_types.specs.FileThunks.{thunks_of}
+use Rattle.wild_types.specs.Parts.{has_role}
+use Rattle.wild_laid.specs.Laid.{sorted_input}
 use Rattle.wild_clauses.specs.Places.{multiple_of}
-use Rattle.wild_clauses.specs.Thunks.{has_thunks}
+use Rattle.wild_clauses.specs.Fronts.{merged_size}
+use Rattle.wild_clauses.specs.Thunks.{has_thunks, standing}
 use Rattle.wild_types.specs.Rows.{field_bytes}
 use Rattle.wild_types.specs.FilePlaces.{given, bool_eq}
 
@@ -60,9 +71,9 @@ placed_in l part end cursor s =
     then (if nat_le cursor s.address && nat_le (s.address + s.size) end then Some (s.address + s.size) else None)
     else Some cursor
 
--- the same for all input sections of a file
+-- the same for all that stand in a file's ranges
 abbrev pub file_placed_in : Layout → ℕ → ℕ → ℕ → File → Option ℕ
-file_placed_in l part end cursor f = through (placed_in l part end) cursor f.sections
+file_placed_in l part end cursor f = through (placed_in l part end) cursor (standing l f)
 
 -- the group's input sections of a part stand in its range from start to end, in order and without overlap
 abbrev pub part_placed : Layout → ℕ → ℕ → ℕ → Group → Bool
@@ -78,9 +89,59 @@ abbrev pub section_misplaced : Layout → List ℕ → ℕ → List Group → Op
 section_misplaced l starts i [] = None
 section_misplaced l starts i (g ∷ gs) = if parts_placed l g 0 starts then section_misplaced l (ends_of g 0 starts) (i + 1) gs else Some i
 
+-- the section is in a given order
+abbrev pub is_sorted : Slot → Bool
+is_sorted slot.Sorted = true
+is_sorted other = false
+
+-- the entry names that section
+abbrev pub names_section : ℕ → ℕ → ℕ → SortedSection → Bool
+names_section group file section x = x.group == group && (x.file == file && x.section == section)
+
+-- so many entries of the order name that section
+abbrev pub times_named : List SortedSection → ℕ → ℕ → ℕ → ℕ
+times_named [] group file section = 0
+times_named (x ∷ xs) group file section = if names_section group file section x then times_named xs group file section + 1 else times_named xs group file section
+
+-- a sorted section is named once
+abbrev pub is_named_once : Layout → ℕ → ℕ → ℕ → InputSection → Bool
+is_named_once l group file section s = not (is_sorted s.slot) || times_named l.sorted group file section == 1
+
+-- the sections of a file from number k on are, and so those of a group's files
+abbrev pub sections_named_once : Layout → ℕ → ℕ → ℕ → List InputSection → Bool
+sections_named_once l group file k [] = true
+sections_named_once l group file k (s ∷ ss) = is_named_once l group file k s && sections_named_once l group file (k + 1) ss
+
+abbrev pub files_named_once : Layout → ℕ → ℕ → List File → Bool
+files_named_once l group k [] = true
+files_named_once l group k (f ∷ fs) = sections_named_once l group k 0 f.sections && files_named_once l group (k + 1) fs
+
+-- the first group, from number i on, with a sorted section that is not named once
+abbrev pub sorted_named_once : Layout → ℕ → List Group → Option ℕ
+sorted_named_once l i [] = None
+sorted_named_once l i (g ∷ gs) = if files_named_once l i 0 g.files then sorted_named_once l (i + 1) gs else Some i
+
+-- what the entry of the order names is a sorted section
+abbrev pub names_sorted : Layout → SortedSection → Bool
+names_sorted l x = not (length (sorted_input l x) == 0)
+
+-- the bytes of merged strings stand elsewhere, and those of a table of relocations are made: such a section may have none
+abbrev pub may_lack_bytes : Slot → Bool
+may_lack_bytes slot.Merge = true
+may_lack_bytes slot.Rela = true
+may_lack_bytes other = false
+
 -- bytes have the length size; an input section without data has none
 abbrev pub length_fits : InputSection → Bool
-length_fits s = is_discarded s.slot || (if s.nobits then length s.bytes == 0 else length s.bytes == s.size)
+length_fits s = is_discarded s.slot || (if s.nobits then length s.bytes == 0 else length s.bytes == s.size || (may_lack_bytes s.slot && length s.bytes == 0))
+
+abbrev pub is_frames_part : Option Part → Bool
+is_frames_part None = false
+is_frames_part (Some p) = has_role role.EhFrame p
+
+-- frames lie in the part of frames
+abbrev pub frames_part_fits : Layout → InputSection → Bool
+frames_part_fits l s = not (is_frame s.slot) || is_frames_part (slice_get l.parts s.part)
 
 abbrev pub discarded_is_empty : InputSection → Bool
 discarded_is_empty s = not (is_discarded s.slot) || (s.address == 0 && length s.bytes == 0)
@@ -93,8 +154,21 @@ is_raw (Some p) = raw p.role
     raw role.Raw = true
     raw other = false
 
+-- other input sections lie in raw parts
 abbrev pub part_is_raw : Layout → InputSection → Bool
-part_is_raw l s = is_discarded s.slot || is_raw (slice_get l.parts s.part)
+part_is_raw l s = is_discarded s.slot || (is_frame s.slot || is_raw (slice_get l.parts s.part))
+
+-- bytes, but where there are none, can stand in the part: a raw one in a section with data
+abbrev pub holds_bytes : Layout → Bool → Option Part → Bool
+holds_bytes l none None = false
+holds_bytes l none (Some p) = is_raw (Some p) && (none || takes_file_bytes l p.section)
+
+-- so do merged strings, and the linker's name of itself where it has bytes
+abbrev pub merged_is_raw : Layout → Merged → Bool
+merged_is_raw l m = holds_bytes l (0 == merged_size m) (slice_get l.parts m.part)
+
+abbrev pub identity_is_raw : Layout → Bool
+identity_is_raw l = length l.identity.bytes == 0 || holds_bytes l false (slice_get l.parts l.identity.part)
 
 -- code of the linker's own can stand in the part: a raw one in an allocated section with data
 abbrev pub holds_thunks : Layout → Option Part → Bool
@@ -105,9 +179,40 @@ holds_thunks l (Some p) = is_raw (Some p) && (takes_file_bytes l p.section && is
 abbrev pub primary_fits : Layout → Bool
 primary_fits l = not (has_thunks l) || holds_thunks l (slice_get l.parts l.primary_part)
 
--- a loaded input section is allocated exactly where its part's section is
+-- merged strings stand at the front of the part, or the linker's name of itself does
+abbrev pub has_front : Layout → ℕ → Bool
+has_front l part = list_any (λ (m : Merged). m.part == part) l.merged || (not (length l.identity.bytes == 0) && l.identity.part == part)
+
+-- the section has bytes, or in a section with data zeros
+abbrev pub takes_bytes : Layout → InputSection → Bool
+takes_bytes l s = not (length s.bytes == 0) || owns_bytes l s
+
+-- no bytes of the section stand in such a part
+abbrev pub leaves_front : Layout → InputSection → Bool
+leaves_front l s = not (takes_bytes l s) || not (has_front l s.part)
+
+-- nor do those of any that stands in the file's ranges, nor its thunks
+abbrev pub file_leaves_front : Layout → File → Bool
+file_leaves_front l f = list_all (leaves_front l) (standing l f) && (length (thunks_of l f) == 0 || not (has_front l l.primary_part))
+
+abbrev pub group_leaves_front : Layout → Option Group → Bool
+group_leaves_front l None = true
+group_leaves_front l (Some g) = list_all (file_leaves_front l) g.files
+
+-- nothing else of the first group stands where merged strings and the linker's name of itself do
+abbrev pub front_is_free : Layout → Bool
+front_is_free l = group_leaves_front l (slice_get l.groups 0)
+
+-- the section has room in memory where its part's section has, or has none where that has none
+abbrev pub has_room : Slot → Bool
+has_room slot.Loaded = true
+has_room slot.Sorted = true
+has_room slot.Frame = true
+has_room other = false
+
+-- an input section that is written is allocated exactly where its part's section is
 abbrev pub allocation_agrees : Layout → InputSection → Bool
-allocation_agrees l s = not (is_loaded s.slot) || bool_eq (allocated s.flags) (is_allocated_part l s.part)
+allocation_agrees l s = not (has_room s.slot) || bool_eq (allocated s.flags) (is_allocated_part l s.part)
 
 -- bytes stand in no section without data
 abbrev pub bytes_take_room : Layout → InputSection → Bool
@@ -120,6 +225,13 @@ field_lies m s r = field_bytes m r.number == 0 || nat_le (r.offset + field_bytes
 
 abbrev pub fields_lie : Machine → InputSection → Bool
 fields_lie m s = list_all (field_lies m s) s.relocations
+
+-- the reader of the input failed at no relocation; frames tell that themselves
+abbrev pub is_read_well : InputRelocation → Bool
+is_read_well r = not r.malformed
+
+abbrev pub relocations_are_read : InputSection → Bool
+relocations_are_read s = is_frame s.slot || list_all is_read_well s.relocations
 
 -- ---- clause 15: thread-local data (ELF TLS)
 

@@ -3,8 +3,9 @@
 --   symbol_misfit l fs i ss    the first symbol whose definition, or whose place, is not there
 --   thunks_are_there l b       the symbols of a block of thunks are there
 --   listed_misfit l            the first listed symbol that is not there
+--   sorted_is_there l x        the section that an entry of the order names is there
 --   range_out_of_order n i gs  the first group with a range of symbols that begins before the end of the one before
-use Rattle.std.specs.Prelude.{ℕ, ◌+◌, ◌==◌, Bool, true, ◌&&◌, ◌||◌, if◌then◌else◌, nat_lt, nat_le, max, List, [], ◌∷◌, length, Option, Some, None, slice_get}
+use Rattle.std.specs.Prelude.{ℕ, ◌+◌, ◌==◌, Bool, true, false, ◌&&◌, ◌||◌, if◌then◌else◌, nat_lt, nat_le, max, List, [], ◌∷◌, length, Option, Some, None, slice_get}
 use Rattle.std.specs.List.{list_all}
 use Rattle.wild_types.specs.declared.part.Part.{Part}
 use Rattle.wild_types.specs.declared.symbol.Place.{Place}
@@ -19,6 +20,8 @@ use Rattle.wild_types.specs.declared.layout.Entry.TheVariants as entry
 use Rattle.wild_types.specs.declared.layout.Layout.{Layout}
 use Rattle.wild_types.specs.declared.layout.DynamicSymbol.{DynamicSymbol}
 use Rattle.wild_types.specs.declared.layout.Thunk.{Thunk}
+use Rattle.wild_types.specs.declared.layout.SortedSection.{SortedSection}
+use Rattle.wild_types.specs.declared.layout.Merged.{Merged}
 use Rattle.wild_types.specs.Lists.{first_failing, through}
 use Rattle.wild_types.specs.Lookups.{file_of}
 
@@ -89,6 +92,26 @@ listed_is_there l d = symbol_is_there l d.symbol
 
 abbrev pub listed_misfit : Layout → Option ℕ
 listed_misfit l = first_failing (listed_is_there l) 0 l.dynsyms
+
+-- ---- sorted sections, merged strings and the linker's name of itself
+
+abbrev pub section_is_there : ℕ → Option File → Bool
+section_is_there k None = false
+section_is_there k (Some f) = nat_lt k (length f.sections)
+
+abbrev pub file_is_there : ℕ → ℕ → Option Group → Bool
+file_is_there file k None = false
+file_is_there file k (Some g) = section_is_there k (slice_get g.files file)
+
+-- the section that an entry of the order names is there
+abbrev pub sorted_is_there : Layout → SortedSection → Bool
+sorted_is_there l x = file_is_there x.file x.section (slice_get l.groups x.group)
+
+abbrev pub merged_is_there : Layout → Merged → Bool
+merged_is_there l m = nat_lt m.part (length l.parts)
+
+abbrev pub identity_is_there : Layout → Bool
+identity_is_there l = nat_lt l.identity.part (length l.parts)
 
 -- ---- where the program begins
 

@@ -4,10 +4,12 @@ pub mod Contents
 pub mod Copies
 pub mod Counts
 pub mod Covers
+pub mod Fronts
 pub mod GroupStarts
 pub mod Indexes
 pub mod LoadedTables
 pub mod Misplaced
+pub mod Ordered
 pub mod Passed
 pub mod Places
 pub mod Positions

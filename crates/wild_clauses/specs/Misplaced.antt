@@ -11,6 +11,7 @@ use Rattle.wild_types.specs.declared.file.Group.{Group}
 use Rattle.wild_types.specs.declared.layout.Layout.{Layout}
 use Rattle.wild_types.specs.FilePlaces.{given}
 use Rattle.wild_clauses.specs.Contents.{ends_of, part_placed, parts_placed, placed_in}
+use Rattle.wild_clauses.specs.Thunks.{standing}
 use Rattle.wild_types.specs.Lists.{through}
 
 -- the smaller of two places, where both are there
@@ -42,4 +43,4 @@ all_placed l part ends cursors s = Some []
 
 -- the same behind a file
 abbrev pub file_all_placed : Layout → ℕ → List ℕ → List ℕ → File → Option (List ℕ)
-file_all_placed l part ends cursors f = through (all_placed l part ends) cursors f.sections
+file_all_placed l part ends cursors f = through (all_placed l part ends) cursors (standing l f)

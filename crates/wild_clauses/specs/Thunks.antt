@@ -2,10 +2,11 @@
 -- primary part, behind the sections of the file that owns its block.
 --   has_thunks l         there are any
 --   ascends b            the thunks of a block ascend by their symbols
+--   standing l f         the input sections that stand in a file's ranges: its own, and the last file's the sorted ones besides
 --   thunks_misplaced l   the first block whose thunks are not the next free places, or group with an input section over them
 --   block_lost l i bs    the first block with thunks that no file owns
 --   machine_takes m b    the machine has thunks, or the block has none
-use Rattle.std.specs.Prelude.{ℕ, ◌+◌, ◌*◌, ◌/◌, ◌==◌, Bool, true, false, not, ◌&&◌, ◌||◌, if◌then◌else◌, nat_le, List, [], ◌∷◌, length, Option, Some, None, Result, Ok, Err, slice_get}
+use Rattle.std.specs.Prelude.{ℕ, ◌+◌, ◌*◌, ◌/◌, ◌==◌, Bool, true, false, not, ◌&&◌, ◌||◌, if◌then◌else◌, nat_le, List, [], ◌∷◌, ◌++◌, length, map, Option, Some, None, Result, Ok, Err, slice_get}
 use Rattle.std.specs.List.{list_any}
 use Rattle.wild_types.specs.declared.kind.Machine.{Machine}
 use Rattle.wild_types.specs.declared.kind.Machine.TheVariants as machine
@@ -18,6 +19,7 @@ use Rattle.wild_types.specs.declared.layout.Layout.{Layout}
 use Rattle.wild_types.specs.FilePlaces.{given}
 use Rattle.wild_types.specs.FileThunks.{thunk_size, thunks_of}
 use Rattle.wild_types.specs.Lookups.{is_filled}
+use Rattle.wild_laid.specs.Laid.{Input, sorted_inputs, of_last_file}
 use Rattle.wild_clauses.specs.SlotPlaces.{and_then, walk}
 
 -- the block has thunks
@@ -64,9 +66,13 @@ section_step l group at s =
     then (if nat_le at s.address then Ok (s.address + s.size) else Err group)
     else Ok at
 
+-- the input sections that stand in a file's ranges: its own, and with the last file's the sorted ones, which are written as loaded ones
+abbrev pub standing : Layout → File → List InputSection
+standing l f = f.sections ++ of_last_file f (map (λ (x : Input). x.section) (sorted_inputs l))
+
 -- the place behind a file: its sections, and then the thunks of its block, where it owns that
 abbrev pub file_step : Layout → ℕ → ℕ → ℕ → File → Result ℕ ℕ
-file_step l group end at f = and_then (walk (section_step l group) at f.sections) (λ n. block_step f.thunk_block end n (thunks_of l f))
+file_step l group end at f = and_then (walk (section_step l group) at (standing l f)) (λ n. block_step f.thunk_block end n (thunks_of l f))
 
 abbrev pub or_next : Result ℕ ℕ → Option ℕ → Option ℕ
 or_next (Err i) next = Some i

@@ -1,7 +1,8 @@
 -- Clause 19: names have no zero byte, which would end them (gABI, "String Table").
 --   name_fits name           the name has none
 --   option_names_fit ..      nor have the names that options give; and so of each other kind of name
-use Rattle.std.specs.Prelude.{ℕ, ◌==◌, Bool, true, not, ◌&&◌, List, Option, Some, None}
+--   interp_fits path         the path of the interpreter ends with its only zero byte
+use Rattle.std.specs.Prelude.{ℕ, ◌==◌, Bool, true, false, not, ◌&&◌, ◌||◌, if◌then◌else◌, List, [], ◌∷◌, length, Option, Some, None}
 use Rattle.std.specs.List.{list_all}
 use Rattle.wild_types.specs.declared.options.Options.{Options}
 use Rattle.wild_types.specs.declared.section.Section.{Section}
@@ -57,3 +58,14 @@ listed_name_fits d = name_fits d.name
 
 abbrev pub definition_name_fits : VersionDefinition → Bool
 definition_name_fits d = name_fits d.name
+
+-- ---- the path of the interpreter
+
+-- the first zero byte is the last byte
+abbrev pub ends_with_zero : List ℕ → Bool
+ends_with_zero [] = false
+ends_with_zero (b ∷ bs) = if b == 0 then length bs == 0 else ends_with_zero bs
+
+-- a path ends with its only zero byte (gABI, "Program Header": PT_INTERP); without bytes there is none
+abbrev pub interp_fits : List ℕ → Bool
+interp_fits path = length path == 0 || ends_with_zero path

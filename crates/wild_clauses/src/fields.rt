@@ -1,6 +1,6 @@
 //! Clause 10: fields.
 ghost use Rattle.std.specs.Prelude.{◌≡◌};
-ghost use Rattle.wild_clauses.specs.Contents.{field_lies, fields_lie};
+ghost use Rattle.wild_clauses.specs.Contents.{field_lies, fields_lie, is_read_well, relocations_are_read};
 ghost use Rattle.wild_clauses.specs.ClauseTests.{check_fields};
 
 use crate::each_section::failing_group;
@@ -51,11 +51,31 @@ impl Test<InputSection> for FieldsLie {
     }
 }
 
+/// The reader of the input failed at no relocation; frames tell that themselves.
+struct IsRead;
+
+impl Test<InputRelocation> for IsRead {
+    ghost test = { λ t. is_read_well };
+
+    fn passes(&self, relocation: &InputRelocation) -> bool {
+        !relocation.malformed
+    }
+}
+
+impl Test<InputSection> for IsRead {
+    ghost test = { λ t. relocations_are_read };
+
+    fn passes(&self, section: &InputSection) -> bool {
+        section.slot.is_frame() || all_pass(self, section.relocations.as_slice())
+    }
+}
+
 #[tactic(auto, unfolding(crate::specs::ClauseTests::check_fields))]
 pub(crate) fn check_fields(layout: &Layout) -> Result<(), Clause>
     ensures { result ≡ check_fields layout.now }
 {
     let machine = layout.machine;
     let groups = layout.groups.as_slice();
-    fails(10, failing_group(&FieldsLie { machine }, groups))
+    fails(10, failing_group(&FieldsLie { machine }, groups))?;
+    fails(10, failing_group(&IsRead, groups))
 }

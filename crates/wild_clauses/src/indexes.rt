@@ -1,6 +1,6 @@
 //! Clause 9: indexes.
-ghost use Rattle.std.specs.Prelude.{◌≡◌};
-ghost use Rattle.wild_clauses.specs.Indexes.{part_index_fits, relocation_index_fits, symbol_is_there, section_indexes_fit, file_indexes_fit, group_indexes_fit, thunk_is_there, thunks_are_there, listed_is_there, entry_is_there, definition_is_own, range_follows, range_out_of_order};
+ghost use Rattle.std.specs.Prelude.{◌≡◌, slice_get};
+ghost use Rattle.wild_clauses.specs.Indexes.{part_index_fits, relocation_index_fits, symbol_is_there, section_indexes_fit, file_indexes_fit, group_indexes_fit, thunk_is_there, thunks_are_there, listed_is_there, section_is_there, file_is_there, sorted_is_there, merged_is_there, entry_is_there, definition_is_own, range_follows, range_out_of_order};
 ghost use Rattle.wild_types.specs.Lists.{through};
 ghost use Rattle.wild_clauses.specs.ClauseTests.{check_indexes};
 
@@ -9,8 +9,8 @@ use crate::copies::copied_again;
 use crate::verdict::{fails, unless};
 use crate::versions::ParentIsThere;
 use wild_types::{
-    Clause, DynamicSymbol, Entry, File, Group, InputRelocation, InputSection, Layout, Part, Symbol,
-    SymbolIndex, Test, Thunk, all_pass, first_failing,
+    Clause, DynamicSymbol, Entry, File, Group, InputRelocation, InputSection, Layout, Merged, Part,
+    SortedSection, Symbol, SymbolIndex, Test, Thunk, all_pass, first_failing,
 };
 use wild_words::Items;
 
@@ -96,6 +96,35 @@ impl Test<DynamicSymbol> for IndexesFit<'_> {
     }
 }
 
+/// Whether there is a file of that number, and in it a section of that number.
+fn has_section(files: &[File], file: usize, section: usize) -> bool
+    ensures { result ≡ section_is_there section (slice_get files.now file) }
+{
+    match files.get(file) {
+        Some(file) => section < file.sections.len(),
+        None => false,
+    }
+}
+
+impl Test<SortedSection> for IndexesFit<'_> {
+    ghost test = { λ t. sorted_is_there t.layout.now };
+
+    fn passes(&self, entry: &SortedSection) -> bool {
+        match self.layout.groups.as_slice().get(entry.group) {
+            Some(group) => has_section(group.files.as_slice(), entry.file, entry.section),
+            None => false,
+        }
+    }
+}
+
+impl Test<Merged> for IndexesFit<'_> {
+    ghost test = { λ t. merged_is_there t.layout.now };
+
+    fn passes(&self, merged: &Merged) -> bool {
+        merged.part < self.layout.parts.len()
+    }
+}
+
 impl Test<Symbol> for IndexesFit<'_> {
     ghost test = { λ t. definition_is_own t.layout.now };
 
@@ -165,6 +194,9 @@ pub(crate) fn check_indexes(layout: &Layout) -> Result<(), Clause>
         first_failing(&ParentIsThere { layout }, layout.verdefs.as_slice()),
     )?;
     fails(9, first_failing(&indexes, layout.thunk_blocks.as_slice()))?;
+    fails(9, first_failing(&indexes, layout.sorted.as_slice()))?;
+    fails(9, first_failing(&indexes, layout.merged.as_slice()))?;
+    fails(9, unless(layout.identity.part < layout.parts.len()))?;
     fails(9, unless(entry_is_there(layout)))?;
     fails(9, copied_again(layout, groups))?;
     fails(9, first_failing(&indexes, layout.symbols.as_slice()))?;

@@ -1,14 +1,27 @@
 //! Clause 8: input sections in their parts.
 ghost use Rattle.std.specs.Prelude.{◌≡◌, slice_get};
-ghost use Rattle.wild_clauses.specs.Contents.{length_fits, discarded_is_empty, is_raw, part_is_raw, holds_thunks, primary_fits, allocation_agrees, bytes_take_room};
-ghost use Rattle.wild_clauses.specs.Passed.{passes_all};
-ghost use Rattle.wild_clauses.specs.ClauseTests.{check_inputs};
+ghost use Rattle.wild_clauses.specs.Contents.{length_fits, may_lack_bytes, is_frames_part, frames_part_fits, discarded_is_empty, is_raw, part_is_raw, holds_bytes, merged_is_raw, identity_is_raw, holds_thunks, primary_fits, has_room, allocation_agrees, bytes_take_room};
+ghost use Rattle.wild_clauses.specs.Passed.{passes_all, parts_fit};
+ghost use Rattle.wild_clauses.specs.ClauseTests.{once_fits, check_inputs};
 
 use crate::each_section::failing_group;
+use crate::front::front_is_free;
+use crate::fronts::has_size;
 use crate::places::section_misplaced;
+use crate::sorted::{NamesSorted, sorted_named_once};
 use crate::thunks::has_thunks;
 use crate::verdict::{fails, unless};
-use wild_types::{Clause, InputSection, Layout, Role, Test, is_allocated};
+use wild_types::{
+    Clause, InputSection, Layout, Merged, Role, Slot, Test, all_pass, first_failing, has_role,
+    is_allocated,
+};
+
+/// Whether a section of that slot may have no bytes: merged strings stand elsewhere, and a table of relocations is made.
+fn may_lack_bytes(slot: Slot) -> bool
+    ensures { result ≡ may_lack_bytes slot }
+{
+    matches!(slot, Slot::Merge | Slot::Rela)
+}
 
 /// Bytes have the length of the section; a section without data has none.
 struct LengthFits;
@@ -22,7 +35,7 @@ impl Test<InputSection> for LengthFits {
             || if section.nobits {
                 length == 0
             } else {
-                length == section.size
+                length == section.size || may_lack_bytes(section.slot) && length == 0
             }
     }
 }
@@ -48,7 +61,43 @@ fn is_raw(layout: &Layout, part: usize) -> bool
     }
 }
 
-/// A section that is not discarded lies in a raw part.
+/// Whether the part of that number is the part of frames.
+fn is_frames_part(layout: &Layout, part: usize) -> bool
+    ensures { result ≡ is_frames_part (slice_get layout.now.parts part) }
+{
+    match layout.parts.as_slice().get(part) {
+        Some(part) => has_role(Role::EhFrame, part),
+        None => false,
+    }
+}
+
+/// Frames lie in the part of frames.
+#[derive(Clone, Copy)]
+struct FramesPartFits<'a> {
+    layout: &'a Layout,
+}
+
+impl Test<InputSection> for FramesPartFits<'_> {
+    ghost test = { λ t. frames_part_fits t.layout.now };
+
+    fn passes(&self, section: &InputSection) -> bool {
+        !section.slot.is_frame() || is_frames_part(self.layout, section.part)
+    }
+}
+
+/// Whether bytes, but where there are none, can stand in the part of that number: a raw one in a section with data.
+fn holds_bytes(layout: &Layout, none: bool, part: usize) -> bool
+    ensures { result ≡ holds_bytes layout.now none (slice_get layout.now.parts part) }
+{
+    match layout.parts.as_slice().get(part) {
+        Some(part) => {
+            matches!(part.role, Role::Raw) && (none || layout.takes_file_bytes(part.section))
+        }
+        None => false,
+    }
+}
+
+/// Every other section that is not discarded lies in a raw part, and so do merged strings, in a section with data where they have bytes.
 #[derive(Clone, Copy)]
 struct PartIsRaw<'a> {
     layout: &'a Layout,
@@ -58,8 +107,31 @@ impl Test<InputSection> for PartIsRaw<'_> {
     ghost test = { λ t. part_is_raw t.layout.now };
 
     fn passes(&self, section: &InputSection) -> bool {
-        section.slot.is_discarded() || is_raw(self.layout, section.part)
+        section.slot.is_discarded() || section.slot.is_frame() || is_raw(self.layout, section.part)
     }
+}
+
+impl Test<Merged> for PartIsRaw<'_> {
+    ghost test = { λ t. merged_is_raw t.layout.now };
+
+    fn passes(&self, merged: &Merged) -> bool {
+        holds_bytes(self.layout, has_size(merged, 0), merged.part)
+    }
+}
+
+/// Whether the linker's name of itself, where it has bytes, lies in a raw part of a section with data.
+fn identity_is_raw(layout: &Layout) -> bool
+    ensures { result ≡ identity_is_raw layout.now }
+{
+    layout.identity.bytes.len() == 0 || holds_bytes(layout, false, layout.identity.part)
+}
+
+fn once_fits(layout: &Layout) -> Result<(), Clause>
+    ensures { result ≡ once_fits layout.now }
+{
+    let merged = layout.merged.as_slice();
+    fails(8, first_failing(&PartIsRaw { layout }, merged))?;
+    fails(8, unless(identity_is_raw(layout)))
 }
 
 /// Whether code of the linker's own can stand in the part of that number: a raw one in an allocated section with data.
@@ -83,7 +155,14 @@ fn primary_fits(layout: &Layout) -> bool
     !has_thunks(layout) || holds_thunks(layout, layout.primary_part)
 }
 
-/// A loaded section is allocated exactly where its part's section is.
+/// Whether a section of that slot is written.
+fn has_room(slot: Slot) -> bool
+    ensures { result ≡ has_room slot }
+{
+    matches!(slot, Slot::Loaded | Slot::Sorted | Slot::Frame)
+}
+
+/// A section that is written is allocated exactly where its part's section is.
 #[derive(Clone, Copy)]
 struct AllocationAgrees<'a> {
     layout: &'a Layout,
@@ -93,7 +172,7 @@ impl Test<InputSection> for AllocationAgrees<'_> {
     ghost test = { λ t. allocation_agrees t.layout.now };
 
     fn passes(&self, section: &InputSection) -> bool {
-        !section.slot.is_loaded()
+        !has_room(section.slot)
             || is_allocated(section.flags) == self.layout.is_allocated_part(section.part)
     }
 }
@@ -125,11 +204,22 @@ impl Test<InputSection> for PassesAll<'_> {
     fn passes(&self, section: &InputSection) -> bool {
         let layout = self.layout;
         LengthFits.passes(section)
+            && FramesPartFits { layout }.passes(section)
             && DiscardedIsEmpty.passes(section)
             && PartIsRaw { layout }.passes(section)
             && AllocationAgrees { layout }.passes(section)
             && BytesTakeRoom { layout }.passes(section)
     }
+}
+
+/// Whether what stands once, and thunks, lie in such parts, and the fronts that they take are free.
+fn parts_fit(layout: &Layout) -> bool
+    ensures { result ≡ parts_fit layout.now }
+{
+    all_pass(&PartIsRaw { layout }, layout.merged.as_slice())
+        && identity_is_raw(layout)
+        && primary_fits(layout)
+        && front_is_free(layout)
 }
 
 /// The tests are asked one by one only where a section fails one of them.
@@ -139,13 +229,21 @@ pub(crate) fn check_inputs(layout: &Layout) -> Result<(), Clause>
 {
     let groups = layout.groups.as_slice();
     fails(8, section_misplaced(layout))?;
-    if failing_group(&PassesAll { layout }, groups).is_none() && primary_fits(layout) {
+    fails(8, sorted_named_once(layout))?;
+    fails(
+        8,
+        first_failing(&NamesSorted { layout }, layout.sorted.as_slice()),
+    )?;
+    if failing_group(&PassesAll { layout }, groups).is_none() && parts_fit(layout) {
         return Ok(());
     }
     fails(8, failing_group(&LengthFits, groups))?;
+    fails(8, failing_group(&FramesPartFits { layout }, groups))?;
     fails(8, failing_group(&DiscardedIsEmpty, groups))?;
     fails(8, failing_group(&PartIsRaw { layout }, groups))?;
+    once_fits(layout)?;
     fails(8, unless(primary_fits(layout)))?;
+    fails(8, unless(front_is_free(layout)))?;
     fails(8, failing_group(&AllocationAgrees { layout }, groups))?;
     fails(8, failing_group(&BytesTakeRoom { layout }, groups))
 }

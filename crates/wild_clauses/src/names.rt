@@ -1,6 +1,6 @@
 //! Clause 19: names.
 ghost use Rattle.std.specs.Prelude.{◌≡◌};
-ghost use Rattle.wild_clauses.specs.ZeroFree.{name_fits, given_name_fits, section_name_fits, symbol_name_fits, input_name_fits, version_name_fits, file_names_fit, group_names_fit, listed_name_fits, definition_name_fits};
+ghost use Rattle.wild_clauses.specs.ZeroFree.{name_fits, given_name_fits, section_name_fits, symbol_name_fits, input_name_fits, version_name_fits, file_names_fit, group_names_fit, listed_name_fits, definition_name_fits, ends_with_zero, interp_fits};
 ghost use Rattle.wild_clauses.specs.ClauseTests.{check_names};
 
 use crate::verdict::{fails, unless};
@@ -109,6 +109,25 @@ impl Test<VersionDefinition> for NamesFit {
     }
 }
 
+/// Whether the first zero byte of a path is its last byte.
+fn ends_with_zero(path: &[u8]) -> bool
+    ensures { result ≡ ends_with_zero path.now }
+{
+    for (i, byte) in path.iter().enumerate() {
+        if *byte == 0 {
+            return i + 1 == path.len();
+        }
+    }
+    false
+}
+
+/// Whether the path of the interpreter ends with its only zero byte (gABI, "Program Header": PT_INTERP), where there is one.
+fn interp_fits(path: &[u8]) -> bool
+    ensures { result ≡ interp_fits path.now }
+{
+    path.is_empty() || ends_with_zero(path)
+}
+
 #[tactic(auto, unfolding(crate::specs::ClauseTests::check_names))]
 pub(crate) fn check_names(layout: &Layout) -> Result<(), Clause>
     ensures { result ≡ check_names layout.now }
@@ -121,5 +140,6 @@ pub(crate) fn check_names(layout: &Layout) -> Result<(), Clause>
     fails(19, first_failing(&NamesFit, layout.symbols.as_slice()))?;
     fails(19, first_failing(&NamesFit, layout.groups.as_slice()))?;
     fails(19, first_failing(&NamesFit, layout.dynsyms.as_slice()))?;
-    fails(19, first_failing(&NamesFit, layout.verdefs.as_slice()))
+    fails(19, first_failing(&NamesFit, layout.verdefs.as_slice()))?;
+    fails(19, unless(interp_fits(layout.interp.as_slice())))
 }

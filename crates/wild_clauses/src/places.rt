@@ -1,10 +1,13 @@
 //! Whether the input sections of each part stand in its range of their group, in order and without overlap.
 ghost use Rattle.std.specs.Prelude.{◌≡◌, ◌+◌, ◌*◌, ◌^◌, ◌≤◌, ◌<◌, length, if◌then◌else◌, is_some, Some, None, ℕ, slice_index};
+ghost use Rattle.wild_laid.specs.Laid.{as_loaded, sorted_input};
 ghost use Rattle.wild_clauses.specs.Contents.{addresses, ends_of, section_misplaced};
 ghost use Rattle.wild_types.specs.Lists.{through};
 ghost use Rattle.wild_clauses.specs.Misplaced.{earlier, misplaced, all_placed, file_all_placed};
+ghost use Rattle.wild_clauses.specs.Ordered.{sections_of, ordered};
 
-use wild_types::{File, Group, InputSection, Layout, Part, wide_sum};
+use wild_laid::sorted_input;
+use wild_types::{File, Group, InputSection, Layout, Part, SortedSection, wide_sum};
 
 /// The smaller of two places, where both are there.
 fn earlier(left: Option<usize>, right: Option<usize>) -> Option<usize>
@@ -17,10 +20,10 @@ fn earlier(left: Option<usize>, right: Option<usize>) -> Option<usize>
     }
 }
 
-/// Moves the cursor of the section's part behind it, where that is one of the parts from number `part` on; false
-/// where the section is out of its place.
+/// Moves the cursor of a loaded section's part behind it, where that is one of the parts from number `part` on and the section has
+/// bytes; false where the section is out of its place.
 #[tactic(auto, using(crate::proofs::BlockLemmas::unfilled, crate::proofs::BlockLemmas::before_all, crate::proofs::BlockLemmas::behind_all))]
-fn pass_section(
+fn pass_bytes(
     layout: &Layout,
     part: usize,
     ends: &[u128],
@@ -28,9 +31,9 @@ fn pass_section(
     section: &InputSection,
 ) -> bool
     requires { length ends.now ≡ length cursors.old }
-    ensures { all_placed layout.now part ends.now cursors.old section.now ≡ (if result then Some cursors.new else None) }
+    ensures { all_placed layout.now part ends.now cursors.old (as_loaded section.now) ≡ (if result then Some cursors.new else None) }
 {
-    if !section.is_filled(layout) || section.part < part {
+    if !section.has_bytes(layout) || section.part < part {
         return true;
     }
     let k = section.part - part;
@@ -45,17 +48,82 @@ fn pass_section(
     true
 }
 
-/// The same for the sections of a file.
-fn pass_file(layout: &Layout, part: usize, ends: &[u128], cursors: &mut [u128], file: &File) -> bool
+/// The same of a section of a file, which stands there only where it is loaded.
+#[tactic(auto, using(crate::proofs::OrderedLemmas::loaded_placed, crate::proofs::OrderedLemmas::unloaded_placed))]
+fn pass_section(
+    layout: &Layout,
+    part: usize,
+    ends: &[u128],
+    cursors: &mut [u128],
+    section: &InputSection,
+) -> bool
     requires { length ends.now ≡ length cursors.old }
-    ensures { file_all_placed layout.now part ends.now cursors.old file.now ≡ (if result then Some cursors.new else None) }
+    ensures { all_placed layout.now part ends.now cursors.old section.now ≡ (if result then Some cursors.new else None) }
 {
-    for section in file.sections.as_slice() {
+    !section.slot.is_loaded() || pass_bytes(layout, part, ends, cursors, section)
+}
+
+fn pass_sections(
+    layout: &Layout,
+    part: usize,
+    ends: &[u128],
+    cursors: &mut [u128],
+    sections: &[InputSection],
+) -> bool
+    requires { length ends.now ≡ length cursors.old }
+    ensures { through (all_placed layout.now part ends.now) cursors.old sections.now ≡ (if result then Some cursors.new else None) }
+{
+    for section in sections {
         if !pass_section(layout, part, ends, cursors, section) {
             return false;
         }
     }
     true
+}
+
+/// The same of the section that an entry of the order names.
+fn pass_entry(
+    layout: &Layout,
+    part: usize,
+    ends: &[u128],
+    cursors: &mut [u128],
+    entry: SortedSection,
+) -> bool
+    requires { length ends.now ≡ length cursors.old }
+    ensures { through (all_placed layout.now part ends.now) cursors.old (sections_of (sorted_input layout.now entry)) ≡ (if result then Some cursors.new else None) }
+{
+    match sorted_input(layout, entry) {
+        Some(found) => pass_bytes(layout, part, ends, cursors, found.section),
+        None => true,
+    }
+}
+
+fn pass_order(
+    layout: &Layout,
+    part: usize,
+    ends: &[u128],
+    cursors: &mut [u128],
+    order: &[SortedSection],
+) -> bool
+    requires { length ends.now ≡ length cursors.old }
+    ensures { through (all_placed layout.now part ends.now) cursors.old (ordered layout.now order.now) ≡ (if result then Some cursors.new else None) }
+{
+    for entry in order {
+        if !pass_entry(layout, part, ends, cursors, *entry) {
+            return false;
+        }
+    }
+    true
+}
+
+/// The same for the sections of a file, and with the last file for those in a given order.
+fn pass_file(layout: &Layout, part: usize, ends: &[u128], cursors: &mut [u128], file: &File) -> bool
+    requires { length ends.now ≡ length cursors.old }
+    ensures { file_all_placed layout.now part ends.now cursors.old file.now ≡ (if result then Some cursors.new else None) }
+{
+    let order = layout.sorted.as_slice();
+    pass_sections(layout, part, ends, cursors, file.sections.as_slice())
+        && (!file.role.is_epilogue() || pass_order(layout, part, ends, cursors, order))
 }
 
 /// The same for the files of a group.

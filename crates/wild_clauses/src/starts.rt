@@ -1,4 +1,4 @@
-//! Clause 16: where a group's strings and symbols begin.
+//! Clause 16: where a group's strings, frames and symbols begin.
 ghost use Rattle.std.specs.Prelude.{ℕ, ◌≡◌, ◌+◌, ◌-◌, ◌*◌, ◌^◌, ◌≤◌};
 ghost use Rattle.wild_clauses.specs.GroupStarts.{AreBelow, given_at, place_with, start_places, no_starts, starts_behind, begins_at, start_astray};
 ghost use Rattle.wild_clauses.specs.ClauseTests.{check_starts};
@@ -11,6 +11,7 @@ use wild_types::{Clause, Group, Layout, Part, Role, has_role};
 pub struct Starts<T> {
     pub dynstr: T,
     pub strtab: T,
+    pub frames: T,
     pub locals: T,
     pub globals: T,
 }
@@ -34,6 +35,7 @@ fn start_places(parts: &[Part]) -> Starts<Option<usize>>
     Starts {
         dynstr: place_with(Role::Dynstr, parts),
         strtab: place_with(Role::Strtab, parts),
+        frames: place_with(Role::EhFrame, parts),
         locals: place_with(Role::SymtabLocal, parts),
         globals: place_with(Role::SymtabGlobal, parts),
     }
@@ -67,6 +69,7 @@ fn starts_behind(places: Starts<Option<usize>>, from: Starts<u128>, group: &Grou
     Starts {
         dynstr: end_behind(from.dynstr, places.dynstr, group),
         strtab: end_behind(from.strtab, places.strtab, group),
+        frames: end_behind(from.frames, places.frames, group),
         locals: end_behind(from.locals, places.locals, group),
         globals: end_behind(from.globals, places.globals, group),
     }
@@ -78,6 +81,7 @@ fn begins_at(from: Starts<u128>, group: &Group) -> bool
 {
     u128::from(group.dynstr_start) == from.dynstr
         && u128::from(group.strtab_start) == from.strtab
+        && u128::from(group.eh_frame_start) == from.frames
         && u128::from(group.symtab_local_start) == from.locals
         && u128::from(group.symtab_global_start) == from.globals
 }
@@ -89,6 +93,7 @@ fn start_astray(places: Starts<Option<usize>>, groups: &[Group]) -> Option<usize
     let mut from = Starts {
         dynstr: 0,
         strtab: 0,
+        frames: 0,
         locals: 0,
         globals: 0,
     };

@@ -1,13 +1,17 @@
 //! Clause 12: where thunks stand.
 ghost use Rattle.std.specs.Prelude.{◌≡◌, ◌+◌, ◌*◌, ◌^◌, ◌<◌, ◌≤◌, length, IfOk, Some};
 ghost use Rattle.std.specs.List.{list_any};
+ghost use Rattle.wild_laid.specs.Laid.{as_loaded, sorted_input};
+ghost use Rattle.wild_clauses.specs.Ordered.{sections_of, ordered};
 ghost use Rattle.wild_clauses.specs.SlotPlaces.{walk};
-ghost use Rattle.wild_clauses.specs.Thunks.{has_thunks, ascends_from, ascends, next_code, stand_from, behind_thunks, block_step, section_step, file_step, misplaced_from, misplaced_in, thunks_misplaced, owns, is_owned, block_lost, machine_takes};
+ghost use Rattle.wild_clauses.specs.Thunks.{has_thunks, ascends_from, ascends, next_code, stand_from, behind_thunks, block_step, section_step, standing, file_step, misplaced_from, misplaced_in, thunks_misplaced, owns, is_owned, block_lost, machine_takes};
 ghost use Rattle.wild_clauses.specs.ClauseTests.{check_thunks};
 
 use crate::verdict::fails;
+use wild_laid::sorted_input;
 use wild_types::{
-    Clause, File, Group, InputSection, Layout, Machine, Part, Test, Thunk, first_failing, wide_sum,
+    Clause, File, Group, InputSection, Layout, Machine, Part, SortedSection, Test, Thunk,
+    first_failing, wide_sum,
 };
 use wild_words::Items;
 
@@ -93,7 +97,29 @@ fn block_step(block: usize, end: u128, at: u128, thunks: &[Thunk]) -> Result<u12
     behind_thunks(block, end, (at + 3) / 4 * 4, thunks)
 }
 
-/// The place behind an input section of the primary part; the number of its group where it begins before the free place.
+/// The place behind a loaded section of the primary part that has bytes; the number of its group where it begins before the free
+/// place.
+fn step_bytes(
+    layout: &Layout,
+    group: usize,
+    at: u128,
+    section: &InputSection,
+) -> Result<u128, usize>
+    requires { at ≤ 2 ^ 65 }
+    ensures is { result ≡ section_step layout.now group at (as_loaded section.now) }
+    ensures small { IfOk result (λ n. n ≤ 2 ^ 65) }
+{
+    if !section.has_bytes(layout) || section.part != layout.primary_part {
+        return Ok(at);
+    }
+    if u128::from(section.address) < at {
+        return Err(group);
+    }
+    Ok(wide_sum(section.address, section.size))
+}
+
+/// The same of a section of a file, which stands there only where it is loaded.
+#[tactic(auto, using(crate::proofs::OrderedLemmas::loaded_step, crate::proofs::OrderedLemmas::unloaded_step))]
 fn section_step(
     layout: &Layout,
     group: usize,
@@ -104,13 +130,42 @@ fn section_step(
     ensures is { result ≡ section_step layout.now group at section.now }
     ensures small { IfOk result (λ n. n ≤ 2 ^ 65) }
 {
-    if !section.is_filled(layout) || section.part != layout.primary_part {
+    if !section.slot.is_loaded() {
         return Ok(at);
     }
-    if u128::from(section.address) < at {
-        return Err(group);
+    step_bytes(layout, group, at, section)
+}
+
+/// The same of the section that an entry of the order names.
+#[tactic(auto, using(crate::proofs::OrderedLemmas::then_ok), unfolding(crate::specs::SlotPlaces::walk))]
+fn step_entry(layout: &Layout, group: usize, at: u128, entry: SortedSection) -> Result<u128, usize>
+    requires { at ≤ 2 ^ 65 }
+    ensures is { result ≡ walk (section_step layout.now group) at (sections_of (sorted_input layout.now entry)) }
+    ensures small { IfOk result (λ n. n ≤ 2 ^ 65) }
+{
+    match sorted_input(layout, entry) {
+        Some(found) => step_bytes(layout, group, at, found.section),
+        None => Ok(at),
     }
-    Ok(wide_sum(section.address, section.size))
+}
+
+/// The same of some entries of the order.
+#[tactic(auto, unfolding(crate::specs::SlotPlaces::walk))]
+fn walk_order(
+    layout: &Layout,
+    group: usize,
+    at: u128,
+    order: &[SortedSection],
+) -> Result<u128, usize>
+    requires { at ≤ 2 ^ 65 }
+    ensures is { result ≡ walk (section_step layout.now group) at (ordered layout.now order.now) }
+    ensures small { IfOk result (λ n. n ≤ 2 ^ 65) }
+{
+    let mut at = at;
+    for entry in order {
+        at = step_entry(layout, group, at, *entry)?;
+    }
+    Ok(at)
 }
 
 /// The same of some sections.
@@ -132,6 +187,20 @@ fn walk_sections(
     Ok(at)
 }
 
+/// The place behind the sections of a file, and with the last file behind those in a given order.
+#[tactic(auto, using(crate::proofs::OrderedLemmas::walk_standing), unfolding(crate::specs::SlotPlaces::walk))]
+fn walk_standing(layout: &Layout, group: usize, at: u128, file: &File) -> Result<u128, usize>
+    requires { at ≤ 2 ^ 65 }
+    ensures is { result ≡ walk (section_step layout.now group) at (standing layout.now file.now) }
+    ensures small { IfOk result (λ n. n ≤ 2 ^ 65) }
+{
+    let at = walk_sections(layout, group, at, file.sections.as_slice())?;
+    if !file.role.is_epilogue() {
+        return Ok(at);
+    }
+    walk_order(layout, group, at, layout.sorted.as_slice())
+}
+
 /// The place behind the sections and the thunks of a file.
 fn file_step(layout: &Layout, group: usize, end: u128, at: u128, file: &File) -> Result<u128, usize>
     requires small { at ≤ 2 ^ 65 }
@@ -139,7 +208,7 @@ fn file_step(layout: &Layout, group: usize, end: u128, at: u128, file: &File) ->
     ensures is { result ≡ file_step layout.now group end at file.now }
     ensures small { IfOk result (λ n. n ≤ 2 ^ 65) }
 {
-    let at = walk_sections(layout, group, at, file.sections.as_slice())?;
+    let at = walk_standing(layout, group, at, file)?;
     block_step(file.thunk_block, end, at, layout.thunks_of(file))
 }
 

@@ -7,6 +7,7 @@ ghost use Rattle.wild_clauses.specs.WellFormed.{first_clause};
 use crate::counts::check_counts;
 use crate::dynsyms::check_dynsyms;
 use crate::fields::check_fields;
+use crate::fronts::{check_fronts, check_reversed};
 use crate::hashes::check_hashes;
 use crate::indexes::check_indexes;
 use crate::inputs::check_inputs;
@@ -67,5 +68,7 @@ pub fn well_formed(layout: &Layout) -> Result<(), Clause>
     check_starts(layout)?;
     check_hashes(layout)?;
     check_versions(layout)?;
-    check_names(layout)
+    check_names(layout)?;
+    check_reversed(layout)?;
+    check_fronts(layout)
 }

@@ -2,7 +2,6 @@
 use Rattle.std.proofs.Common.{◌≡◌, ℕ, Bool, true, false, List, [], ◌∷◌, ◌++◌, map, refl, sym, ap, ◌∙◌}
 use Rattle.std.specs.Prelude.{Some, None, option_to_list, if◌then◌else◌}
 use Rattle.std.specs.List.{flat_map, filter}
-use Rattle.std.proofs.lemmas.List.{append_assoc}
 use Rattle.std.proofs.lemmas.List.Concat.{flat_map-append}
 use Rattle.wild_records.specs.declared.relocations.Rela.{Rela}
 use Rattle.wild_records.specs.Relocations.{rela_fields}
@@ -15,6 +14,7 @@ use Rattle.wild_needs.specs.Entries.{is_left_to_entry, left_relocations}
 use Rattle.wild_types.specs.FileSymbols.{copies_of}
 use Rattle.wild_types.specs.Lookups.{is_read}
 use Rattle.wild_slot.specs.Treatment.{treatment}
+use Rattle.wild_laid.specs.Laid.{processed}
 use Rattle.wild_tables.specs.Entries.{rela_bytes}
 use Rattle.wild_layout.specs.Left.{left_entry, section_generals, copy_entry, file_generals}
 use Rattle.wild_contents.specs.General.{left_in, left_bytes, section_general_bytes, copy_bytes}
@@ -57,15 +57,10 @@ of_sections : (l : Layout) (ss : List InputSection) → rela_bytes (flat_map (se
 unfolding section_general_bytes
 of_sections l ss = sym (sym (flat_map-flat_map _ (section_generals l) ss))
 
-file_is : (l : Layout) (f : File) → rela_bytes (file_generals l f) ≡ flat_map (copy_bytes l) (copies_of f) ++ flat_map (section_general_bytes l) f.sections
+-- the bytes of a file's entries
+pub generals_are : (l : Layout) (f : File) → rela_bytes (file_generals l f) ≡ flat_map (copy_bytes l) (copies_of f) ++ flat_map (section_general_bytes l) (processed l f)
 unfolding file_generals
-file_is l f =
-    rela-append (map (copy_entry l) (copies_of f)) (flat_map (section_generals l) f.sections)
-    ∙ ap (λ (bs : List ℕ). bs ++ rela_bytes (flat_map (section_generals l) f.sections)) (copied l (copies_of f))
-    ∙ ap (λ (bs : List ℕ). flat_map (copy_bytes l) (copies_of f) ++ bs) (of_sections l f.sections)
-
-pub generals_joined : (l : Layout) (f : File) (old now next : List ℕ) → now ≡ old ++ flat_map (copy_bytes l) (copies_of f) → next ≡ now ++ flat_map (section_general_bytes l) f.sections → next ≡ old ++ rela_bytes (file_generals l f)
-generals_joined l f old now next a b =
-    b ∙ ap (λ (bs : List ℕ). bs ++ flat_map (section_general_bytes l) f.sections) a
-    ∙ append_assoc old (flat_map (copy_bytes l) (copies_of f)) (flat_map (section_general_bytes l) f.sections)
-    ∙ ap (λ (bs : List ℕ). old ++ bs) (sym (file_is l f))
+generals_are l f =
+    rela-append (map (copy_entry l) (copies_of f)) (flat_map (section_generals l) (processed l f))
+    ∙ ap (λ (bs : List ℕ). bs ++ rela_bytes (flat_map (section_generals l) (processed l f))) (copied l (copies_of f))
+    ∙ ap (λ (bs : List ℕ). flat_map (copy_bytes l) (copies_of f) ++ bs) (of_sections l (processed l f))

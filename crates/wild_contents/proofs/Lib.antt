@@ -8,3 +8,7 @@ pub mod WalkLemmas
 pub mod SymtabFaultLemmas
 pub mod HashLemmas
 pub mod VersionLemmas
+pub mod LaidLemmas
+pub mod FileLemmas
+pub mod NoteLemmas
+pub mod SearchTableLemmas

@@ -2,16 +2,14 @@
 //! has the last file.
 ghost use Rattle.std.specs.Prelude.{◌≡◌, ◌++◌, Some, OnOk};
 ghost use Rattle.wild_needs.specs.DynamicStrings.{needed_of, needed_entries, needed_count};
-ghost use Rattle.std.specs.List.{list_any};
 ghost use Rattle.wild_types.specs.declared.file.File.{File};
-ghost use Rattle.wild_types.specs.FileRoles.{is_epilogue};
 ghost use Rattle.wild_types.specs.Lists.{total};
 ghost use Rattle.wild_tables.specs.Dynamic.{entries_bytes, dynamic_bytes};
 ghost use Rattle.wild_layout.specs.Content.{room_behind, dynamic_room, dynamic_of};
 
 use crate::part_bytes::PartBytes;
 use std::alloc::{AllocError, Global};
-use wild_needs::{behind_file, dynamic_count, needed_count};
+use wild_needs::{behind_file, dynamic_count, has_last, needed_count};
 use wild_records::DynamicEntry;
 use wild_records::abi::dynamic::DT_NEEDED;
 use wild_tables::write_dynamic;
@@ -81,17 +79,6 @@ fn dynamic_room(layout: &Layout) -> u64
         Some(group) => room_behind(layout, group),
         None => 0,
     }
-}
-
-/// Whether the group has the last file.
-pub fn has_last(group: &Group) -> bool
-    ensures { result ≡ list_any (λ (f : File). is_epilogue f.role) group.now.files }
-{
-    group
-        .files
-        .as_slice()
-        .iter()
-        .any(|file| file.role.is_epilogue())
 }
 
 /// Adds the entries of the last file, in its room; that has never less bytes than they where the shares are what is needed.

@@ -1,10 +1,9 @@
-//! The entries with addends of a file: for each address that moves and is not packed, one by which a loader stores the
+//! The entries with addends of an input section: for each address that moves and is not packed, one by which a loader stores the
 //! sum of base and value (gABI, "Relocation").
 ghost use Rattle.std.specs.Prelude.{◌≡◌, [], ◌∷◌, ◌++◌, OnOk};
 ghost use Rattle.std.specs.List.{flat_map};
 ghost use Rattle.wild_needs.specs.Entries.{listed_place};
 ghost use Rattle.wild_tables.specs.Entries.{rela_bytes};
-ghost use Rattle.wild_layout.specs.Moved.{file_entries};
 ghost use Rattle.wild_contents.specs.Own.{entry_bytes, section_entry_bytes};
 
 use crate::part_bytes::PartBytes;
@@ -14,7 +13,7 @@ use wild_records::Rela;
 use wild_relax::Arch;
 use wild_sections::{Resolved, moved_value};
 use wild_tables::relative_entry;
-use wild_types::{File, InputRelocation, InputSection, Layout};
+use wild_types::{InputRelocation, InputSection, Layout};
 
 /// The place of a relocation, where that has an entry.
 fn listed_place(
@@ -76,7 +75,7 @@ fn add_all_listed<A: Arch>(
 
 /// Adds the entries of a section.
 #[tactic(auto, using(crate::proofs::OwnLemmas::listed_entries, crate::proofs::OwnLemmas::no_entries))]
-fn add_section_entries<A: Arch>(
+pub(crate) fn add_section_entries<A: Arch>(
     resolved: &Resolved<A>,
     section: &InputSection,
     bytes: &mut PartBytes,
@@ -85,21 +84,6 @@ fn add_section_entries<A: Arch>(
 {
     if resolved.layout.has_moved(section) {
         add_all_listed(resolved, section, bytes)?;
-    }
-    Ok(())
-}
-
-/// Adds the entries of a file.
-#[tactic(auto, using(crate::proofs::OwnLemmas::entries_joined))]
-pub(crate) fn add_entries<A: Arch>(
-    resolved: &Resolved<A>,
-    file: &File,
-    bytes: &mut PartBytes,
-) -> Result<(), AllocError>
-    ensures { OnOk result (bytes.new ≡ bytes.old ++ rela_bytes (file_entries resolved.now.layout.now file.now)) }
-{
-    for section in file.sections.as_slice() {
-        add_section_entries(resolved, section, bytes)?;
     }
     Ok(())
 }

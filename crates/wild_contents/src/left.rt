@@ -5,7 +5,7 @@ ghost use Rattle.std.specs.List.{flat_map};
 ghost use Rattle.wild_types.specs.FileSymbols.{copies_of};
 ghost use Rattle.wild_slot.specs.Treatment.{treatment};
 ghost use Rattle.wild_tables.specs.Entries.{rela_bytes};
-ghost use Rattle.wild_layout.specs.Left.{entry_for, index_or_zero, copy_entry, file_generals};
+ghost use Rattle.wild_layout.specs.Left.{entry_for, index_or_zero, copy_entry};
 ghost use Rattle.wild_contents.specs.General.{left_in, left_bytes, section_general_bytes, copy_bytes};
 
 use crate::entries::add_entry;
@@ -94,7 +94,7 @@ fn add_all_left(
 
 /// Adds the entries of a section.
 #[tactic(auto, using(crate::proofs::GeneralLemmas::section_left, crate::proofs::GeneralLemmas::none_left))]
-fn add_section_left(
+pub(crate) fn add_section_left(
     layout: &Layout,
     section: &InputSection,
     bytes: &mut PartBytes,
@@ -103,16 +103,6 @@ fn add_section_left(
 {
     if section.is_read() {
         add_all_left(layout, section, bytes)?;
-    }
-    Ok(())
-}
-
-/// Adds the entries of the sections of a file.
-fn add_sections_left(layout: &Layout, file: &File, bytes: &mut PartBytes) -> Result<(), AllocError>
-    ensures { OnOk result (bytes.new ≡ bytes.old ++ flat_map (section_general_bytes layout.now) file.now.sections) }
-{
-    for section in file.sections.as_slice() {
-        add_section_left(layout, section, bytes)?;
     }
     Ok(())
 }
@@ -132,7 +122,7 @@ fn copy_entry<A: Arch>(resolved: &Resolved<A>, symbol: SymbolIndex) -> Rela
 
 /// Adds the entries of the symbols that a file has copied.
 #[tactic(auto, unfolding(crate::specs::General::copy_bytes))]
-fn add_copies<A: Arch>(
+pub(crate) fn add_copies<A: Arch>(
     resolved: &Resolved<A>,
     file: &File,
     bytes: &mut PartBytes,
@@ -143,17 +133,4 @@ fn add_copies<A: Arch>(
         add_entry(copy_entry(resolved, *symbol), bytes)?;
     }
     Ok(())
-}
-
-/// Adds the entries of a file: its copies', and then its fields'.
-#[tactic(auto, using(crate::proofs::GeneralLemmas::generals_joined))]
-pub(crate) fn add_generals<A: Arch>(
-    resolved: &Resolved<A>,
-    file: &File,
-    bytes: &mut PartBytes,
-) -> Result<(), AllocError>
-    ensures { OnOk result (bytes.new ≡ bytes.old ++ rela_bytes (file_generals resolved.now.layout.now file.now)) }
-{
-    add_copies(resolved, file, bytes)?;
-    add_sections_left(resolved.layout, file, bytes)
 }

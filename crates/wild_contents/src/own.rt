@@ -1,21 +1,20 @@
-//! What a file gives to the parts that a loader reads, and to those of the table of all symbols.
-ghost use Rattle.std.specs.Prelude.{◌≡◌, ◌++◌, OnOk};
+//! What a file gives to the parts that no section is read for: those that a loader reads, those of the table of all symbols, and notes.
+ghost use Rattle.std.specs.Prelude.{◌≡◌, ◌++◌, false, OnOk};
 ghost use Rattle.wild_layout.specs.Content.{own_bytes};
+ghost use Rattle.wild_contents.specs.Laid.{is_applied, is_apart};
 
-use crate::entries::add_entries;
 use crate::hashes::{add_gnu, add_sysv};
-use crate::left::add_generals;
+use crate::notes::{add_build_id, add_properties};
 use crate::part_bytes::PartBytes;
 use crate::strings::add_file_strings;
 use crate::symtab::{add_file_indexes, add_file_names};
 use crate::versions::{add_definitions, add_versions};
-use crate::words::add_words;
 use std::alloc::{AllocError, Global};
 use wild_relax::Arch;
 use wild_sections::Resolved;
 use wild_types::{File, Role};
 
-/// Adds what a file gives to a part of that role, of those that a loader reads and of those of the table of all symbols.
+/// Adds what a file gives to a part of that role, of those that no section is read for.
 pub(crate) fn add_own<A: Arch>(
     alloc: Global,
     resolved: &Resolved<A>,
@@ -23,12 +22,11 @@ pub(crate) fn add_own<A: Arch>(
     file: &File,
     bytes: &mut PartBytes,
 ) -> Result<(), AllocError>
+    requires plain { is_applied role ≡ false }
+    requires here { is_apart role ≡ false }
     ensures { OnOk result (bytes.new ≡ bytes.old ++ own_bytes resolved.now.layout.now role file.now) }
 {
     match role {
-        Role::RelaDynRelative => add_entries(resolved, file, bytes),
-        Role::RelrDyn => add_words(alloc, resolved.layout, file, bytes),
-        Role::RelaDynGeneral => add_generals(resolved, file, bytes),
         Role::Dynstr => add_file_strings(resolved.layout, file, bytes),
         Role::GnuVersion => add_versions(alloc, resolved.layout, file, bytes),
         Role::GnuVersionD => add_definitions(alloc, resolved, file, bytes),
@@ -37,6 +35,8 @@ pub(crate) fn add_own<A: Arch>(
         Role::SymtabShndxLocal => add_file_indexes(alloc, resolved, role, true, file, bytes),
         Role::SymtabShndxGlobal => add_file_indexes(alloc, resolved, role, false, file, bytes),
         Role::Strtab => add_file_names(alloc, resolved, file, bytes),
+        Role::BuildId => add_build_id(alloc, resolved.layout, file, bytes),
+        Role::Property => add_properties(alloc, resolved.layout, file, bytes),
         _ => Ok(()),
     }
 }

@@ -2,14 +2,15 @@
 ghost use Rattle.std.specs.Prelude.{◌≡◌, [], ◌++◌, length, All, IfOk, OnOk};
 ghost use Rattle.wild_types.specs.Faults.{Answers};
 ghost use Rattle.wild_types.specs.Item.{item_now};
-ghost use Rattle.wild_layout.specs.Sites.{item_bytes};
+ghost use Rattle.wild_layout.specs.Sites.{MovesApart, item_bytes};
 ghost use Rattle.wild_layout.specs.Faults.{item_errors};
+ghost use Rattle.wild_sections.specs.Origins.{ending_errors};
 ghost use Rattle.wild_layout.specs.SectionPlaces.{FieldLies};
 
 use std::alloc::{AllocError, Global};
 use std::marker::Model;
 use wild_relax::Arch;
-use wild_sections::{InputPlace, Resolved, write_data};
+use wild_sections::{Origin, Resolved, write_data};
 use wild_types::{Error, ItemRef};
 
 /// Bytes that grow at their end, which contracts see as a list of numbers.
@@ -45,6 +46,13 @@ impl PartBytes {
         })
     }
 
+    /// These bytes.
+    pub fn from_vec(bytes: Vec<u8>) -> Self
+        ensures { result ≡ bytes.items }
+    {
+        PartBytes { entries: bytes }
+    }
+
     /// Adds bytes at the end.
     pub fn extend(&mut self, bytes: &[u8]) -> Result<(), AllocError>
         ensures { OnOk result (self.new ≡ self.old ++ bytes.now) }
@@ -52,21 +60,22 @@ impl PartBytes {
         self.entries.extend_from_slice(bytes)
     }
 
-    /// Adds the bytes of an item of the section at that place, with its fields, or answers its first fault.
+    /// Adds the bytes of an item with its fields, or answers its first fault, with the place that it has in the input.
     pub fn add_data<A: Arch>(
         &mut self,
         alloc: Global,
         resolved: &Resolved<A>,
-        place: InputPlace,
+        origin: &Origin,
         item: &ItemRef,
     ) -> Result<(), Error>
         requires lies { All (FieldLies resolved.now.layout.now.machine (length item.now.bytes.now)) item.now.relocations.now }
-        ensures faults { Answers result (item_errors resolved.now.layout.now place.group place.file place.section (item_now item.now)) }
+        requires moves { MovesApart resolved.now.layout.now (item_now item.now) origin.now.relocations.now }
+        ensures faults { Answers result (item_errors resolved.now.layout.now origin.now.place.group origin.now.place.file origin.now.place.section (item_now item.now) origin.now.relocations.now (ending_errors origin.now.place origin.now.ending)) }
         ensures bytes { OnOk result (self.new ≡ self.old ++ item_bytes resolved.now.layout.now (item_now item.now)) }
     {
         let from = self.entries.len();
         self.entries.extend_from_slice(item.bytes)?;
-        write_data(alloc, resolved, place, item, &mut self.entries[from..])
+        write_data(alloc, resolved, origin, item, &mut self.entries[from..])
     }
 
     /// The bytes.

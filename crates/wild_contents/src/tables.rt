@@ -1,13 +1,18 @@
 //! What the groups give to the parts: the headers and the names of the sections, which stand once in an image and are the
 //! prelude's, what each file gives to the parts that a loader reads, and what its slots and stubs do.
-ghost use Rattle.std.specs.Prelude.{◌≡◌, [], ◌++◌, if◌then◌else◌, length, IfOk, OnOk};
+ghost use Rattle.std.specs.Prelude.{◌≡◌, [], ◌++◌, if◌then◌else◌, false, length, IfOk, OnOk};
+ghost use Rattle.std.specs.List.{flat_map};
 ghost use Rattle.wild_needs.specs.Needs.{whole_of};
 ghost use Rattle.wild_types.specs.FileRoles.{is_prelude};
+ghost use Rattle.wild_laid.specs.Laid.{laid_files};
 ghost use Rattle.wild_layout.specs.Content.{whole_bytes, file_content, group_bytes, content};
 ghost use Rattle.wild_layout.specs.SlotBytes.{header_bytes};
+ghost use Rattle.wild_types.specs.declared.part.Role.TheVariants.{RelrDyn};
 ghost use Rattle.wild_contents.specs.Given.{NeedsFit};
+ghost use Rattle.wild_contents.specs.Laid.{is_applied, is_apart, first_given, group_frames, HaveSearchTable};
 
 use crate::dynamic::add_group_dynamic;
+use crate::laid::{add_laid, add_sorted};
 use crate::own::add_own;
 use crate::part_bytes::PartBytes;
 use crate::slot_tables::{add_block, add_header};
@@ -19,13 +24,23 @@ use std::alloc::{AllocError, Global};
 use wild_headers::{
     populate_file_header, write_program_headers, write_section_headers, write_section_names,
 };
-use wild_needs::whole_of;
+use wild_needs::{has_last, whole_of};
 use wild_relax::Arch;
 use wild_sections::Resolved;
 use wild_types::{File, Group, Role};
 
-/// Fills the room of what stands once in an image.
+/// What is made of a group ahead of its tables.
+#[derive(Clone, Copy)]
+pub struct Beside<'a> {
+    /// The frames of the group, with their fields.
+    pub frames: &'a [u8],
+    /// The search table of the frames of all groups, where the group has the first file.
+    pub table: &'a [u8],
+}
+
+/// Fills the room of what stands once in an image, but for the search table.
 fn fill_whole<A: Arch>(resolved: &Resolved<A>, role: Role, room: &mut [u8])
+    requires here { is_apart role ≡ false }
     requires room { length room.old ≡ whole_of resolved.now.layout.now role }
     ensures { room.new ≡ whole_bytes resolved.now.layout.now role }
 {
@@ -34,6 +49,7 @@ fn fill_whole<A: Arch>(resolved: &Resolved<A>, role: Role, room: &mut [u8])
         Role::ProgramHeaders => write_program_headers(resolved.layout, room),
         Role::SectionHeaders => write_section_headers(resolved.layout, room),
         Role::Shstrtab => write_section_names(resolved.layout, room),
+        Role::Interp => room.copy_from_slice(resolved.layout.interp.as_slice()),
         _ => {}
     }
 }
@@ -44,6 +60,7 @@ pub(crate) fn whole_bytes<A: Arch>(
     resolved: &Resolved<A>,
     role: Role,
 ) -> Result<Vec<u8>, AllocError>
+    requires { is_apart role ≡ false }
     ensures { IfOk result (λ v. v.items ≡ whole_bytes resolved.now.layout.now role) }
 {
     let mut room = vec![in alloc; 0u8; whole_of(resolved.layout, role) as usize]?;
@@ -52,13 +69,14 @@ pub(crate) fn whole_bytes<A: Arch>(
 }
 
 /// Adds what stands once in an image, where the file is the first one.
-fn add_whole<A: Arch>(
+pub(crate) fn add_whole<A: Arch>(
     alloc: Global,
     resolved: &Resolved<A>,
     role: Role,
     file: &File,
     bytes: &mut PartBytes,
 ) -> Result<(), AllocError>
+    requires { is_apart role ≡ false }
     ensures { OnOk result (bytes.new ≡ bytes.old ++ (if is_prelude file.now.role then whole_bytes resolved.now.layout.now role ++ header_bytes resolved.now.layout.now role else [])) }
 {
     if file.role.is_prelude() {
@@ -77,11 +95,85 @@ fn add_file_content<A: Arch>(
     file: &File,
     bytes: &mut PartBytes,
 ) -> Result<(), AllocError>
+    requires plain { is_applied role ≡ false }
+    requires here { is_apart role ≡ false }
     ensures { OnOk result (bytes.new ≡ bytes.old ++ file_content resolved.now.layout.now role file.now) }
 {
     add_whole(alloc, resolved, role, file, bytes)?;
     add_own(alloc, resolved, role, file, bytes)?;
     add_slots(resolved.layout, role, file, bytes)
+}
+
+/// Adds what files give to a part for which no section is read.
+fn add_plain<A: Arch>(
+    alloc: Global,
+    resolved: &Resolved<A>,
+    role: Role,
+    files: &[File],
+    bytes: &mut PartBytes,
+) -> Result<(), AllocError>
+    requires plain { is_applied role ≡ false }
+    requires here { is_apart role ≡ false }
+    ensures { OnOk result (bytes.new ≡ bytes.old ++ flat_map (file_content resolved.now.layout.now role) files.now) }
+{
+    for file in files {
+        add_file_content(alloc, resolved, role, file, bytes)?;
+    }
+    Ok(())
+}
+
+/// Adds the search table, where one of the files is the first one.
+fn add_search_table(files: &[File], table: &[u8], bytes: &mut PartBytes) -> Result<(), AllocError>
+    ensures { OnOk result (bytes.new ≡ bytes.old ++ flat_map (first_given table.now) files.now) }
+{
+    for file in files {
+        if file.role.is_prelude() {
+            bytes.extend(table)?;
+        }
+    }
+    Ok(())
+}
+
+/// Adds what the files of a group give to a part of that role.
+#[tactic(auto, using(crate::proofs::FileLemmas::files_frames, crate::proofs::FileLemmas::files_table, crate::proofs::FileLemmas::files_plain))]
+fn add_files<A: Arch>(
+    alloc: Global,
+    resolved: &Resolved<A>,
+    role: Role,
+    group: &Group,
+    beside: &Beside<'_>,
+    bytes: &mut PartBytes,
+) -> Result<(), AllocError>
+    requires frames { beside.now.frames.now ≡ group_frames resolved.now.layout.now group.now }
+    requires table { HaveSearchTable resolved.now.layout.now beside.now.table.now group.now.files }
+    ensures { OnOk result (bytes.new ≡ bytes.old ++ flat_map (file_content resolved.now.layout.now role) (laid_files resolved.now.layout.now group.now)) }
+{
+    match role {
+        Role::EhFrame => bytes.extend(beside.frames),
+        Role::EhFrameHdr => add_search_table(group.files.as_slice(), beside.table, bytes),
+        Role::RelaDynRelative | Role::RelaDynGeneral | Role::RelrDyn => {
+            add_laid(alloc, resolved, role, group, bytes)
+        }
+        _ => add_plain(alloc, resolved, role, group.files.as_slice(), bytes),
+    }
+}
+
+/// Adds the words that pack the block of slots of a group, and behind those the words of the sorted sections, where it has the last
+/// file.
+#[tactic(auto, using(crate::proofs::LaidLemmas::words_added, crate::proofs::LaidLemmas::words_not_last))]
+fn add_group_words<A: Arch>(
+    alloc: Global,
+    resolved: &Resolved<A>,
+    group: &Group,
+    bytes: &mut PartBytes,
+) -> Result<(), AllocError>
+    ensures { OnOk result (bytes.new ≡ bytes.old ++ group_bytes resolved.now.layout.now RelrDyn group.now) }
+{
+    add_block(resolved.layout, Role::RelrDyn, group, bytes)?;
+    if has_last(group) {
+        add_sorted(alloc, resolved, Role::RelrDyn, bytes)?;
+    }
+    Ok(())
 }
 
 /// Adds what is told of the files of a group together, to a part of that role.
@@ -101,6 +193,7 @@ fn add_group<A: Arch>(
         Role::Dynamic => add_group_dynamic(alloc, resolved.layout, group, bytes),
         Role::SymtabLocal => add_group_table(alloc, resolved, true, group, bytes),
         Role::SymtabGlobal => add_group_table(alloc, resolved, false, group, bytes),
+        Role::RelrDyn => add_group_words(alloc, resolved, group, bytes),
         _ => add_block(resolved.layout, role, group, bytes),
     }
 }
@@ -111,13 +204,14 @@ pub fn add_content<A: Arch>(
     resolved: &Resolved<A>,
     role: Role,
     group: &Group,
+    beside: &Beside<'_>,
     bytes: &mut PartBytes,
 ) -> Result<(), AllocError>
-    requires { NeedsFit group.now }
+    requires few { NeedsFit group.now }
+    requires frames { beside.now.frames.now ≡ group_frames resolved.now.layout.now group.now }
+    requires table { HaveSearchTable resolved.now.layout.now beside.now.table.now group.now.files }
     ensures { OnOk result (bytes.new ≡ bytes.old ++ content resolved.now.layout.now role group.now) }
 {
-    for file in group.files.as_slice() {
-        add_file_content(alloc, resolved, role, file, bytes)?;
-    }
+    add_files(alloc, resolved, role, group, beside, bytes)?;
     add_group(alloc, resolved, role, group, bytes)
 }

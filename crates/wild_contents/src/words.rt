@@ -1,12 +1,10 @@
-//! The words of packed relocations of a file (gABI, "Relative Relocation Table"). Each input section's places are a run
-//! of their own.
+//! The words of packed relocations of an input section, whose places are a run of their own (gABI, "Relative Relocation Table").
 ghost use Rattle.std.specs.Prelude.{◌≡◌, ◌+◌, ◌*◌, ◌%◌, ◌≤◌, ◌++◌, length, IfOk, OnOk};
 ghost use Rattle.std.specs.List.{flat_map};
 ghost use Rattle.wild_records.specs.Relocations.{relr_size};
 ghost use Rattle.wild_relr.specs.Packing.{after};
 ghost use Rattle.wild_relr.specs.Packed.{packed, afters};
 ghost use Rattle.wild_relr.specs.Written.{word_bytes};
-ghost use Rattle.wild_layout.specs.Moved.{file_words};
 ghost use Rattle.wild_contents.specs.Own.{packed_in, section_word_bytes};
 
 use crate::part_bytes::PartBytes;
@@ -14,7 +12,7 @@ use std::alloc::{AllocError, Global};
 use wild_needs::packed_place;
 use wild_records::Relr;
 use wild_tables::RelrTable;
-use wild_types::{File, InputRelocation, InputSection, Layout};
+use wild_types::{InputRelocation, InputSection, Layout};
 
 /// Records an even place, for which there is room.
 fn record_place(words: &mut RelrTable, place: u64)
@@ -67,7 +65,7 @@ fn add_table(words: &RelrTable, bytes: &mut PartBytes) -> Result<(), AllocError>
 
 /// Adds the words of a section.
 #[tactic(auto, using(crate::proofs::OwnLemmas::packed_words, crate::proofs::OwnLemmas::no_words))]
-fn add_section_words(
+pub(crate) fn add_section_words(
     alloc: Global,
     layout: &Layout,
     section: &InputSection,
@@ -78,22 +76,6 @@ fn add_section_words(
     if layout.has_moved(section) {
         let words = words_in(alloc, layout, section)?;
         add_table(&words, bytes)?;
-    }
-    Ok(())
-}
-
-/// Adds the words of a file.
-#[tactic(auto, using(crate::proofs::OwnLemmas::words_joined))]
-pub(crate) fn add_words(
-    alloc: Global,
-    layout: &Layout,
-    file: &File,
-    bytes: &mut PartBytes,
-) -> Result<(), AllocError>
-    ensures { OnOk result (bytes.new ≡ bytes.old ++ word_bytes (file_words layout.now file.now)) }
-{
-    for section in file.sections.as_slice() {
-        add_section_words(alloc, layout, section, bytes)?;
     }
     Ok(())
 }

@@ -1,5 +1,6 @@
 //! What each clause asks, which members are likely wrong where it fails, and which of its tests an item fails.
 
+use crate::fronts::{is_named_once, test_merged, test_sorted, types_before};
 use crate::headers::{first_of, test_part, test_section, test_segment};
 use crate::items::{Item, SectionPlace, push_found, push_item, section_at};
 use crate::layout_rows::{LAYOUT_ROWS, Row};
@@ -18,7 +19,7 @@ use std::fmt::Write;
 use wild_types::Layout;
 
 /// Of each clause its number, its name, and what is likely wrong in a plan that fails it.
-const CLAUSES: [(u32, &str, &str); 19] = [
+const CLAUSES: [(u32, &str, &str); 21] = [
     (
         1,
         "sizes and alignments",
@@ -57,7 +58,7 @@ const CLAUSES: [(u32, &str, &str); 19] = [
     (
         8,
         "input sections in their parts",
-        "`slot` left out (`discard`); `address` behind an input section that has grown; `size` other than the number of bytes; `nobits` left out of zeroed data; `flags` of the input section without 2; `part` counted among sections",
+        "`slot` left out (`discard`); `address` behind an input section that has grown; `size` other than the number of bytes; `nobits` left out of zeroed data; `flags` of the input section without 2; `part` counted among sections; a sorted section left out of `sorted`",
     ),
     (
         9,
@@ -67,7 +68,7 @@ const CLAUSES: [(u32, &str, &str); 19] = [
     (
         10,
         "fields",
-        "`offset` of the relocation, counted from the part or the file; the offset of the instruction and not of its field",
+        "`offset` of the relocation, counted from the part or the file; the offset of the instruction and not of its field; `malformed` outside frames",
     ),
     (
         11,
@@ -96,7 +97,7 @@ const CLAUSES: [(u32, &str, &str); 19] = [
     ),
     (
         16,
-        "where a group's strings and symbols begin",
+        "where a group's strings, frames and symbols begin",
         "a start left out of a group behind the first, counted from the start of the file, or in entries and not in bytes",
     ),
     (
@@ -112,7 +113,17 @@ const CLAUSES: [(u32, &str, &str); 19] = [
     (
         19,
         "names",
-        "a name written with the zero that ends it in the object",
+        "a name written with the zero that ends it in the object; `interp` without the zero that ends it",
+    ),
+    (
+        20,
+        "reversed sections",
+        "`reversed` at a section of other things than words of 8 bytes; a relocation of 4 bytes, or R_X86_64_NONE, in it",
+    ),
+    (
+        22,
+        "merged strings, the linker's name of itself, properties",
+        "the first group's entry of `part_sizes` for the part, which was not changed with the strings; a property listed twice",
     ),
 ];
 
@@ -155,12 +166,16 @@ fn find_input(layout: &Layout, group: usize, test: InputTest) -> Option<Finding>
     let found = layout.groups.as_slice().get(group)?;
     for (file, held) in found.files.as_slice().iter().enumerate() {
         for (section, input) in held.sections.as_slice().iter().enumerate() {
-            if test_input(layout, input, test) {
-                let at = SectionPlace {
-                    group,
-                    file,
-                    section,
-                };
+            let at = SectionPlace {
+                group,
+                file,
+                section,
+            };
+            let fails = match test {
+                InputTest::Order => !is_named_once(layout, at, input),
+                _ => test_input(layout, input, test),
+            };
+            if fails {
                 return finding(Item::Input(at), plain(true));
             }
         }
@@ -228,6 +243,25 @@ fn find(layout: &Layout, index: usize, test: Test) -> Option<Finding> {
             finding(Item::Version(index), plain(fails))
         }
         Test::Thunk(test) => find_thunk(layout, index, test),
+        Test::Sorted(test) => {
+            let entry = layout.sorted.as_slice().get(index)?;
+            finding(
+                Item::Sorted(index),
+                plain(test_sorted(layout, *entry, test)),
+            )
+        }
+        Test::Merged(test) => {
+            let merged = layout.merged.as_slice().get(index)?;
+            finding(
+                Item::Merged(index),
+                test_merged(layout, index, merged, test),
+            )
+        }
+        Test::Property => {
+            let property = layout.properties.as_slice().get(index)?;
+            let before = types_before(layout, property.ptype, index);
+            finding(Item::Property(index), plain(before))
+        }
         Test::Auxiliary => {
             let name = layout.options.auxiliary.as_slice().get(index)?;
             finding(Item::Auxiliary(index), plain(name.as_slice().contains(&0)))

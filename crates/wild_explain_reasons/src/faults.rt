@@ -6,7 +6,41 @@ use crate::thunks::refused_thunk;
 use std::alloc::AllocError;
 use std::fmt::Write;
 use wild_slot::{SlotFault, SymbolSlots};
-use wild_types::{At, Fault, InputSection, Layout, Missing};
+use wild_types::{At, Fault, InputSection, Layout, Missing, Why};
+
+/// What is wrong with a section of frames, and what can be done.
+fn frame_words(why: Why) -> (&'static str, &'static str) {
+    match why {
+        Why::Malformed => (
+            "the reader of the input failed at a relocation of frames",
+            "give the relocation as the input has it",
+        ),
+        Why::Unsorted => (
+            "a relocation of frames stands before the one in front of it",
+            "sort the relocations of the section by `offset`",
+        ),
+        Why::Cut => (
+            "an entry of frames ends behind its section",
+            "give the section all its bytes, or correct the entry's length",
+        ),
+        Why::Short => (
+            "an entry of frames has no room for its id, or one that is kept none for where its code begins",
+            "correct the entry's length; only the last one may be 0",
+        ),
+        Why::PcBegin => (
+            "where the code of a frame begins is told by no symbol, or by one that stands in no input section",
+            "give the relocation at byte 8 of the entry the symbol of its code",
+        ),
+        Why::Cie => (
+            "an entry's id leads to no CIE of its section",
+            "correct the id: the distance from itself back to the CIE",
+        ),
+        Why::Field => (
+            "the field of a relocation ends behind its entry of frames",
+            "correct its `offset` or its `number`",
+        ),
+    }
+}
 
 /// What is wrong with a relocation, a slot or a symbol, and what can be done.
 fn fault_words(fault: Fault) -> (&'static str, &'static str) {
@@ -86,6 +120,11 @@ fn fault_words(fault: Fault) -> (&'static str, &'static str) {
             "a static executable has nothing that fills a descriptor",
             "take another model of thread-local storage",
         ),
+        Fault::BadFrameData { why } => frame_words(why),
+        Fault::FrameOffsetOverflow { .. } => (
+            "the search table of frames tells distances of four signed bytes, and one is greater",
+            "move the parts eh_frame_hdr and eh_frame, and the code, nearer",
+        ),
         Fault::OutOfRange { .. } => (
             "the value does not fit the field",
             "move the sections nearer, or use a wider type",
@@ -141,6 +180,7 @@ fn push_numbers(out: &mut String, layout: &Layout, fault: Fault) -> Result<(), A
         Fault::OutOfRange { value }
         | Fault::NoThunk { value }
         | Fault::ThunkOutOfRange { value }
+        | Fault::FrameOffsetOverflow { value }
         | Fault::PltTooFar { value } => {
             let signed = value.cast_signed();
             write!(out, "; value {signed}")?;

@@ -1,10 +1,11 @@
 //! The items of a plan that a fault names: their paths, and what stands there.
 
+use crate::fronts::size_of;
 use crate::names::{push_name, push_resolution, push_section, push_symbol, role_word};
 use std::alloc::AllocError;
 use std::fmt::Write;
 use wild_records::gnu_hash;
-use wild_types::{InputSection, Layout, SymbolIndex};
+use wild_types::{InputSection, Layout, Slot, SymbolIndex};
 
 /// Where an input section stands.
 #[derive(Clone, Copy)]
@@ -27,6 +28,9 @@ pub enum Item {
     Auxiliary(usize),
     /// The place of its block, and its own in that.
     Thunk(usize, usize),
+    Sorted(usize),
+    Merged(usize),
+    Property(usize),
     Group(usize),
     File(usize, usize),
     Input(SectionPlace),
@@ -44,6 +48,9 @@ pub fn push_item(out: &mut String, item: Item) -> Result<(), AllocError> {
         Item::Version(i) => write!(out, "/verdefs/{i}")?,
         Item::Auxiliary(i) => write!(out, "/options/auxiliary/{i}")?,
         Item::Thunk(i, j) => write!(out, "/thunk_blocks/{i}/{j}")?,
+        Item::Sorted(i) => write!(out, "/sorted/{i}")?,
+        Item::Merged(i) => write!(out, "/merged/{i}")?,
+        Item::Property(i) => write!(out, "/properties/{i}")?,
         Item::Group(i) => write!(out, "/groups/{i}")?,
         Item::File(i, j) => write!(out, "/groups/{i}/files/{j}")?,
         Item::Input(at) => {
@@ -121,16 +128,26 @@ pub(crate) fn push_decided(
     Ok(())
 }
 
+/// The word of a slot.
+fn slot_word(slot: Slot) -> &'static str {
+    match slot {
+        Slot::Discard => "discard",
+        Slot::Loaded => "loaded",
+        Slot::Sorted => "sorted",
+        Slot::Debug => "debug",
+        Slot::Frame => "frame",
+        Slot::Merge => "merge",
+        Slot::Rela => "rela",
+        Slot::Group => "group",
+    }
+}
+
 /// Adds what stands at an input section.
 fn push_input(out: &mut String, layout: &Layout, at: SectionPlace) -> Result<(), AllocError> {
     let Some(section) = section_at(layout, at) else {
         return Ok(());
     };
-    let slot = if section.slot.is_discarded() {
-        "discard"
-    } else {
-        "loaded"
-    };
+    let slot = slot_word(section.slot);
     let bytes = section.bytes.len();
     let (address, size, flags) = (section.address, section.size, section.flags);
     let (nobits, part) = (section.nobits, section.part);
@@ -178,9 +195,10 @@ fn push_group(out: &mut String, layout: &Layout, group: usize) -> Result<(), All
         let (shares, parts) = (found.part_sizes.len(), layout.parts.len());
         let (files, strings, names) = (found.files.len(), found.dynstr_start, found.strtab_start);
         let (local, global) = (found.symtab_local_start, found.symtab_global_start);
+        let frames = found.eh_frame_start;
         write!(
             out,
-            "{files} files, {shares} shares of {parts} parts, dynstr_start {strings}, strtab_start {names}, symtab_local_start {local}, symtab_global_start {global}"
+            "{files} files, {shares} shares of {parts} parts, dynstr_start {strings}, strtab_start {names}, eh_frame_start {frames}, symtab_local_start {local}, symtab_global_start {global}"
         )?;
     }
     Ok(())
@@ -234,6 +252,32 @@ fn push_entry(out: &mut String, layout: &Layout, item: Item) -> Result<(), Alloc
     Ok(())
 }
 
+/// Adds what stands at an entry of the order, at merged strings or at a property.
+fn push_once(out: &mut String, layout: &Layout, item: Item) -> Result<(), AllocError> {
+    match item {
+        Item::Sorted(i) => {
+            if let Some(found) = layout.sorted.as_slice().get(i) {
+                let (group, file, section) = (found.group, found.file, found.section);
+                write!(out, "group {group}, file {file}, section {section}")?;
+            }
+        }
+        Item::Merged(i) => {
+            if let Some(found) = layout.merged.as_slice().get(i) {
+                let (part, count, size) = (found.part, found.strings.len(), size_of(found));
+                write!(out, "part {part}, {count} strings of {size} bytes")?;
+            }
+        }
+        Item::Property(i) => {
+            if let Some(found) = layout.properties.as_slice().get(i) {
+                let ptype = found.ptype;
+                write!(out, "type {ptype}")?;
+            }
+        }
+        _ => {}
+    }
+    Ok(())
+}
+
 /// Adds what stands at an item.
 pub(crate) fn push_found(out: &mut String, layout: &Layout, item: Item) -> Result<(), AllocError> {
     match item {
@@ -245,6 +289,7 @@ pub(crate) fn push_found(out: &mut String, layout: &Layout, item: Item) -> Resul
         Item::Listed(_) | Item::Version(_) | Item::Auxiliary(_) | Item::Thunk(_, _) => {
             push_entry(out, layout, item)
         }
+        Item::Sorted(_) | Item::Merged(_) | Item::Property(_) => push_once(out, layout, item),
         _ => push_header(out, layout, item),
     }
 }

@@ -2,7 +2,8 @@
 //! stand in its order: the first that an item fails is the one that failed, since no item fails an earlier one.
 
 use crate::tests::{
-    FileTest, GroupTest, InputTest, PartTest, PlanTest, SectionTest, SegmentTest, Test,
+    FileTest, GroupTest, InputTest, MergedTest, PartTest, PlanTest, SectionTest, SegmentTest,
+    SortedTest, Test,
 };
 use wild_types::Role;
 
@@ -19,7 +20,7 @@ const MISSING: &str = "no part has a role that each output has";
 const HEADERS: &str = "the part does not stand where headers stand";
 
 /// The tests of clauses 1 to 8 and 10.
-pub(crate) const LAYOUT_ROWS: [Row; 51] = [
+pub(crate) const LAYOUT_ROWS: [Row; 58] = [
     (
         1,
         Test::Plan(PlanTest::PageSize),
@@ -256,9 +257,27 @@ pub(crate) const LAYOUT_ROWS: [Row; 51] = [
     ),
     (
         8,
+        Test::Input(InputTest::Order),
+        "a sorted input section is not named once in `sorted`",
+        "/slot",
+    ),
+    (
+        8,
+        Test::Sorted(SortedTest::Other),
+        "an entry of `sorted` names no sorted input section",
+        "",
+    ),
+    (
+        8,
         Test::Input(InputTest::Length),
         "an input section has not as many bytes as its size, or is without data and has some",
         "/size",
+    ),
+    (
+        8,
+        Test::Input(InputTest::Frames),
+        "the part of an input section of frames is not the part eh_frame",
+        "/part",
     ),
     (
         8,
@@ -274,9 +293,27 @@ pub(crate) const LAYOUT_ROWS: [Row; 51] = [
     ),
     (
         8,
+        Test::Merged(MergedTest::Raw),
+        "the part of merged strings is not a raw one",
+        "/part",
+    ),
+    (
+        8,
+        Test::Plan(PlanTest::IdentityRaw),
+        "the part of the linker's name of itself is not a raw one",
+        "/identity/part",
+    ),
+    (
+        8,
         Test::Plan(PlanTest::Primary),
         "the part of thunks is not a raw one in an allocated section with data",
         "/primary_part",
+    ),
+    (
+        8,
+        Test::Input(InputTest::Front),
+        "bytes of the first group stand in a part whose front merged strings or the linker's name of itself take",
+        "/part",
     ),
     (
         8,
@@ -294,6 +331,12 @@ pub(crate) const LAYOUT_ROWS: [Row; 51] = [
         10,
         Test::Input(InputTest::Fields),
         "the field of a relocation ends behind its input section",
+        "/relocations",
+    ),
+    (
+        10,
+        Test::Input(InputTest::Malformed),
+        "a relocation that the reader of the input failed at, outside frames",
         "/relocations",
     ),
 ];

@@ -5,6 +5,7 @@ mod advice;
 mod clauses;
 mod faults;
 mod fields;
+mod fronts;
 mod headers;
 mod items;
 mod layout_rows;

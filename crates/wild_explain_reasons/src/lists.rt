@@ -1,12 +1,13 @@
 //! Tests of groups, files, input sections, and the lists of names.
 
+use crate::fronts::has_front;
 use crate::headers::{ends_high, first_of, given_before};
-use crate::items::{Item, SectionPlace};
+use crate::items::{Item, SectionPlace, section_at};
 use crate::tests::{EntryTest, FileTest, GroupTest, InputTest};
 use crate::verdict::{Finding, Verdict, due, plain};
 use wild_types::{
-    DynamicSymbol, File, Group, InputRelocation, InputSection, Layout, Role, VersionDefinition,
-    field_bytes, has_role, is_allocated,
+    DynamicSymbol, File, Group, InputRelocation, InputSection, Layout, Role, Slot,
+    VersionDefinition, field_bytes, is_allocated,
 };
 
 /// Whether a group fails a test.
@@ -25,6 +26,7 @@ pub(crate) fn test_group(layout: &Layout, index: usize, group: &Group, test: Gro
             let found = match role {
                 Role::Dynstr => group.dynstr_start,
                 Role::Strtab => group.strtab_start,
+                Role::EhFrame => group.eh_frame_start,
                 Role::SymtabLocal => group.symtab_local_start,
                 _ => group.symtab_global_start,
             };
@@ -152,6 +154,10 @@ fn is_wrong(
         (InputTest::Fields, _) => {
             width != 0 && relocation.offset.saturating_add(width) > section.size
         }
+        (InputTest::Malformed, _) => relocation.malformed && !section.slot.is_frame(),
+        (InputTest::Reversed, _) => {
+            section.reversed && (relocation.offset % 8 != 0 || width != 8)
+        }
         (InputTest::Symbols, Some(symbol)) => symbol.0 >= layout.symbols.len(),
         _ => false,
     }
@@ -185,21 +191,69 @@ pub(crate) fn first_astray(
     for (file, held) in found.files.as_slice().iter().enumerate() {
         for (section, input) in held.sections.as_slice().iter().enumerate() {
             if input.part == part && input.is_filled(layout) {
-                let end = input.address.saturating_add(input.size);
-                let verdict = match test {
-                    InputTest::Behind => due(to < end, to),
-                    _ => due(input.address < from, from),
+                let at = SectionPlace {
+                    group,
+                    file,
+                    section,
                 };
-                if verdict.fails {
-                    let item = Item::Input(SectionPlace {
-                        group,
-                        file,
-                        section,
-                    });
-                    return Some(Finding { item, verdict });
+                if let Some(astray) = astray(input, at, (from, to), test) {
+                    return Some(astray);
                 }
-                from = end;
+                from = input.address.saturating_add(input.size);
             }
+        }
+        if held.role.is_epilogue() {
+            return first_sorted_astray(layout, part, (from, to), test);
+        }
+    }
+    None
+}
+
+/// An input section that begins or ends where a range does not go.
+fn astray(
+    input: &InputSection,
+    at: SectionPlace,
+    range: (u64, u64),
+    test: InputTest,
+) -> Option<Finding> {
+    let (from, to) = range;
+    let end = input.address.saturating_add(input.size);
+    let verdict = match test {
+        InputTest::Behind => due(to < end, to),
+        _ => due(input.address < from, from),
+    };
+    let item = Item::Input(at);
+    if verdict.fails {
+        Some(Finding { item, verdict })
+    } else {
+        None
+    }
+}
+
+/// The same of the sections in a given order, which stand behind those of the last file.
+fn first_sorted_astray(
+    layout: &Layout,
+    part: usize,
+    range: (u64, u64),
+    test: InputTest,
+) -> Option<Finding> {
+    let (mut from, to) = range;
+    for entry in layout.sorted.as_slice() {
+        let at = SectionPlace {
+            group: entry.group,
+            file: entry.file,
+            section: entry.section,
+        };
+        if let Some(input) = section_at(layout, at)
+            && input.part == part
+            && matches!(input.slot, Slot::Sorted)
+            && input.has_bytes(layout)
+        {
+            let found = astray(input, at, (from, to), test);
+            if found.is_some() {
+                return found;
+            }
+            from = input.address.saturating_add(input.size);
         }
     }
     None
@@ -209,28 +263,35 @@ pub(crate) fn first_astray(
 pub(crate) fn test_input(layout: &Layout, section: &InputSection, test: InputTest) -> bool {
     let length = section.bytes.len() as u64;
     let discarded = section.slot.is_discarded();
-    let loaded = section.slot.is_loaded();
+    let role = match layout.parts.as_slice().get(section.part) {
+        Some(part) => part.role,
+        None => Role::Property,
+    };
     match test {
         InputTest::Ends => ends_high(section.address, section.size),
-        InputTest::Before | InputTest::Behind => false,
+        InputTest::Before | InputTest::Behind | InputTest::Order => false,
         InputTest::Length => {
             let bytes = if section.nobits { 0 } else { section.size };
-            !discarded && length != bytes
+            let may_lack = matches!(section.slot, Slot::Merge | Slot::Rela);
+            !discarded && length != bytes && (!may_lack || length != 0)
         }
+        InputTest::Frames => section.slot.is_frame() && role != Role::EhFrame,
         InputTest::Discarded => discarded && (section.address != 0 || length != 0),
-        InputTest::RawPart => match layout.parts.as_slice().get(section.part) {
-            Some(part) => !discarded && !has_role(Role::Raw, part),
-            None => !discarded,
-        },
+        InputTest::RawPart => { !discarded && !section.slot.is_frame() && role != Role::Raw }
+        InputTest::Front => {
+            (length != 0 || section.owns_bytes(layout)) && has_front(layout, section.part)
+        }
         InputTest::Allocation => {
             let allocated = layout.is_allocated_part(section.part);
-            loaded && is_allocated(section.flags) != allocated
+            let written = matches!(section.slot, Slot::Loaded | Slot::Sorted | Slot::Frame);
+            written && is_allocated(section.flags) != allocated
         }
         InputTest::Room => {
             length != 0 && !layout.takes_file_bytes(layout.section_of(section.part))
         }
         InputTest::PartIndex => section.part >= layout.parts.len(),
-        InputTest::Fields | InputTest::Symbols => {
+        InputTest::Words => section.reversed && section.size % 8 != 0,
+        InputTest::Fields | InputTest::Malformed | InputTest::Reversed | InputTest::Symbols => {
             wrong_relocation(layout, section, test).is_some()
         }
         InputTest::Name => section.name.as_slice().contains(&0),

@@ -1,5 +1,6 @@
 //! Tests of the plan as a whole, and what stands there.
 
+use crate::fronts::{ends_without_zero, test_identity};
 use crate::headers::dynamic_before;
 use crate::names::{role_at, role_word};
 use crate::symbols::{behind_reserved, undefined_entries};
@@ -98,6 +99,11 @@ pub(crate) fn test_plan(layout: &Layout, index: usize, test: PlanTest) -> Verdic
         }
         PlanTest::SearchPath => plain(has_zero(&layout.options.rpath)),
         PlanTest::OwnName => plain(has_zero(&layout.options.soname)),
+        PlanTest::IdentityPart
+        | PlanTest::IdentityRaw
+        | PlanTest::IdentitySize
+        | PlanTest::IdentityAlone => test_identity(layout, test),
+        PlanTest::Interpreter => plain(ends_without_zero(layout.interp.as_slice())),
         PlanTest::NoPair | PlanTest::TooMany | PlanTest::NoTable | PlanTest::Versions => {
             plain(true)
         }
@@ -140,6 +146,17 @@ pub(crate) fn push_plan(
         PlanTest::PrimaryPart | PlanTest::Primary => {
             let (part, parts) = (layout.primary_part, layout.parts.len());
             write!(out, "part {part} of {parts} parts")?;
+        }
+        PlanTest::IdentityPart
+        | PlanTest::IdentityRaw
+        | PlanTest::IdentitySize
+        | PlanTest::IdentityAlone => {
+            let (part, size) = (layout.identity.part, layout.identity.bytes.len());
+            write!(out, "part {part}, {size} bytes")?;
+        }
+        PlanTest::Interpreter => {
+            let length = layout.interp.len();
+            write!(out, "{length} bytes")?;
         }
         PlanTest::StaticDynamic | PlanTest::NoTable => push_table(out, layout, index)?,
         PlanTest::Pair | PlanTest::NoPair => {

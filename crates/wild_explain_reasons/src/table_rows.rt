@@ -3,8 +3,8 @@
 
 use crate::layout_rows::Row;
 use crate::tests::{
-    EntryTest, FileTest, GroupTest, InputTest, PartTest, PlanTest, SectionTest, SymbolTest, Test,
-    ThunkTest,
+    EntryTest, FileTest, GroupTest, InputTest, MergedTest, PartTest, PlanTest, SectionTest,
+    SortedTest, SymbolTest, Test, ThunkTest,
 };
 use wild_types::Role;
 
@@ -17,7 +17,7 @@ const SHAPE: &str = "the shape of the GNU hash table";
 const ZERO: &str = "a name has a zero byte; the one that ends a string is added when it is written";
 
 /// Those of the clauses on indexes, slots, tables and names.
-pub(crate) const TABLE_ROWS: [Row; 69] = [
+pub(crate) const TABLE_ROWS: [Row; 81] = [
     (
         9,
         Test::Part(PartTest::Section),
@@ -85,6 +85,24 @@ pub(crate) const TABLE_ROWS: [Row; 69] = [
         Test::Thunk(ThunkTest::Symbol),
         "the symbol of a thunk is not there",
         "/symbol",
+    ),
+    (
+        9,
+        Test::Sorted(SortedTest::Index),
+        "the section that an entry of `sorted` names is not there",
+        "",
+    ),
+    (
+        9,
+        Test::Merged(MergedTest::Part),
+        "the part of merged strings is not there",
+        "/part",
+    ),
+    (
+        9,
+        Test::Plan(PlanTest::IdentityPart),
+        "the part of the linker's name of itself is not there",
+        "/identity/part",
     ),
     (
         9,
@@ -287,6 +305,12 @@ pub(crate) const TABLE_ROWS: [Row; 69] = [
     ),
     (
         16,
+        Test::Group(GroupTest::Start(Role::EhFrame)),
+        START,
+        "/eh_frame_start",
+    ),
+    (
+        16,
         Test::Group(GroupTest::Start(Role::SymtabLocal)),
         START,
         "/symtab_local_start",
@@ -362,4 +386,52 @@ pub(crate) const TABLE_ROWS: [Row; 69] = [
     (19, Test::File(FileTest::Needed), ZERO, "/verneed/versions"),
     (19, Test::Listed(EntryTest::Name), ZERO, "/name"),
     (19, Test::Version(EntryTest::Name), ZERO, "/name"),
+    (
+        19,
+        Test::Plan(PlanTest::Interpreter),
+        "the path of the interpreter does not end with its only zero byte",
+        "/interp",
+    ),
+    (
+        20,
+        Test::Input(InputTest::Words),
+        "a reversed input section has more than whole words of 8 bytes",
+        "/size",
+    ),
+    (
+        20,
+        Test::Input(InputTest::Reversed),
+        "a relocation of a reversed input section is of something else than a whole word",
+        "/relocations",
+    ),
+    (
+        22,
+        Test::Merged(MergedTest::Size),
+        "merged strings are not the room of their part in the first group",
+        "/strings",
+    ),
+    (
+        22,
+        Test::Plan(PlanTest::IdentitySize),
+        "the linker's name of itself is not the room of its part in the first group",
+        "/identity/bytes",
+    ),
+    (
+        22,
+        Test::Property,
+        "an earlier property has the type",
+        "/ptype",
+    ),
+    (
+        22,
+        Test::Merged(MergedTest::Shared),
+        "two items of `merged` with strings name one part",
+        "/part",
+    ),
+    (
+        22,
+        Test::Plan(PlanTest::IdentityAlone),
+        "merged strings stand in the part of the linker's name of itself",
+        "/identity/part",
+    ),
 ];

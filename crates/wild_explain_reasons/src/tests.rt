@@ -33,6 +33,12 @@ pub(crate) enum PlanTest {
     Versions,
     SearchPath,
     OwnName,
+    /// The part of the linker's name of itself.
+    IdentityPart,
+    IdentityRaw,
+    IdentitySize,
+    IdentityAlone,
+    Interpreter,
 }
 
 /// What is asked of a part.
@@ -108,12 +114,18 @@ pub(crate) enum InputTest {
     Ends,
     Before,
     Behind,
+    Order,
     Length,
+    Frames,
     Discarded,
     RawPart,
+    Front,
     Allocation,
     Room,
     Fields,
+    Malformed,
+    Words,
+    Reversed,
     PartIndex,
     Symbols,
     Name,
@@ -141,6 +153,22 @@ pub(crate) enum ThunkTest {
     Place,
     Owner,
     Last,
+}
+
+/// What is asked of an entry of `sorted`.
+#[derive(Clone, Copy)]
+pub(crate) enum SortedTest {
+    Other,
+    Index,
+}
+
+/// What is asked of merged strings.
+#[derive(Clone, Copy)]
+pub(crate) enum MergedTest {
+    Raw,
+    Part,
+    Size,
+    Shared,
 }
 
 /// What is asked of a group.
@@ -177,5 +205,8 @@ pub(crate) enum Test {
     Listed(EntryTest),
     Version(EntryTest),
     Thunk(ThunkTest),
+    Sorted(SortedTest),
+    Merged(MergedTest),
+    Property,
     Auxiliary,
 }

@@ -1,7 +1,10 @@
 pub mod RelocationLemmas
 pub mod WalkLemmas
+pub mod PassLemmas
 pub mod WriteLemmas
+pub mod CountLemmas
 pub mod EntryLemmas
 pub mod FilterLemmas
 pub mod ByteLemmas
+pub mod OrderLemmas
 pub mod TableLemmas

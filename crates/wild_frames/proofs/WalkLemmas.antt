@@ -20,7 +20,7 @@ use Rattle.wild_frames.specs.declared.entry.Found.{Found}
 use Rattle.wild_frames.specs.declared.entry.Found.TheVariants as finds
 use Rattle.wild_frames.specs.declared.walk.Walk.{Walk}
 use Rattle.wild_frames.specs.Frames.{Frames, State, relocations_in, target_first, cie_back, kept_if, described, identified, sized, found, behind, goes_on, after, walk, rest_of, start, unsorted_in, malformed_in, list_error, or_else}
-use Rattle.wild_frames.specs.Walks.{IsSorted, AreMet, Fits, IsOwn, FieldLies, KeptLies, Lies, AreOwn, IsAtStart, IsNext, state_of}
+use Rattle.wild_frames.specs.Walks.{IsSorted, AreMet, Fits, IsOwn, FieldLies, KeptLies, Lies, MovesBack, AreOwn, IsAtStart, IsNext, state_of}
 
 -- ---- one thing
 
@@ -231,6 +231,13 @@ lies s st j finds.End w h = tt
 lies s st j (finds.Tail at) w h = rw h.0 w.within
 lies s st j (finds.Bad y at) w h = tt
 
+pub moves_back : (s : Frames) (st : State) (j : ℕ) (f : Found) → Fits s st j → Facts s st f → MovesBack f
+moves_back s st j (finds.Kept k) w h = let f = h.from in let t = h.to in let l = w.shrinks in omega (arith, l, f, t)
+moves_back s st j (finds.Dropped size) w h = tt
+moves_back s st j finds.End w h = tt
+moves_back s st j (finds.Tail at) w h = tt
+moves_back s st j (finds.Bad y at) w h = tt
+
 pub are_own : (s : Frames) (st : State) (f : Found) (j n m : ℕ) → Facts s st f → (goes_on f ≡ true → IsOwn s st.at (after st f).at j n) → (goes_on f ≡ true → m ≡ j + n) → AreOwn s (slice_range s.relocations j m) f
 are_own s st (finds.Kept k) j n m h o e =
     let eq = e refl in
@@ -295,7 +302,7 @@ sorted_list rs h = right (malformed_in rs) (unsorted_in 0 rs) h
     right None b h = h
     right (Some e) b h = cc
 
-fits_start : (s : Frames) → list_error s.relocations ≡ None → Fits s start 0
+pub fits_start : (s : Frames) → list_error s.relocations ≡ None → Fits s start 0
 fits_start s h = record {
   within = omega arith;
   shrinks = omega arith;

@@ -67,7 +67,8 @@ room_ahead s w v out f h n =
     let t = length-take-le w.to out h.room in
     omega (arith, b, c, l, r, t)
 
-to_on : (s : Frames) (st : State) (f : Found) → Lies s f → goes_on f ≡ true → (after st f).to ≡ st.to + length (found_bytes s f)
+-- where the kept bytes end behind what was found
+pub to_on : (s : Frames) (st : State) (f : Found) → Lies s f → goes_on f ≡ true → (after st f).to ≡ st.to + length (found_bytes s f)
 to_on s st (finds.Kept k) h t = ap (λ (n : ℕ). st.to + n) (sym (length-entry s k h.least h.within))
 to_on s st (finds.Dropped size) h t = omega arith
 to_on s st finds.End h t = cc
@@ -154,84 +155,3 @@ written_start s w out h l =
       errors = ap (λ (x : State). flat_map found_errors (rest_of s x)) e;
       whole = l;
     }
-
--- ---- counting
-
--- so much is counted as the walk has passed
-pub record IsCounted (s : Frames) (w : Walk) (fdes : ℕ) : Type 0 where
-  pub fits : Fits s (state_of w) w.relocation
-  pub few : fdes ≤ w.at
-  pub bytes : w.to + length (flat_map (found_bytes s) (rest_of s (state_of w))) ≡ length (flat_map (found_bytes s) (rest_of s start))
-  pub table : fdes + length (flat_map fde_of (rest_of s (state_of w))) ≡ length (flat_map fde_of (rest_of s start))
-
-pub counted_start : (s : Frames) (w : Walk) → IsAtStart s w → IsCounted s w 0
-counted_start s w h =
-    let e = h.state in
-    let z : w.to ≡ 0 = ap (λ (x : State). x.to) e in
-    let b = ap (λ (x : State). length (flat_map (found_bytes s) (rest_of s x))) e in
-    let f = ap (λ (x : State). length (flat_map fde_of (rest_of s x))) e in
-    record { fits = h.fits; few = omega arith; bytes = omega (arith, z, b); table = omega (arith, f) }
-
-pub one_fde : (f : Found) → length (fde_of f) ≤ 1
-one_fde (finds.Kept k) = elim (cases_Bool (k.id == 0)) [ inl t ↦ rw t (omega arith) | inr n ↦ rw n (omega arith) ]
-one_fde (finds.Dropped size) = omega arith
-one_fde finds.End = omega arith
-one_fde (finds.Tail at) = omega arith
-one_fde (finds.Bad y at) = omega arith
-
-pub counted_on : (s : Frames) (w v : Walk) (fdes more : ℕ) (f : Found) → IsCounted s w fdes → IsNext s (state_of w) (state_of v) f → Lies s f → goes_on f ≡ true
-    → state_of v ≡ after (state_of w) f → Fits s (state_of v) v.relocation → w.at < v.at → more ≡ fdes + length (fde_of f) → IsCounted s v more
-counted_on s w v fdes more f h n l t is fits further m =
-    let moved : v.to ≡ w.to + length (found_bytes s f) = ap (λ (x : State). x.to) is ∙ to_on s (state_of w) f l t in
-    let b = simp length-append at (ap length (on (found_bytes s) s (state_of w) (state_of v) f n t)) in
-    let d = simp length-append at (ap length (on fde_of s (state_of w) (state_of v) f n t)) in
-    let hb = h.bytes in
-    let ht = h.table in
-    let few = h.few in
-    let one = one_fde f in
-    record {
-      fits = fits;
-      few = omega (arith, one, m, few, further);
-      bytes = omega (arith, moved, b, hb);
-      table = omega (arith, m, d, ht);
-    }
-
-pub counted_bytes : (s : Frames) (w v : Walk) (fdes : ℕ) (f : Found) → IsCounted s w fdes → IsNext s (state_of w) (state_of v) f → goes_on f ≡ false
-    → w.to + length (found_bytes s f) ≡ length (flat_map (found_bytes s) (rest_of s start))
-counted_bytes s w v fdes f h n t =
-    let b = ap length (last (found_bytes s) s (state_of w) (state_of v) f n t) in
-    let hb = h.bytes in
-    omega (arith, b, hb)
-
-none_last : (f : Found) → goes_on f ≡ false → length (fde_of f) ≡ 0
-none_last (finds.Kept k) t = cc
-none_last (finds.Dropped size) t = cc
-none_last finds.End t = refl
-none_last (finds.Tail at) t = refl
-none_last (finds.Bad y at) t = refl
-
-pub counted_fdes : (s : Frames) (w v : Walk) (fdes : ℕ) (f : Found) → IsCounted s w fdes → IsNext s (state_of w) (state_of v) f → goes_on f ≡ false
-    → fdes ≡ length (flat_map fde_of (rest_of s start))
-counted_fdes s w v fdes f h n t =
-    let b = ap length (last fde_of s (state_of w) (state_of v) f n t) in
-    let z = none_last f t in
-    let ht = h.table in
-    omega (arith, b, ht, z)
-
-length-tail : (bs : List ℕ) → length (tail_of bs) ≤ length bs
-unfolding tail_of
-length-tail bs = elim (cases_Bool ((length bs == 4) && (number_at bs 0 4 == 0))) [ inl t ↦ rw t (omega arith) | inr n ↦ rw n (omega arith) ]
-
-short_last : (s : Frames) (st : State) (f : Found) → Facts s st f → goes_on f ≡ false → length (found_bytes s f) ≤ length s.bytes - st.at
-short_last s st (finds.Kept k) l t = cc
-short_last s st (finds.Dropped size) l t = cc
-short_last s st finds.End l t = omega arith
-short_last s st (finds.Tail at) l t = (let e = l.0 in let a = length-tail (drop at s.bytes) in let d = length-drop at s.bytes in omega (arith, e, a, d))
-short_last s st (finds.Bad y at) l t = omega arith
-
-pub small_last : (s : Frames) (w : Walk) (fdes : ℕ) (f : Found) → IsCounted s w fdes → f ≡ found s (state_of w) → goes_on f ≡ false → w.to + length (found_bytes s f) ≤ length s.bytes
-small_last s w fdes f h e t =
-    let m = short_last s (state_of w) f (subst (Facts s (state_of w)) (sym e) (found_facts s (state_of w))) t in
-    let a = h.fits.within in
-    let b = h.fits.shrinks in
-    omega (arith, m, a, b)

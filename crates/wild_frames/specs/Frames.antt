@@ -15,7 +15,7 @@ use Rattle.wild_frames.specs.declared.frames.Target.{Target}
 use Rattle.wild_frames.specs.declared.frames.Target.TheVariants as target
 use Rattle.wild_frames.specs.declared.entry.Cie.{Cie}
 use Rattle.wild_frames.specs.declared.entry.KeptEntry.{KeptEntry}
-use Rattle.wild_frames.specs.declared.entry.Why.TheVariants as why
+use Rattle.wild_types.specs.declared.fault.Why.TheVariants as why
 use Rattle.wild_frames.specs.declared.entry.Found.{Found}
 use Rattle.wild_frames.specs.declared.entry.Found.TheVariants as finds
 use Rattle.wild_frames.specs.declared.entry.BadFrame.{BadFrame}

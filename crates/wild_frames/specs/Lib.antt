@@ -3,3 +3,4 @@ pub mod Faults
 pub mod Walks
 pub mod Reading
 pub mod Table
+pub mod Passes

@@ -1,6 +1,7 @@
 -- The search table of frames (LSB, "The .eh_frame_hdr section").
 --   entry_of header f     the entry of an FDE
 --   rank z                numbers in the order of signed ones
+--   table_of ..           its bytes: the header and the entries in order of their code
 --   IsTable ..            bytes are the header and the entries in order of their code
 --   IsLastBefore x bs r   r is the last entry of a table that stands at or before a place
 use Rattle.std.specs.Prelude.{◌≡◌, ℕ, ℤ, pos, ◌-ℤ◌, ◌≤ℤ◌, ◌+◌, ◌-◌, ◌*◌, ◌/◌, ◌%◌, ◌^◌, ◌<◌, ◌≤◌, ◌⊎◌, ◌&&◌, Bool, true, if◌then◌else◌, nat_lt, nat_le, List, [], ◌∷◌, ◌++◌, length, map, All, AllPairs, Contains, Option, Some, None, Result, Ok, Err}
@@ -56,6 +57,16 @@ rank z = (cast_unsigned w32 z + 2 ^ 31) % 2 ^ 32
 abbrev pub rank_of : EhFrameHdrEntry → ℕ
 rank_of e = rank e.frame_ptr
 
+-- an entry among those in order, ahead of those that its code does not come behind
+abbrev pub put_in_order : EhFrameHdrEntry → List EhFrameHdrEntry → List EhFrameHdrEntry
+put_in_order e [] = e ∷ []
+put_in_order e (f ∷ fs) = if nat_lt (rank_of f) (rank_of e) then f ∷ put_in_order e fs else e ∷ (f ∷ fs)
+
+-- the entries in the order of their code, those of one place as they stood
+unfoldable pub in_order : List EhFrameHdrEntry → List EhFrameHdrEntry
+in_order [] = []
+in_order (e ∷ es) = put_in_order e (in_order es)
+
 abbrev pub hdr_bytes : EhFrameHdr → List ℕ
 hdr_bytes h = spell (eh_frame_hdr_fields h)
 
@@ -67,6 +78,10 @@ pub record IsTable (header eh_frame : ℕ) (fdes : List Fde) (bytes : List ℕ) 
   pub all : IsPermutation (map (entry_of header) fdes) entries
   pub sorted : IsNonDecreasingBy rank_of entries
   pub is : bytes ≡ hdr_bytes (header_of header eh_frame (length fdes)) ++ flat_map entry_bytes entries
+
+-- the bytes of the table
+unfoldable pub table_of : ℕ → ℕ → List Fde → List ℕ
+table_of header eh_frame fdes = hdr_bytes (header_of header eh_frame (length fdes)) ++ flat_map entry_bytes (in_order (map (entry_of header) fdes))
 
 -- memory was refused
 abbrev pub out_of_memory : TableError

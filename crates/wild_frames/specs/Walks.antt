@@ -8,11 +8,15 @@ use Rattle.wild_frames.specs.declared.entry.Found.{Found}
 use Rattle.wild_frames.specs.declared.entry.Found.TheVariants as finds
 use Rattle.wild_frames.specs.declared.entry.BadFrame.{BadFrame}
 use Rattle.wild_frames.specs.declared.walk.Walk.{Walk}
+use Rattle.wild_frames.specs.declared.walk.Spot.{Spot}
 use Rattle.wild_frames.specs.Frames.{Frames, State, unsorted_in, list_error, goes_on, relocations_in, start, rest_of, found_bytes}
 use Rattle.wild_frames.specs.Faults.{found_errors}
 
 abbrev pub state_of : Walk → State
 state_of w = record { at = w.at; to = w.to; cies = w.cies.items }
+
+abbrev pub spot_state : Spot → State
+spot_state p = record { at = p.at; to = p.to; cies = p.cies.now }
 
 -- relocations in order of their offsets
 pub record IsSorted (rs : List InputRelocation) : Type 0 where
@@ -54,6 +58,11 @@ abbrev pub Lies : Frames → Found → Type 0
 Lies s (finds.Kept k) = KeptLies s k
 Lies s (finds.Tail from) = from ≤ length s.bytes
 Lies s _ = Unit {0}
+
+-- no kept entry moves further on
+abbrev pub MovesBack : Found → Type 0
+MovesBack (finds.Kept k) = k.to ≤ k.from
+MovesBack _ = Unit {0}
 
 -- the relocations are those of the entry that is kept
 abbrev pub AreOwn : Frames → List InputRelocation → Found → Type 0

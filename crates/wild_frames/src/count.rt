@@ -1,14 +1,13 @@
 //! How many bytes and FDEs are kept, without writing them.
-ghost use Rattle.std.specs.Prelude.{◌≡◌, length, IfOk};
+ghost use Rattle.std.specs.Prelude.{◌≡◌, length};
 ghost use Rattle.std.specs.List.{flat_map};
 ghost use Rattle.wild_frames.specs.Frames.{start, rest_of, found_bytes, fde_of, fdes_in, frame_bytes};
-ghost use Rattle.wild_frames.specs.Walks.{IsAtStart};
+ghost use Rattle.wild_frames.specs.Passes.{IsReady};
 
 use crate::entry::Found;
 use crate::frames::{FrameSource, byte_count};
-use crate::walk::Walk;
+use crate::pass::Pass;
 use crate::write::{count_bytes, goes_on};
-use std::alloc::{AllocError, Global};
 
 /// What is kept of a section's frames.
 #[derive(Clone, Copy)]
@@ -30,32 +29,33 @@ fn count_fdes(found: &Found) -> u64
 }
 
 /// What is kept from the start of a walk on.
-fn count_rest<F: FrameSource>(frames: &F, first: Walk) -> Result<FrameCounts, AllocError>
-    requires { IsAtStart (F.frames frames.now) first }
-    ensures bytes { IfOk result (λ c. c.bytes ≡ length (flat_map (found_bytes (F.frames frames.now)) (rest_of (F.frames frames.now) start))) }
-    ensures fdes { IfOk result (λ c. c.fdes ≡ length (flat_map fde_of (rest_of (F.frames frames.now) start))) }
+fn count_rest<F: FrameSource>(frames: &F, first: Pass) -> FrameCounts
+    requires { IsReady (F.frames frames.now) first }
+    ensures bytes { result.bytes ≡ length (flat_map (found_bytes (F.frames frames.now)) (rest_of (F.frames frames.now) start)) }
+    ensures fdes { result.fdes ≡ length (flat_map fde_of (rest_of (F.frames frames.now) start)) }
 {
     let mut walk = first;
     let mut fdes = 0;
     loop {
         let to = walk.to;
         let _length = byte_count(frames);
-        let found = walk.step(frames)?;
+        let found = walk.step(frames);
         if !goes_on(&found) {
             let bytes = to + count_bytes(frames, &found) as u64;
-            return Ok(FrameCounts { bytes, fdes });
+            return FrameCounts { bytes, fdes };
         }
         fdes += count_fdes(&found);
     }
 }
 
-/// How many bytes are kept of a section's frames, and how many FDEs. The section's bytes are read once; nothing is written.
-pub fn count_frames<F: FrameSource>(alloc: Global, frames: &F) -> Result<FrameCounts, AllocError>
-    ensures bytes { IfOk result (λ c. c.bytes ≡ length (frame_bytes (F.frames frames.now))) }
-    ensures fdes { IfOk result (λ c. c.fdes ≡ length (fdes_in (F.frames frames.now))) }
+/// How many bytes are kept of a section's frames, and how many FDEs. The section's bytes are read once; nothing is written, and no
+/// memory is taken.
+pub fn count_frames<F: FrameSource>(frames: &F) -> FrameCounts
+    ensures bytes { result.bytes ≡ length (frame_bytes (F.frames frames.now)) }
+    ensures fdes { result.fdes ≡ length (fdes_in (F.frames frames.now)) }
 {
-    match Walk::start(alloc, frames) {
+    match Pass::start(frames) {
         Ok(walk) => count_rest(frames, walk),
-        Err(_) => Ok(FrameCounts { bytes: 0, fdes: 0 }),
+        Err(_) => FrameCounts { bytes: 0, fdes: 0 },
     }
 }

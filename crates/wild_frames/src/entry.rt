@@ -1,5 +1,6 @@
 //! Entries of frames: CIEs (common information entries) and FDEs (frame description entries).
 use std::alloc::AllocError;
+use wild_types::Why;
 
 /// A CIE that was met.
 #[derive(Clone, Copy)]
@@ -21,25 +22,6 @@ pub struct KeptEntry {
     pub to: u64,
     /// Its id there: 0 of a CIE, of an FDE the distance from its id word back to its CIE.
     pub id: u64,
-}
-
-/// What is wrong with frames.
-#[derive(Clone, Copy, Debug, PartialEq, Eq)]
-pub enum Why {
-    /// The reader of the input failed at a relocation.
-    Malformed,
-    /// A relocation stands before the one in front of it.
-    Unsorted,
-    /// An entry goes past the section's end.
-    Cut,
-    /// An entry has no room for its id, or a kept FDE none for where its code begins.
-    Short,
-    /// The code of an FDE is that of no symbol, or of one that stands in no input section.
-    PcBegin,
-    /// Where an FDE points there is no CIE.
-    Cie,
-    /// A field goes past its entry.
-    Field,
 }
 
 /// What is wrong, and at which offset of the section: the entry's, or the relocation's.

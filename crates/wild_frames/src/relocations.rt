@@ -4,9 +4,9 @@ ghost use Rattle.std.specs.List.{filter, list_all};
 ghost use Rattle.wild_frames.specs.Frames.{malformed_in, unsorted_in, list_error, target_first};
 ghost use Rattle.wild_frames.specs.Walks.{IsSorted};
 
-use crate::entry::{BadFrame, Why};
+use crate::entry::BadFrame;
 use crate::frames::{FrameSource, Target};
-use wild_types::InputRelocation;
+use wild_types::{InputRelocation, Why};
 
 /// The first relocation that could not be read.
 #[tactic(auto, unfolding(crate::specs::Frames::malformed_in))]

@@ -4,7 +4,7 @@ ghost use Rattle.std.specs.Ordering.{nat_cmp};
 ghost use Rattle.std.specs.List.{flat_map};
 ghost use Rattle.std.specs.List.Sorted.{IsPermutation, IsNonDecreasingBy, IsStableByKey};
 ghost use Rattle.wild_records.specs.Frames.{eh_frame_hdr_size, eh_frame_hdr_entry_size};
-ghost use Rattle.wild_frames.specs.Table.{distance, far, entry_of, far_fde, table_errors, header_of, rank, rank_of, hdr_bytes, entry_bytes, IsTable, Answers};
+ghost use Rattle.wild_frames.specs.Table.{distance, far, entry_of, far_fde, table_errors, header_of, rank, rank_of, hdr_bytes, entry_bytes, in_order, IsTable, table_of, Answers};
 
 use rayon::prelude::*;
 use std::alloc::{AllocError, AllocFailed, Global};
@@ -170,6 +170,23 @@ fn put_entries(entries: &[EhFrameHdrEntry], out: &mut [u8])
     }
 }
 
+/// The entries behind the header, in order of their code.
+fn put_sorted(
+    rt: &(impl Threads + Sync),
+    alloc: Global,
+    entries: &mut [EhFrameHdrEntry],
+    out: &mut [u8],
+) -> Result<(), AllocError>
+    requires { length out.old ≡ 12 + 8 * length entries.old }
+    ensures bytes { OnOk result (out.new ≡ take 12 out.old ++ flat_map entry_bytes (in_order entries.old)) }
+    ensures all { OnOk result (IsPermutation entries.old (in_order entries.old)) }
+    ensures sorted { OnOk result (IsNonDecreasingBy rank_of (in_order entries.old)) }
+{
+    sort_eh_frame_hdr_entries(rt, alloc, entries)?;
+    put_entries(entries, out);
+    Ok(())
+}
+
 /// The search table of the FDEs that are kept, or the first distance that is too far.
 pub fn write_search_table(
     rt: &(impl Threads + Sync),
@@ -183,11 +200,11 @@ pub fn write_search_table(
     requires few { length fdes.now < 2 ^ 32 }
     requires place { header + 4 < 2 ^ 64 }
     ensures faults { Answers result (table_errors header eh_frame fdes.now) }
-    ensures table { OnOk result (IsTable header eh_frame fdes.now out.new) }
+    ensures table { OnOk result (out.new ≡ table_of header eh_frame fdes.now) }
+    ensures sorted { OnOk result (IsTable header eh_frame fdes.now out.new) }
 {
     write_eh_frame_hdr(header, eh_frame, fdes.len() as u32, out)?;
     let mut entries = entries_of(alloc, header, fdes)?;
-    sort_eh_frame_hdr_entries(rt, alloc, &mut entries)?;
-    put_entries(&entries, out);
+    put_sorted(rt, alloc, &mut entries, out)?;
     Ok(())
 }

@@ -1,13 +1,13 @@
 //! A walk over the entries of a section.
 ghost use Rattle.std.specs.Prelude.{◌≡◌, ◌<◌, ◌≤◌, ◌+◌, ◌^◌, length, AllPairs, slice_range, true, false, IfOk, OnOk};
 ghost use Rattle.wild_frames.specs.Frames.{cie_at, cie_back, kept_if, described, identified, sized, found, after, goes_on, relocations_in};
-ghost use Rattle.wild_frames.specs.Walks.{state_of, Fits, IsOwn, Lies, AreOwn, Starts, IsNext};
+ghost use Rattle.wild_frames.specs.Walks.{state_of, spot_state, Fits, IsOwn, Lies, MovesBack, AreOwn, Starts, IsNext};
 
-use crate::entry::{BadFrame, Cie, Found, KeptEntry, Why};
+use crate::entry::{BadFrame, Cie, Found, KeptEntry};
 use crate::frames::{FrameSource, Target, byte_count};
 use crate::relocations::{count_before, fields_lie, list_error, target_first};
 use std::alloc::{AllocError, Global};
-use wild_types::InputRelocation;
+use wild_types::{InputRelocation, Why};
 use wild_words::read_u32;
 
 /// Where a walk is.
@@ -21,6 +21,19 @@ pub struct Walk {
     pub to: u64,
     /// The CIEs that it met.
     pub cies: Vec<Cie>,
+}
+
+/// Where frames are read.
+#[derive(Clone, Copy)]
+pub(crate) struct Spot<'a> {
+    /// Its offset in the section.
+    pub(crate) at: u64,
+    /// The first relocation from there on.
+    pub(crate) relocation: usize,
+    /// The offset of the next kept entry in the kept bytes.
+    pub(crate) to: u64,
+    /// CIEs before it, among which an FDE's is.
+    pub(crate) cies: &'a [Cie],
 }
 
 /// The new place of the CIE that stands at an offset. Time log n.
@@ -52,13 +65,13 @@ fn cie_back(at: u64, id: u64, cies: &[Cie]) -> Option<u64>
 fn kept_if<F: FrameSource>(
     frames: &F,
     own: &[InputRelocation],
-    walk: &Walk,
+    spot: &Spot<'_>,
     size: u64,
     id: u64,
 ) -> Found
-    ensures { result ≡ kept_if (F.frames frames.now).width own.now walk.now.at walk.now.to size id }
+    ensures { result ≡ kept_if (F.frames frames.now).width own.now spot.now.at spot.now.to size id }
 {
-    let at = walk.at;
+    let at = spot.at;
     if !fields_lie(frames, own, at as u128 + size as u128) {
         return Found::Bad {
             why: Why::Field,
@@ -69,7 +82,7 @@ fn kept_if<F: FrameSource>(
         entry: KeptEntry {
             from: at,
             size,
-            to: walk.to,
+            to: spot.to,
             id,
         },
     }
@@ -79,15 +92,15 @@ fn kept_if<F: FrameSource>(
 fn described<F: FrameSource>(
     frames: &F,
     own: &[InputRelocation],
-    walk: &Walk,
+    spot: &Spot<'_>,
     size: u64,
     target: Target,
     cie: Option<u64>,
 ) -> Found
-    requires { walk.now.to + 4 < 2 ^ 64 }
-    ensures { result ≡ described (F.frames frames.now).width target cie own.now walk.now.at walk.now.to size }
+    requires { spot.now.to + 4 < 2 ^ 64 }
+    ensures { result ≡ described (F.frames frames.now).width target cie own.now spot.now.at spot.now.to size }
 {
-    let offset = walk.at;
+    let offset = spot.at;
     match (target, cie) {
         (Target::NoSection, _) => Found::Bad {
             why: Why::PcBegin,
@@ -103,7 +116,7 @@ fn described<F: FrameSource>(
         },
         (Target::Discarded, Some(_)) => Found::Dropped { size },
         (Target::Loaded, Some(cie)) => {
-            kept_if(frames, own, walk, size, (walk.to + 4).saturating_sub(cie))
+            kept_if(frames, own, spot, size, (spot.to + 4).saturating_sub(cie))
         }
     }
 }
@@ -113,42 +126,42 @@ fn described<F: FrameSource>(
 fn identified<F: FrameSource>(
     frames: &F,
     own: &[InputRelocation],
-    walk: &Walk,
+    spot: &Spot<'_>,
     size: u64,
     id: u32,
 ) -> Found
-    requires met { AllPairs (λ c d. c.from < d.from) walk.now.cies.items }
-    requires far { walk.now.at + 8 < 2 ^ 64 }
-    requires shrinks { walk.now.to ≤ walk.now.at }
-    ensures { result ≡ identified (F.frames frames.now) own.now (state_of walk.now) size id }
+    requires met { AllPairs (λ c d. c.from < d.from) spot.now.cies.now }
+    requires far { spot.now.at + 8 < 2 ^ 64 }
+    requires shrinks { spot.now.to ≤ spot.now.at }
+    ensures { result ≡ identified (F.frames frames.now) own.now (spot_state spot.now) size id }
 {
     if id == 0 {
-        return kept_if(frames, own, walk, size, 0);
+        return kept_if(frames, own, spot, size, 0);
     }
-    let target = target_first(frames, walk.at + 8, own);
-    let cie = cie_back(walk.at + 4, id as u64, walk.cies.as_slice());
-    described(frames, own, walk, size, target, cie)
+    let target = target_first(frames, spot.at + 8, own);
+    let cie = cie_back(spot.at + 4, id as u64, spot.cies);
+    described(frames, own, spot, size, target, cie)
 }
 
 /// How many relocations the entry has that ends there.
-fn count_own<F: FrameSource>(frames: &F, walk: &Walk, end: u64) -> usize
-    requires fits { Fits (F.frames frames.now) (state_of walk.now) walk.now.relocation }
-    requires end { walk.now.at ≤ end }
-    ensures { IsOwn (F.frames frames.now) walk.now.at end walk.now.relocation result }
+fn count_own<F: FrameSource>(frames: &F, spot: &Spot<'_>, end: u64) -> usize
+    requires fits { Fits (F.frames frames.now) (spot_state spot.now) spot.now.relocation }
+    requires end { spot.now.at ≤ end }
+    ensures { IsOwn (F.frames frames.now) spot.now.at end spot.now.relocation result }
 {
-    count_before(&frames.relocations()[walk.relocation..], end)
+    count_before(&frames.relocations()[spot.relocation..], end)
 }
 
 /// An entry of that size, with the number of its relocations.
 #[tactic(auto, unfolding(crate::specs::Frames::sized))]
-fn sized<F: FrameSource>(frames: &F, walk: &Walk, size: u64) -> (Found, usize)
-    requires fits { Fits (F.frames frames.now) (state_of walk.now) walk.now.relocation }
-    requires room { walk.now.at + 8 ≤ length (F.frames frames.now).bytes }
-    ensures found { result.0 ≡ sized (F.frames frames.now) (state_of walk.now) size }
-    ensures own { goes_on result.0 ≡ true → IsOwn (F.frames frames.now) walk.now.at (walk.now.at + size) walk.now.relocation result.1 }
-    ensures few { walk.now.relocation + result.1 ≤ length (F.frames frames.now).relocations }
+fn sized<F: FrameSource>(frames: &F, spot: &Spot<'_>, size: u64) -> (Found, usize)
+    requires fits { Fits (F.frames frames.now) (spot_state spot.now) spot.now.relocation }
+    requires room { spot.now.at + 8 ≤ length (F.frames frames.now).bytes }
+    ensures found { result.0 ≡ sized (F.frames frames.now) (spot_state spot.now) size }
+    ensures own { goes_on result.0 ≡ true → IsOwn (F.frames frames.now) spot.now.at (spot.now.at + size) spot.now.relocation result.1 }
+    ensures few { spot.now.relocation + result.1 ≤ length (F.frames frames.now).relocations }
 {
-    let offset = walk.at;
+    let offset = spot.at;
     let bytes = frames.bytes();
     if bytes.len() as u64 - offset < size {
         return (
@@ -168,21 +181,21 @@ fn sized<F: FrameSource>(frames: &F, walk: &Walk, size: u64) -> (Found, usize)
             0,
         );
     }
-    let count = count_own(frames, walk, offset + size);
-    let own = &frames.relocations()[walk.relocation..walk.relocation + count];
+    let count = count_own(frames, spot, offset + size);
+    let own = &frames.relocations()[spot.relocation..spot.relocation + count];
     let id = read_u32(bytes, offset as usize + 4);
-    (identified(frames, own, walk, size, id), count)
+    (identified(frames, own, spot, size, id), count)
 }
 
-/// What stands where the walk is, with the number of its relocations.
+/// What stands there, with the number of its relocations.
 #[tactic(auto, unfolding(crate::specs::Frames::found))]
-fn found<F: FrameSource>(frames: &F, walk: &Walk) -> (Found, usize)
-    requires fits { Fits (F.frames frames.now) (state_of walk.now) walk.now.relocation }
-    ensures found { result.0 ≡ found (F.frames frames.now) (state_of walk.now) }
-    ensures own { goes_on result.0 ≡ true → IsOwn (F.frames frames.now) walk.now.at (after (state_of walk.now) result.0).at walk.now.relocation result.1 }
-    ensures few { walk.now.relocation + result.1 ≤ length (F.frames frames.now).relocations }
+pub(crate) fn found<F: FrameSource>(frames: &F, spot: &Spot<'_>) -> (Found, usize)
+    requires fits { Fits (F.frames frames.now) (spot_state spot.now) spot.now.relocation }
+    ensures found { result.0 ≡ found (F.frames frames.now) (spot_state spot.now) }
+    ensures own { goes_on result.0 ≡ true → IsOwn (F.frames frames.now) spot.now.at (after (spot_state spot.now) result.0).at spot.now.relocation result.1 }
+    ensures few { spot.now.relocation + result.1 ≤ length (F.frames frames.now).relocations }
 {
-    let at = walk.at;
+    let at = spot.at;
     let bytes = frames.bytes();
     if bytes.len() as u64 - at < 8 {
         return (Found::Tail { from: at }, 0);
@@ -191,7 +204,7 @@ fn found<F: FrameSource>(frames: &F, walk: &Walk) -> (Found, usize)
     if length == 0 {
         return (Found::End, 0);
     }
-    sized(frames, walk, 4 + length as u64)
+    sized(frames, spot, 4 + length as u64)
 }
 
 impl Walk {
@@ -208,6 +221,22 @@ impl Walk {
             to: 0,
             cies: Vec::new(alloc),
         })
+    }
+
+    /// What stands where the walk is, with the number of its relocations.
+    fn look<F: FrameSource>(&self, frames: &F) -> (Found, usize)
+        requires fits { Fits (F.frames frames.now) (state_of self.now) self.now.relocation }
+        ensures found { result.0 ≡ found (F.frames frames.now) (state_of self.now) }
+        ensures own { goes_on result.0 ≡ true → IsOwn (F.frames frames.now) self.now.at (after (state_of self.now) result.0).at self.now.relocation result.1 }
+        ensures few { self.now.relocation + result.1 ≤ length (F.frames frames.now).relocations }
+    {
+        let spot = Spot {
+            at: self.at,
+            relocation: self.relocation,
+            to: self.to,
+            cies: self.cies.as_slice(),
+        };
+        found(frames, &spot)
     }
 
     /// Behind what was found.
@@ -248,6 +277,7 @@ impl Walk {
         ensures state { IfOk result (λ f. state_of self.new ≡ after (state_of self.old) f) }
         ensures next { IfOk result (λ f. IsNext (F.frames frames.now) (state_of self.old) (state_of self.new) f) }
         ensures lies { IfOk result (λ f. Lies (F.frames frames.now) f) }
+        ensures back { IfOk result MovesBack }
         ensures counted { IfOk result (λ f. (self.old.relocation ≤ self.new.relocation) × (self.new.relocation ≤ length (F.frames frames.now).relocations)) }
         ensures own { IfOk result (λ f. AreOwn (F.frames frames.now) (slice_range (F.frames frames.now).relocations self.old.relocation self.new.relocation) f) }
         ensures further { IfOk result (λ f. goes_on f ≡ true → (self.old.at < self.new.at) × (self.new.at ≤ length (F.frames frames.now).bytes)) }
@@ -255,7 +285,7 @@ impl Walk {
     {
         let _length = byte_count(frames);
         let _count = frames.relocations().len();
-        let (found, count) = found(frames, self);
+        let (found, count) = self.look(frames);
         self.pass(found, count)?;
         Ok(found)
     }

@@ -1,5 +1,5 @@
 //! The kept bytes of a section.
-ghost use Rattle.std.specs.Prelude.{◌≡◌, [], ◌<◌, ◌≤◌, ◌+◌, length, drop, OnOk, IfOk, IfErr, true, false};
+ghost use Rattle.std.specs.Prelude.{◌≡◌, [], ◌++◌, ◌<◌, ◌≤◌, ◌+◌, length, drop, OnOk, IfOk, IfErr, true, false};
 ghost use Rattle.std.specs.List.{flat_map};
 ghost use Rattle.wild_words.specs.Words.{word, place};
 ghost use Rattle.wild_frames.specs.Frames.{start, entry_bytes, tail_of, found_bytes, rest_of, frame_bytes, goes_on};
@@ -9,7 +9,7 @@ ghost use Rattle.wild_frames.specs.Walks.{Lies, IsAtStart, IsWritten};
 use crate::entry::{BadFrame, Found, FrameError, KeptEntry};
 use crate::frames::FrameSource;
 use crate::walk::Walk;
-use std::alloc::Global;
+use std::alloc::{AllocError, Global};
 use wild_words::{put, read_u32};
 
 /// The low four bytes of an id.
@@ -92,6 +92,35 @@ fn write_found<F: FrameSource>(frames: &F, found: &Found, room: &mut [u8]) -> Re
             }));
         }
         Found::Dropped { .. } | Found::End => {}
+    }
+    Ok(())
+}
+
+/// What stands for what was found, behind other bytes. The bytes of what is not kept are none.
+#[tactic(auto, unfolding(crate::specs::Frames::entry_bytes, crate::specs::Frames::tail_of))]
+pub fn add_found<F: FrameSource>(
+    frames: &F,
+    found: &Found,
+    out: &mut Vec<u8>,
+) -> Result<(), AllocError>
+    requires { Lies (F.frames frames.now) found.now }
+    ensures { OnOk result (out.new.items ≡ out.old.items ++ found_bytes (F.frames frames.now) found.now) }
+{
+    let bytes = frames.bytes();
+    match found {
+        Found::Kept { entry } => {
+            let from = entry.from as usize;
+            let at = out.len();
+            out.extend_from_slice(&bytes[from..from + entry.size as usize])?;
+            if entry.id != 0 {
+                put_id(&mut out[at..], entry.id);
+            }
+        }
+        Found::Tail { from } => {
+            let from = *from as usize;
+            out.extend_from_slice(&bytes[from..from + count_tail(frames, from as u64)])?;
+        }
+        _ => {}
     }
     Ok(())
 }

@@ -10,6 +10,8 @@ use Rattle.wild_types.specs.declared.part.Part.{Part}
 use Rattle.wild_types.specs.declared.section.Section.{Section}
 use Rattle.wild_types.specs.declared.section.Segment.{Segment}
 use Rattle.wild_clauses.specs.declared.loaded.Side.TheVariants as side
+use Rattle.wild_types.specs.declared.input.Slot.{Slot}
+use Rattle.wild_types.specs.declared.input.Slot.TheVariants as slot
 use Rattle.wild_types.specs.declared.input.InputSection.{InputSection}
 use Rattle.wild_types.specs.declared.layout.Layout.{Layout}
 use Rattle.wild_types.specs.Kinds.{is_partial_link}
@@ -19,6 +21,7 @@ use Rattle.wild_types.specs.Parts.{is_loaded_role}
 use Rattle.wild_clauses.specs.Segments.{at_equal_distance, has_byte, has_file_bytes, all_below, bytes_are_loaded}
 use Rattle.wild_clauses.proofs.CoverLemmas.{all_below_each}
 use Rattle.wild_types.specs.FilePlaces.{bool_eq}
+use Rattle.wild_clauses.specs.Contents.{has_room}
 use Rattle.wild_clauses.specs.Indexes.{part_index_fits}
 use Rattle.wild_layout.specs.Loadable.{CarriesByte, IsMapped, IsPartMapped}
 use Rattle.wild_geometry.proofs.LaidLemmas.{Laid}
@@ -139,10 +142,14 @@ IsPartMapped-from_laid l h i d low kind loaded k lt =
 
 -- ---- input sections
 
+room_of_loaded : (k : Slot) → is_loaded k ≡ true → has_room k ≡ true
+room_of_loaded slot.Loaded h = refl
+room_of_loaded other h = cc
+
 -- the output section of an input section that is allocated
 output_of : (l : Layout) → Laid l → (s : InputSection) → Holds l s → is_loaded s.slot ≡ true → allocated s.flags ≡ true → (st : Stood l s) → Filled l st.part.section
 output_of l h s holds loaded alloc st =
-    let agrees = implied (is_loaded s.slot) (bool_eq (allocated s.flags) (is_allocated_part l s.part)) holds.allocation loaded in
+    let agrees = implied (has_room s.slot) (bool_eq (allocated s.flags) (is_allocated_part l s.part)) holds.allocation (room_of_loaded s.slot loaded) in
     let part : is_allocated_part l s.part ≡ true = rw alloc at agrees in
     let place : is_allocated_section l st.part.section ≡ true = subst (λ (o : Option Part). is_allocated_section l (section_of_part o) ≡ true) st.is part in
     let named = ltb-true _ _ (holds_at (λ p. part_index_fits l p ≡ true) l.parts s.part st.part st.is h.indexes.parts) in

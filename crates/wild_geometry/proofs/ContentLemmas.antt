@@ -1,5 +1,5 @@
 -- How long it is what files and groups give to the parts.
-use Rattle.std.proofs.Common.{◌≡◌, ℕ, ◌+◌, ◌*◌, inl, inr, Bool, true, false, if◌then◌else◌, List, [], ◌∷◌, ◌++◌, length, map, None, flat_map, refl, arith}
+use Rattle.std.proofs.Common.{◌≡◌, ℕ, ◌+◌, ◌*◌, inl, inr, Bool, true, false, if◌then◌else◌, List, [], ◌∷◌, ◌++◌, length, map, get_or, None, flat_map, refl, ap, arith}
 use Rattle.std.specs.Prelude.{Option, Some, option_map, option_to_list}
 use Rattle.std.proofs.lemmas.Bool.{cases_Bool}
 use Rattle.std.proofs.lemmas.List.{length-append, length-map}
@@ -27,23 +27,29 @@ use Rattle.wild_types.specs.declared.layout.Layout.{Layout}
 use Rattle.wild_needs.specs.Dynamic.{dynamic_count}
 use Rattle.wild_needs.specs.DynamicStrings.{file_strings, needed_entries, needed_count}
 use Rattle.wild_types.specs.Lookups.{has_moved}
-use Rattle.wild_needs.specs.Entries.{listed_place, listed_places, words_of, entry_count, left_relocations, general_count}
+use Rattle.wild_needs.specs.Entries.{listed_place, listed_places, words_of, entry_count, sorted_words, left_relocations, general_count}
+use Rattle.wild_laid.specs.Laid.{laid_file, laid_files, of_last_file, processed}
+use Rattle.wild_laid.proofs.LaidFiles.{ReadsNoSection, laid_total, All-laid}
 use Rattle.wild_types.specs.FileSymbols.{copies_of}
 use Rattle.wild_types.specs.Lists.{total}
-use Rattle.wild_needs.specs.Needs.{whole_of, dynsym_count, last_of, own_of, first_share, share, group_share}
+use Rattle.wild_needs.specs.Needs.{whole_of, dynsym_count, last_of, build_id_room, properties_room, own_of, first_share, share, has_last, last_share, group_share}
 use Rattle.wild_types.specs.FileRoles.{is_prelude, is_epilogue}
 use Rattle.wild_types.specs.Parts.{role_place}
-use Rattle.wild_needs.specs.TableSymbols.{has_long, local_count, global_count, table_strings}
+use Rattle.wild_needs.specs.TableSymbols.{TableSymbol, file_items, side, null_count, has_long, local_count, global_count, table_strings}
 use Rattle.wild_needs.specs.Versions.{needs_room}
 use Rattle.wild_symbols.specs.TableEntries.{file_table, table_entries, long_indexes, index_bytes}
 use Rattle.wild_needs.specs.SlotShares.{block_share}
 use Rattle.wild_needs.proofs.DynamicLemmas.{length_needed_entries}
-use Rattle.wild_layout.specs.Content.{whole_bytes, own_bytes, dynamic_room, file_content, dynamic_of, group_bytes, content}
+use Rattle.wild_layout.specs.Content.{whole_bytes, own_bytes, dynamic_room, file_content, dynamic_of, last_words, group_bytes, content}
+use Rattle.wild_layout.specs.Notes.{build_id_note, property_note}
 use Rattle.wild_layout.specs.Left.{left_entry, section_generals, copy_entry, file_generals}
 use Rattle.wild_tables.specs.Tables.{relative_entry}
 use Rattle.wild_layout.specs.Moved.{moved_value, listed_entry, section_entries, file_entries, file_words}
-use Rattle.wild_layout.specs.SlotBytes.{slot_bytes, header_bytes}
-use Rattle.wild_geometry.proofs.LastGroupLemmas.{has_last, some_if}
+use Rattle.wild_layout.specs.SlotBytes.{slot_bytes, header_bytes, block_bytes}
+use Rattle.wild_relr.specs.Written.{word_bytes}
+use Rattle.wild_geometry.proofs.LastGroupLemmas.{some_if}
+use Rattle.wild_geometry.proofs.FrameSections.{HasFrameRooms, laid_rooms, joined_all, frames_length}
+use Rattle.wild_geometry.proofs.NoteLengths.{length-build_id, length-properties, length-search_table}
 use Rattle.wild_geometry.proofs.SlotLengths.{slot_length, header_length, block_length}
 use Rattle.wild_geometry.proofs.SymbolLengths.{length-group_symbols}
 use Rattle.wild_geometry.proofs.HashLengths.{sysv_length, gnu_length}
@@ -110,9 +116,9 @@ general_length : (l : Layout) (f : File) → length (file_generals l f) ≡ gene
 unfolding file_generals general_count
 general_length l f =
     let copies = map (copy_entry l) (copies_of f) in
-    let a = length-append copies (flat_map (section_generals l) f.sections) in
+    let a = length-append copies (flat_map (section_generals l) (processed l f)) in
     let b = length-map (copies_of f) (copy_entry l) in
-    let c = joined_lengths (section_generals l) (λ s. length (left_relocations l s)) f.sections (left_length l) in
+    let c = joined_lengths (section_generals l) (λ s. length (left_relocations l s)) (processed l f) (left_length l) in
     omega arith
 
 -- ---- what one file gives
@@ -135,39 +141,48 @@ indexes_length true l local f =
     omega arith
 indexes_length false l local f = refl
 
-own_length : (l : Layout) (r : Role) (f : File) → is_by_group r ≡ false → length (own_bytes l r f) ≡ own_of l r f
-own_length l role.RelaDynRelative f n =
+-- what the last file has
+last_length : (f : File) (bytes : List ℕ) (n : ℕ) → length bytes ≡ n → length (of_last_file f bytes) ≡ last_of f.role n
+last_length f bytes n h = length-if (is_epilogue f.role) bytes n h
+
+own_length : (l : Layout) (r : Role) (f : File) → is_by_group r ≡ false → HasFrameRooms l f → length (own_bytes l r f) ≡ own_of l r f
+own_length l role.RelaDynRelative f n h =
     let a = length-rela_bytes (file_entries l f) in
-    let b : length (file_entries l f) ≡ entry_count l f = joined_lengths (section_entries l) (λ s. length (listed_places l s)) f.sections (section_length l) in
+    let b : length (file_entries l f) ≡ entry_count l f = joined_lengths (section_entries l) (λ s. length (listed_places l s)) (processed l f) (section_length l) in
     omega arith
-own_length l role.RelaDynGeneral f n =
+own_length l role.RelaDynGeneral f n h =
     let a = length-rela_bytes (file_generals l f) in
     let b = general_length l f in
     omega arith
-own_length l role.RelrDyn f n =
+own_length l role.RelrDyn f n h =
     let a = length-word_bytes (file_words l f) in
     let b = joined_lengths (words_of l) (λ s. length (words_of l s)) f.sections (λ s. refl) in
     omega arith
-own_length l role.Dynstr f n = length-string_bytes (file_strings l f)
-own_length l role.GnuVersion f n = length-symbol_versions l f
-own_length l role.GnuVersionD f n = length-file_definitions l f
-own_length l role.SysvHash f n = sysv_length l f
-own_length l role.GnuHash f n = gnu_length l f
-own_length l role.SymtabShndxLocal f n = indexes_length (has_long l role.SymtabShndxLocal) l true f
-own_length l role.SymtabShndxGlobal f n = indexes_length (has_long l role.SymtabShndxGlobal) l false f
-own_length l role.Strtab f n = length-string_bytes (table_strings l f)
-own_length l role.Dynsym f n = cc
-own_length l role.GnuVersionR f n = cc
-own_length l role.Dynamic f n = cc
-own_length l role.SymtabLocal f n = cc
-own_length l role.SymtabGlobal f n = cc
-own_length l other f n = refl
+own_length l role.Dynstr f n h = length-string_bytes (file_strings l f)
+own_length l role.GnuVersion f n h = length-symbol_versions l f
+own_length l role.GnuVersionD f n h = length-file_definitions l f
+own_length l role.SysvHash f n h = sysv_length l f
+own_length l role.GnuHash f n h = gnu_length l f
+own_length l role.SymtabShndxLocal f n h = indexes_length (has_long l role.SymtabShndxLocal) l true f
+own_length l role.SymtabShndxGlobal f n h = indexes_length (has_long l role.SymtabShndxGlobal) l false f
+own_length l role.Strtab f n h = length-string_bytes (table_strings l f)
+own_length l role.Dynsym f n h = cc
+own_length l role.GnuVersionR f n h = cc
+own_length l role.Dynamic f n h = cc
+own_length l role.SymtabLocal f n h = cc
+own_length l role.SymtabGlobal f n h = cc
+own_length l role.EhFrame f n h = frames_length l f h
+own_length l role.BuildId f n h = last_length f (build_id_note l.build_id) (build_id_room l.build_id) (length-build_id l.build_id)
+own_length l role.Property f n h = last_length f (property_note l.properties) (properties_room l.properties) (length-properties l.properties)
+own_length l other f n h = refl
 
 pub length-whole_bytes : (l : Layout) (r : Role) → length (whole_bytes l r) ≡ whole_of l r
 length-whole_bytes l role.FileHeader = (lengths_of_headers l).file_header
 length-whole_bytes l role.ProgramHeaders = (lengths_of_headers l).program_headers
 length-whole_bytes l role.SectionHeaders = (lengths_of_headers l).section_headers
 length-whole_bytes l role.Shstrtab = (lengths_of_headers l).names
+length-whole_bytes l role.EhFrameHdr = length-search_table l
+length-whole_bytes l role.Interp = refl
 length-whole_bytes l other = refl
 
 first_length : (l : Layout) (r : Role) → length (whole_bytes l r ++ header_bytes l r) ≡ first_share l r
@@ -177,31 +192,39 @@ first_length l r =
     let c = header_length l r in
     omega arith
 
-file_length : (l : Layout) (r : Role) (f : File) → is_by_group r ≡ false → length (file_content l r f) ≡ share l r f
-file_length l r f n =
+file_length : (l : Layout) (r : Role) (f : File) → is_by_group r ≡ false → HasFrameRooms l f → length (file_content l r f) ≡ share l r f
+file_length l r f n h =
     let first = if is_prelude f.role then whole_bytes l r ++ header_bytes l r else [] in
     let a = length-append first (own_bytes l r f) in
     let b = length-if (is_prelude f.role) (whole_bytes l r ++ header_bytes l r) (first_share l r) (first_length l r) in
     let c = length-append (first ++ own_bytes l r f) (slot_bytes l r f) in
-    let d = own_length l r f n in
+    let d = own_length l r f n h in
     let e = slot_length l r f in
     omega arith
 
 -- ---- what a group gives
 
-group_length : (l : Layout) (r : Role) (g : Group) → is_by_group r ≡ false → length (group_bytes l r g) ≡ block_share l r g
+-- the words of the sorted sections, in the group of the last file
+words_length : (l : Layout) (g : Group) → length (last_words l g) ≡ last_share l role.RelrDyn g
+words_length l g = length-if (has_last g) (word_bytes (sorted_words l)) (8 * length (sorted_words l)) (length-word_bytes (sorted_words l))
+
+group_length : (l : Layout) (r : Role) (g : Group) → is_by_group r ≡ false → length (group_bytes l r g) ≡ block_share l r g + last_share l r g
 group_length l role.Dynsym g n = cc
 group_length l role.GnuVersionR g n = cc
 group_length l role.Dynamic g n = cc
 group_length l role.SymtabLocal g n = cc
 group_length l role.SymtabGlobal g n = cc
-group_length l role.RelrDyn g n = block_length l role.RelrDyn g
+group_length l role.RelrDyn g n =
+    let a = length-append (block_bytes l role.RelrDyn g) (last_words l g) in
+    let b = block_length l role.RelrDyn g in
+    let c = words_length l g in
+    omega arith
 group_length l other g n = refl
 
 by_file_length : (l : Layout) (r : Role) (g : Group) → is_by_group r ≡ false → length (content l r g) ≡ group_share l r g
 by_file_length l r g n =
-    let a = length-append (flat_map (file_content l r) g.files) (group_bytes l r g) in
-    let b = joined_lengths (file_content l r) (share l r) g.files (λ f. file_length l r f n) in
+    let a = length-append (flat_map (file_content l r) (laid_files l g)) (group_bytes l r g) in
+    let b = joined_all (file_content l r) (share l r) (laid_files l g) (All-laid l (λ f. length (file_content l r f) ≡ share l r f) g (λ i f m at. file_length l r (laid_file l at (get_or g.files i f)) n (laid_rooms l (get_or g.files i f) at))) in
     let c = group_length l r g n in
     omega arith
 
@@ -219,7 +242,7 @@ no_content l role.SymtabGlobal f n = rw (nil_if (is_prelude f.role)) refl
 no_content l other f n = cc
 
 by_group_content : (l : Layout) (r : Role) (g : Group) → is_by_group r ≡ true → content l r g ≡ group_bytes l r g
-by_group_content l r g n = rw (flat_map-none (file_content l r) g.files (λ f. no_content l r f n)) refl
+by_group_content l r g n = rw (flat_map-none (file_content l r) (laid_files l g) (λ f. no_content l r f n)) refl
 
 -- and a file's share of it is its own
 own_share : (l : Layout) (r : Role) (f : File) → first_share l r ≡ 0 → length (slot_bytes l r f) ≡ 0 → share l r f ≡ own_of l r f
@@ -232,9 +255,10 @@ pub dynamic_content : (l : Layout) (g : Group) → content l role.Dynamic g ≡ 
 dynamic_content l g = by_group_content l role.Dynamic g refl
 
 -- a group's records of a table, each of so many bytes
-records_length : (l : Layout) (r : Role) (g : Group) (n : File → ℕ) → is_by_group r ≡ true → block_share l r g ≡ 0 → ((f : File) → share l r f ≡ n f) → length (group_bytes l r g) ≡ total n g.files → length (content l r g) ≡ group_share l r g
-records_length l r g n told none each long =
-    let a = total_by (share l r) n g.files each in
+records_length : (l : Layout) (r : Role) (g : Group) (n : File → ℕ) → is_by_group r ≡ true → block_share l r g + last_share l r g ≡ 0 → ((f : File) → share l r f ≡ n f) → ReadsNoSection l n → length (group_bytes l r g) ≡ total n g.files → length (content l r g) ≡ group_share l r g
+records_length l r g n told none each stays long =
+    let a = total_by (share l r) n (laid_files l g) each in
+    let b = laid_total l n g stays in
     rw (by_group_content l r g told) (omega arith)
 
 symbols_length : (l : Layout) (g : Group) → length (content l role.Dynsym g) ≡ group_share l role.Dynsym g
@@ -242,24 +266,35 @@ symbols_length l g =
     let a = length-symbol_bytes (group_symbols l g) in
     let b = length-group_symbols l g in
     let c = total_times 24 (dynsym_count l) g.files in
-    records_length l role.Dynsym g (λ (f : File). symtab_entry_size * dynsym_count l f) refl refl (λ f. own_share l role.Dynsym f refl refl) (omega arith)
+    records_length l role.Dynsym g (λ (f : File). symtab_entry_size * dynsym_count l f) refl refl (λ f. own_share l role.Dynsym f refl refl) (λ at f. refl) (omega arith)
+
+-- a file's symbols in the table are the same wherever its sections stand
+items_stay : (l : Layout) (at : ℕ) (f : File) → file_items l (laid_file l at f) ≡ file_items l f
+unfolding file_items
+items_stay l at f = refl
+
+locals_stay : (l : Layout) → ReadsNoSection l (λ (f : File). symtab_entry_size * local_count l f)
+locals_stay l at f = ap (λ (xs : List TableSymbol). symtab_entry_size * (null_count l f + length (side true xs))) (items_stay l at f)
+
+globals_stay : (l : Layout) → ReadsNoSection l (λ (f : File). symtab_entry_size * global_count l f)
+globals_stay l at f = ap (λ (xs : List TableSymbol). symtab_entry_size * length (side false xs)) (items_stay l at f)
 
 locals_length : (l : Layout) (g : Group) → length (content l role.SymtabLocal g) ≡ group_share l role.SymtabLocal g
 locals_length l g =
     let a = length-symbol_bytes (table_entries l true g) in
     let b = length-table_entries true l g in
     let c = total_times 24 (local_count l) g.files in
-    records_length l role.SymtabLocal g (λ (f : File). symtab_entry_size * local_count l f) refl refl (λ f. own_share l role.SymtabLocal f refl refl) (omega arith)
+    records_length l role.SymtabLocal g (λ (f : File). symtab_entry_size * local_count l f) refl refl (λ f. own_share l role.SymtabLocal f refl refl) (locals_stay l) (omega arith)
 
 globals_length : (l : Layout) (g : Group) → length (content l role.SymtabGlobal g) ≡ group_share l role.SymtabGlobal g
 globals_length l g =
     let a = length-symbol_bytes (table_entries l false g) in
     let b = length-table_entries false l g in
     let c = total_times 24 (global_count l) g.files in
-    records_length l role.SymtabGlobal g (λ (f : File). symtab_entry_size * global_count l f) refl refl (λ f. own_share l role.SymtabGlobal f refl refl) (omega arith)
+    records_length l role.SymtabGlobal g (λ (f : File). symtab_entry_size * global_count l f) refl refl (λ f. own_share l role.SymtabGlobal f refl refl) (globals_stay l) (omega arith)
 
 needs_length : (l : Layout) (g : Group) → length (content l role.GnuVersionR g) ≡ group_share l role.GnuVersionR g
-needs_length l g = records_length l role.GnuVersionR g (needs_room l) refl refl (λ f. own_share l role.GnuVersionR f refl refl) (length-group_needs l g)
+needs_length l g = records_length l role.GnuVersionR g (needs_room l) refl refl (λ f. own_share l role.GnuVersionR f refl refl) (λ at f. refl) (length-group_needs l g)
 
 -- what a group gives to a part is as long as its share, for every role but that of the dynamic section
 pub length-content : (l : Layout) (r : Role) (g : Group) → (role_place r ≡ role_place role.Dynamic → ⊥) → length (content l r g) ≡ group_share l r g
@@ -282,7 +317,11 @@ length-dynamic_content l g =
     rw (dynamic_content l g) (omega arith)
 
 pub dynamic_share : (l : Layout) (g : Group) → group_share l role.Dynamic g ≡ dynamic_entry_size * total (needed_count l) g.files + total (λ (f : File). last_of f.role (dynamic_entry_size * dynamic_count l)) g.files
-dynamic_share l g = let e = each g.files in omega arith
+dynamic_share l g =
+    let e = each (laid_files l g) in
+    let a = laid_total l (needed_count l) g (λ at f. refl) in
+    let b = laid_total l (λ (f : File). last_of f.role (dynamic_entry_size * dynamic_count l)) g (λ at f. refl) in
+    omega arith
   where
     one : (f : File) → share l role.Dynamic f ≡ dynamic_entry_size * needed_count l f + last_of f.role (dynamic_entry_size * dynamic_count l)
     one f =

@@ -9,6 +9,8 @@ use Rattle.wild_types.specs.declared.layout.Layout.{Layout}
 use Rattle.wild_types.specs.FileRoles.{is_prelude, is_epilogue}
 use Rattle.wild_types.specs.FilePlaces.{bool_eq, file_placed, later_placed, files_placed, file_misplaced}
 use Rattle.wild_types.proofs.FileLemmas.{same_bool}
+use Rattle.wild_laid.specs.Laid.{laid_files}
+use Rattle.wild_laid.proofs.LaidFiles.{ReadsNoSection, laid_same}
 use Rattle.wild_layout.specs.Content.{whole_bytes, own_bytes, file_content, group_bytes, content}
 use Rattle.wild_layout.specs.SlotBytes.{slot_bytes, header_bytes}
 use Rattle.wild_geometry.proofs.ClauseLemmas.{SharesHold}
@@ -19,6 +21,7 @@ pub record StandsOnce (l : Layout) (r : Role) : Type 0 where
   pub slots : (f : File) → slot_bytes l r f ≡ []
   pub header : header_bytes l r ≡ []
   pub block : (g : Group) → group_bytes l r g ≡ []
+  pub stays : ReadsNoSection l (file_content l r)
 
 -- files behind the first one give nothing
 later_content : (l : Layout) (r : Role) → StandsOnce l r → (last : Bool) (fs : List File) → later_placed last fs ≡ true → flat_map (file_content l r) fs ≡ []
@@ -44,6 +47,6 @@ content_of_first l r g once some s = by l.groups g some s.files
     by [] g some h = absurd (omega arith)
     by (x ∷ gs) g some h =
         elim (cases_Bool (files_placed true (length gs == 0) x.files)) [
-          | inl t ↦ rw (once.block x) (append-nil (flat_map (file_content l r) x.files) ∙ first_content l r once (length gs == 0) x.files t)
+          | inl t ↦ rw (once.block x) (append-nil (flat_map (file_content l r) (laid_files l x)) ∙ laid_same l (file_content l r) x once.stays ∙ first_content l r once (length gs == 0) x.files t)
           | inr f ↦ cc (rw f at h)
         ]

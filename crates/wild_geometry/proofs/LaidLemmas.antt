@@ -8,12 +8,13 @@ use Rattle.wild_types.specs.declared.layout.Layout.{Layout}
 use Rattle.wild_types.specs.Lists.{first_failing, unless}
 use Rattle.wild_types.specs.Lookups.{files_of}
 use Rattle.wild_clauses.specs.Places.{part_out_of_order}
-use Rattle.wild_clauses.specs.Contents.{addresses, each_section, section_misplaced, length_fits, part_is_raw, primary_fits, allocation_agrees, bytes_take_room, fields_lie, tlsld_fits, tls_fits}
+use Rattle.wild_clauses.specs.Contents.{addresses, each_section, section_misplaced, sorted_named_once, length_fits, part_is_raw, merged_is_raw, identity_is_raw, primary_fits, front_is_free, allocation_agrees, bytes_take_room, fields_lie, tlsld_fits, tls_fits}
 use Rattle.wild_clauses.specs.GroupStarts.{start_places, no_starts, start_astray}
-use Rattle.wild_clauses.specs.Indexes.{part_index_fits, primary_is_there, thunks_are_there, symbol_misfit, group_indexes_fit, listed_misfit, entry_is_there}
+use Rattle.wild_clauses.specs.Indexes.{part_index_fits, primary_is_there, thunks_are_there, symbol_misfit, group_indexes_fit, listed_misfit, sorted_is_there, merged_is_there, identity_is_there, entry_is_there, definition_is_own, range_out_of_order}
 use Rattle.wild_types.specs.FileSymbols.{copied_again}
 use Rattle.wild_clauses.specs.VersionTables.{parent_is_there}
-use Rattle.wild_clauses.specs.ClauseTests.{fails, check_inputs, check_indexes, check_fields, check_thunks, check_tls, check_starts}
+use Rattle.wild_clauses.specs.Fronts.{reversed_fits, merged_fits, identity_fills, front_shared, identity_is_alone}
+use Rattle.wild_clauses.specs.ClauseTests.{fails, check_inputs, check_indexes, check_fields, check_thunks, check_tls, check_starts, check_reversed, check_fronts}
 use Rattle.wild_clauses.specs.Thunks.{ascends, thunks_misplaced, block_lost, machine_takes}
 use Rattle.wild_clauses.specs.WellFormed.{first_clause}
 use Rattle.wild_types.proofs.ListLemmas.{All-from_none_fails}
@@ -34,28 +35,42 @@ use Rattle.wild_geometry.proofs.VersionClauses.{HasVersionsInOrder-from_check}
 
 pub record InputsHold (l : Layout) : Type 0 where
   pub order : section_misplaced l (addresses l.parts) 0 l.groups ≡ None
+  pub named : sorted_named_once l 0 l.groups ≡ None
   pub lengths : All (λ g. each_section length_fits g ≡ true) l.groups
   pub raw : All (λ g. each_section (part_is_raw l) g ≡ true) l.groups
   pub allocation : All (λ g. each_section (allocation_agrees l) g ≡ true) l.groups
   pub room : All (λ g. each_section (bytes_take_room l) g ≡ true) l.groups
+  pub merged : All (λ m. merged_is_raw l m ≡ true) l.merged
+  pub identity : identity_is_raw l ≡ true
   pub primary : primary_fits l ≡ true
+  pub front : front_is_free l ≡ true
 
 pub InputsHold-from_check : (l : Layout) → check_inputs l ≡ Ok tt → InputsHold l
 unfolding check_inputs
 InputsHold-from_check l h =
     let a = Both-from_first_error _ _ h in
-    let b = Both-from_first_error _ _ a.rest in
-    let c = Both-from_first_error _ _ b.rest in
+    let n = Both-from_first_error _ _ a.rest in
+    let m = Both-from_first_error _ _ n.rest in
+    let b = Both-from_first_error _ _ m.rest in
+    let f = Both-from_first_error _ _ b.rest in
+    let c = Both-from_first_error _ _ f.rest in
     let d = Both-from_first_error _ _ c.rest in
-    let t = Both-from_first_error _ _ d.rest in
-    let e = Both-from_first_error _ _ t.rest in
+    let o = Both-from_first_error _ _ d.rest in
+    let once = Both-from_first_error _ _ o.first in
+    let t = Both-from_first_error _ _ o.rest in
+    let u = Both-from_first_error _ _ t.rest in
+    let e = Both-from_first_error _ _ u.rest in
     record {
       order = None-from_fails 8 _ a.first;
+      named = None-from_fails 8 _ n.first;
       lengths = All-from_none_fails (each_section length_fits) 0 l.groups (None-from_fails 8 _ b.first);
       raw = All-from_none_fails (each_section (part_is_raw l)) 0 l.groups (None-from_fails 8 _ d.first);
       allocation = All-from_none_fails (each_section (allocation_agrees l)) 0 l.groups (None-from_fails 8 _ e.first);
       room = All-from_none_fails (each_section (bytes_take_room l)) 0 l.groups (None-from_fails 8 _ e.rest);
+      merged = All-from_none_fails (merged_is_raw l) 0 l.merged (None-from_fails 8 _ once.first);
+      identity = holds_from_unless (identity_is_raw l) (None-from_fails 8 _ once.rest);
       primary = holds_from_unless (primary_fits l) (None-from_fails 8 _ t.first);
+      front = holds_from_unless (front_is_free l) (None-from_fails 8 _ u.first);
     }
 
 pub record IndexesHold (l : Layout) : Type 0 where
@@ -63,6 +78,7 @@ pub record IndexesHold (l : Layout) : Type 0 where
   pub symbols : symbol_misfit l (files_of l.groups) 0 l.symbols ≡ None
   pub groups : All (λ g. group_indexes_fit l g ≡ true) l.groups
   pub copies : copied_again l [] 0 l.groups ≡ None
+  pub ranges : range_out_of_order 0 0 l.groups ≡ None
 
 pub IndexesHold-from_check : (l : Layout) → check_indexes l ≡ Ok tt → IndexesHold l
 unfolding check_indexes
@@ -74,18 +90,23 @@ IndexesHold-from_check l h =
     let d = Both-from_first_error (fails 9 (listed_misfit l)) _ c.rest in
     let e = Both-from_first_error (fails 9 (first_failing (parent_is_there l) 0 l.verdefs)) _ d.rest in
     let u = Both-from_first_error (fails 9 (first_failing (thunks_are_there l) 0 l.thunk_blocks)) _ e.rest in
-    let f = Both-from_first_error (fails 9 (unless (entry_is_there l l.entry))) _ u.rest in
+    let v = Both-from_first_error (fails 9 (first_failing (sorted_is_there l) 0 l.sorted)) _ u.rest in
+    let w = Both-from_first_error (fails 9 (first_failing (merged_is_there l) 0 l.merged)) _ v.rest in
+    let x = Both-from_first_error (fails 9 (unless (identity_is_there l))) _ w.rest in
+    let f = Both-from_first_error (fails 9 (unless (entry_is_there l l.entry))) _ x.rest in
     let g = Both-from_first_error (fails 9 (copied_again l [] 0 l.groups)) _ f.rest in
+    let y = Both-from_first_error (fails 9 (first_failing (definition_is_own l) 0 l.symbols)) _ g.rest in
     record {
       parts = All-from_none_fails (part_index_fits l) 0 l.parts (None-from_fails 9 _ a.first);
       symbols = None-from_fails 9 _ b.first;
       groups = All-from_none_fails (group_indexes_fit l) 0 l.groups (None-from_fails 9 _ c.first);
       copies = None-from_fails 9 _ g.first;
+      ranges = None-from_fails 9 _ y.rest;
     }
 
 pub FieldsLie-from_check : (l : Layout) → check_fields l ≡ Ok tt → All (λ g. each_section (fields_lie l.machine) g ≡ true) l.groups
 unfolding check_fields
-FieldsLie-from_check l h = All-from_none_fails (each_section (fields_lie l.machine)) 0 l.groups (None-from_fails 10 _ h)
+FieldsLie-from_check l h = All-from_none_fails (each_section (fields_lie l.machine)) 0 l.groups (None-from_fails 10 _ (Both-from_first_error _ _ h).first)
 
 -- ---- clause 12
 
@@ -122,6 +143,33 @@ pub StartsFollow-from_check : (l : Layout) → check_starts l ≡ Ok tt → star
 unfolding check_starts
 StartsFollow-from_check l h = None-from_fails 16 _ h
 
+-- ---- clauses 20 and 22
+
+pub WordsAreWhole-from_check : (l : Layout) → check_reversed l ≡ Ok tt → All (λ g. each_section (reversed_fits l.machine) g ≡ true) l.groups
+unfolding check_reversed
+WordsAreWhole-from_check l h = All-from_none_fails (each_section (reversed_fits l.machine)) 0 l.groups (None-from_fails 20 _ h)
+
+-- what stands at the fronts of parts
+pub record FrontsHold (l : Layout) : Type 0 where
+  pub merged : All (λ m. merged_fits l m ≡ true) l.merged
+  pub identity : identity_fills l ≡ true
+  pub shared : front_shared 0 l.merged ≡ None
+  pub alone : identity_is_alone l ≡ true
+
+pub FrontsHold-from_check : (l : Layout) → check_fronts l ≡ Ok tt → FrontsHold l
+unfolding check_fronts
+FrontsHold-from_check l h =
+    let a = Both-from_first_error _ _ h in
+    let b = Both-from_first_error _ _ a.rest in
+    let c = Both-from_first_error _ _ b.rest in
+    let d = Both-from_first_error _ _ c.rest in
+    record {
+      merged = All-from_none_fails (merged_fits l) 0 l.merged (None-from_fails 22 _ a.first);
+      identity = holds_from_unless (identity_fills l) (None-from_fails 22 _ b.first);
+      shared = None-from_fails 22 _ d.first;
+      alone = holds_from_unless (identity_is_alone l) (None-from_fails 22 _ d.rest);
+    }
+
 -- ---- all of them, and the shares
 
 pub record Laid (l : Layout) : Type 0 where
@@ -144,6 +192,8 @@ pub record Laid (l : Layout) : Type 0 where
   pub starts : start_astray (start_places l.parts) no_starts 0 l.groups ≡ None
   pub hashes : HasHashShapes l
   pub versions : HasVersionsInOrder l
+  pub words : All (λ g. each_section (reversed_fits l.machine) g ≡ true) l.groups
+  pub fronts : FrontsHold l
   pub needed : flat_map_from (part_errors l) 0 l.parts ≡ []
 
 pub Laid-from_clauses : (l : Layout) → first_clause l ≡ Ok tt → flat_map_from (part_errors l) 0 l.parts ≡ [] → Laid l
@@ -169,5 +219,7 @@ Laid-from_clauses l h n =
       starts = StartsFollow-from_check l c.starts;
       hashes = HasHashShapes-from_check l c.hashes;
       versions = HasVersionsInOrder-from_check l c.versions;
+      words = WordsAreWhole-from_check l c.reversed;
+      fronts = FrontsHold-from_check l c.fronts;
       needed = n;
     }

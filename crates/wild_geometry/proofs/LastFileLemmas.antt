@@ -13,7 +13,8 @@ use Rattle.wild_tables.proofs.DynamicLemmas.{entries_joined}
 use Rattle.wild_layout.specs.Content.{dynamic_room, content}
 use Rattle.wild_layout.specs.TablePlaces.{table_bytes, all_needed}
 use Rattle.wild_geometry.proofs.ContentLemmas.{dynamic_content}
-use Rattle.wild_geometry.proofs.LastGroupLemmas.{has_last, has_last-group}
+use Rattle.wild_needs.specs.Needs.{has_last}
+use Rattle.wild_geometry.proofs.LastGroupLemmas.{has_last-group}
 
 -- groups of which the last alone has the last file
 groups_last : (l : Layout) (g : Group) (gs : List Group) → ((k : ℕ) (d : Group) → k < length (g ∷ gs) → has_last (get_or (g ∷ gs) k d) ≡ (k + 1 == length (g ∷ gs)))

@@ -10,10 +10,7 @@ use Rattle.wild_types.specs.FileRoles.{is_prelude, is_epilogue}
 use Rattle.wild_types.specs.Lists.{total}
 use Rattle.wild_types.proofs.FileLemmas.{same_bool}
 use Rattle.wild_needs.specs.Needs.{last_of}
-
--- the group has the last file
-abbrev pub has_last : Group → Bool
-has_last g = list_any (λ (f : File). is_epilogue f.role) g.files
+pub use Rattle.wild_needs.specs.Needs.{has_last}
 
 -- a number, or none
 abbrev pub some_if : ℕ → Bool → ℕ

@@ -14,7 +14,7 @@ use Rattle.wild_types.specs.declared.file.Group.{Group}
 use Rattle.wild_types.specs.declared.layout.Layout.{Layout}
 use Rattle.wild_types.specs.FilePlaces.{given}
 use Rattle.wild_clauses.specs.Contents.{has_share_for_each_part}
-use Rattle.wild_needs.specs.Needs.{total_share, group_share}
+use Rattle.wild_needs.specs.Needs.{has_last, total_share, group_share}
 use Rattle.wild_clauses.specs.Counts.{role_given}
 use Rattle.wild_types.specs.Lists.{total}
 use Rattle.wild_needs.specs.Dynamic.{dynamic_count}
@@ -33,7 +33,7 @@ use Rattle.wild_geometry.proofs.InterleaveLemmas.{Contains-flat_map_from}
 use Rattle.wild_geometry.proofs.OrderLemmas.{EndsBy-image}
 use Rattle.wild_geometry.proofs.ShareLemmas.{total_same, content_is_given, size_from_shares}
 use Rattle.wild_geometry.proofs.ContentLemmas.{length_joined, length-content, length-dynamic_content, dynamic_share}
-use Rattle.wild_geometry.proofs.LastGroupLemmas.{has_last, some_if, group_last}
+use Rattle.wild_geometry.proofs.LastGroupLemmas.{some_if, group_last}
 use Rattle.wild_geometry.proofs.TableLemmas.{role_at, role_listed, same_role}
 use Rattle.wild_geometry.proofs.TablePieces.{not_raw_takes, Contains-some}
 

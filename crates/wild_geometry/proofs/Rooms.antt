@@ -1,22 +1,32 @@
 -- Where pieces stand, whatever their bytes are: input sections as the room that they take of the image.
 use Rattle.std.proofs.Common.{◌≡◌, ℕ, ◌+◌, ◌<◌, ◌≤◌, ◌⊎◌, Bool, true, false, if◌then◌else◌, List, [], ◌∷◌, ◌++◌, length, map, get_or, All, AllPairs, replicate, slice_get, flat_map, refl, sym, ap, ◌∙◌, arith, subst}
 use Rattle.std.proofs.lemmas.Bool.{and_parts}
-use Rattle.std.proofs.lemmas.List.{length-replicate, length-map, get_or-map, map-append}
-use Rattle.std.proofs.lemmas.List.Elements.{All-head, All-tail, All-weaker}
+use Rattle.std.proofs.lemmas.List.{length-replicate, length-map, get_or-map, map-append, append_assoc}
+use Rattle.std.proofs.lemmas.List.Concat.{flat_map-append}
+use Rattle.std.proofs.lemmas.List.Elements.{All-head, All-tail}
 use Rattle.wild_words.specs.Overlay.{Piece, Apart}
 use Rattle.wild_words.specs.declared.extents.Extent.{Extent}
 use Rattle.wild_words.proofs.Basics.{map-flat_map}
-use Rattle.wild_words.proofs.ListLemmas.{All-flat_map, flat_map-flat_map}
+use Rattle.wild_words.proofs.ListLemmas.{flat_map-flat_map}
+use Rattle.wild_types.specs.declared.input.Slot.{Slot}
+use Rattle.wild_types.specs.declared.input.Slot.TheVariants as slot
 use Rattle.wild_types.specs.declared.input.InputSection.{InputSection}
 use Rattle.wild_types.specs.declared.file.File.{File}
 use Rattle.wild_types.specs.declared.file.Group.{Group}
 use Rattle.wild_types.specs.declared.layout.Layout.{Layout}
+use Rattle.wild_types.specs.FileRoles.{is_epilogue}
 use Rattle.wild_types.specs.Lookups.{is_filled, is_loaded, is_read, files_of}
-use Rattle.wild_layout.specs.SectionPlaces.{SectionLies}
-use Rattle.wild_layout.specs.Geometry.{EachSection}
-use Rattle.wild_layout.specs.Image.{offset_in, section_piece, section_pieces, thunk_pieces, file_pieces, owned_pieces}
+use Rattle.wild_laid.specs.Turned.{as_turned}
+use Rattle.wild_laid.specs.Laid.{Input, laid_by, laid_section, laid_sections, laid_file, laid_files, sorted_inputs, of_last_file}
+use Rattle.wild_laid.proofs.LaidFiles.{joined_sections, joined_laid}
+use Rattle.wild_clauses.specs.Thunks.{standing}
+use Rattle.wild_layout.specs.Image.{offset_in, section_piece, section_pieces, of_first_file, sorted_piece, once_pieces, thunk_pieces, file_pieces, owned_pieces}
 use Rattle.wild_layout.specs.Sites.{section_bytes, extent_of}
+use Rattle.wild_layout.specs.SectionPlaces.{SectionLies}
 use Rattle.wild_geometry.proofs.SiteLemmas.{length-section_bytes}
+use Rattle.wild_geometry.proofs.StandingLemmas.{EachInput}
+use Rattle.wild_geometry.proofs.SectionLemmas.{Known, length_of_data}
+use Rattle.wild_geometry.proofs.StayLemmas.{Turns, turns}
 
 -- ---- pieces at the same places
 
@@ -52,9 +62,6 @@ same_items {X} {Y} f g (x ∷ xs) a =
     let tail = same_items f g xs (All-tail (λ (y : X). f y ≡ g y) x xs a) in
     ap (λ (ys : List Y). ys ++ flat_map f xs) head ∙ ap (λ (ys : List Y). g x ++ ys) tail
 
-same_places : {X : Type 0} (f g : X → List Piece) (xs : List X) → All (λ x. map extent_of (f x) ≡ map extent_of (g x)) xs → map extent_of (flat_map f xs) ≡ map extent_of (flat_map g xs)
-same_places {X} f g xs a = map-flat_map extent_of f xs ∙ same_items (λ (x : X). map extent_of (f x)) (λ (x : X). map extent_of (g x)) xs a ∙ sym (map-flat_map extent_of g xs)
-
 -- ---- the room of a section
 
 abbrev pub room_of : Layout → InputSection → Piece
@@ -67,47 +74,138 @@ length-room l s = length-replicate s.size 0
 abbrev pub section_room : Layout → InputSection → List Piece
 section_room l s = if is_filled l s then room_of l s ∷ [] else []
 
+-- ---- a section that lies where it is to
+
 -- a section that owns bytes has as many as its size
 abbrev pub HasSize : Layout → InputSection → Type 0
 HasSize l s = is_filled l s ≡ true → (f : File) → length (section_bytes l f s) ≡ s.size
+
+read_if : (s : InputSection) (k : Slot) → s.slot ≡ k → is_loaded k ≡ true → s.nobits ≡ false → is_read s ≡ true
+read_if s slot.Loaded e loaded bits = rw (e, bits) refl
+read_if s other e loaded bits = cc
 
 pub lies_size : (l : Layout) (s : InputSection) → SectionLies l s → HasSize l s
 lies_size l s h filled f = by s.nobits refl
   where
     by : (nobits : Bool) → s.nobits ≡ nobits → length (section_bytes l f s) ≡ s.size
     by true e = length-section_bytes l f s (λ n. (let both : true ≡ false = sym e ∙ n in cc)) h.fields
-    by false e =
-        let parts = and_parts (is_loaded s.slot) _ filled in
-        let read : is_read s ≡ true = rw (parts.0, e) refl in
-        length-section_bytes l f s (λ n. h.bytes read) h.fields
+    by false e = length-section_bytes l f s (λ n. h.bytes (read_if s s.slot refl (and_parts (is_loaded s.slot) _ filled).0 e)) h.fields
 
-same_place : (l : Layout) (f : File) (s : InputSection) → HasSize l s → map extent_of (section_room l s) ≡ map extent_of (section_piece l f s)
-same_place l f s h = by (is_filled l s) refl
+-- ---- where a section stands as it does, its room is
+
+no_room : (l : Layout) (s : InputSection) → is_loaded s.slot ≡ false → section_room l s ≡ []
+no_room l s e = rw e refl
+
+no_piece : (l : Layout) (f : File) (s : InputSection) → is_loaded s.slot ≡ false → section_piece l f s ≡ []
+no_piece l f s e = rw e refl
+
+-- a section at the place of another, of the same size
+turned_place : (l : Layout) (f : File) (s t : InputSection) → Turns l s t → map extent_of (section_room l s) ≡ map extent_of (section_piece l f t)
+turned_place l f s t h = by (is_filled l s) refl
   where
     at : ℕ
-    at = offset_in (slice_get l.parts s.part) s.address
+    at = offset_in (slice_get l.parts t.part) t.address
 
-    by : (b : Bool) → is_filled l s ≡ b → map extent_of (if b then room_of l s ∷ [] else []) ≡ map extent_of (if b then record { at = at; bytes = section_bytes l f s } ∷ [] else [])
-    by false e = refl
-    by true e = let same = length-room l s ∙ sym (h e f) in ap (λ (n : ℕ). record { start = at; end = at + n } ∷ []) same
+    same_at : offset_in (slice_get l.parts s.part) s.address ≡ at
+    same_at = sym (ap (λ (k : ℕ). offset_in (slice_get l.parts k) t.address) h.part ∙ ap (λ (a : ℕ). offset_in (slice_get l.parts s.part) a) h.address)
 
--- the rooms of a file's input sections
-abbrev pub rooms_in : Layout → File → List Piece
-rooms_in l f = flat_map (section_room l) f.sections
+    long : is_filled l s ≡ true → length (section_bytes l f t) ≡ s.size
+    long e = length-section_bytes l f t (λ n. length_of_data l t h.holds (and_parts (is_loaded t.slot) _ (h.filled ∙ e)).0 n) h.holds.fields ∙ h.size
 
--- and what it owns behind them
-abbrev pub file_rooms : Layout → File → List Piece
-file_rooms l f = rooms_in l f ++ thunk_pieces l f
+    with : (b : Bool) → is_filled l s ≡ b → map extent_of (if b then room_of l s ∷ [] else []) ≡ map extent_of (if b then record { at = at; bytes = section_bytes l f t } ∷ [] else [])
+    with false e = refl
+    with true e =
+        let same = length-room l s ∙ sym (long e) in
+        let place = same_at in
+        ap (λ (x : Extent). x ∷ []) (ap (λ (n : ℕ). record { start = n; end = n + length (room_of l s).bytes }) place ∙ ap (λ (n : ℕ). record { start = at; end = at + n }) same)
 
--- they are where all that files own stands
-pub rooms_stand : (l : Layout) → EachSection l (HasSize l) → map extent_of (flat_map (file_rooms l) (files_of l.groups)) ≡ map extent_of (flat_map (owned_pieces l) l.groups)
-rooms_stand l h =
-    same_places (file_rooms l) (file_pieces l) (files_of l.groups) (All-weaker (λ (f : File). All (HasSize l) f.sections) (λ (f : File). map extent_of (file_rooms l f) ≡ map extent_of (file_pieces l f)) in_file (files_of l.groups) (All-flat_map (λ (f : File). All (HasSize l) f.sections) (λ (g : Group). g.files) l.groups h))
-    ∙ ap (λ (ps : List Piece). map extent_of ps) (flat_map-flat_map (file_pieces l) (λ (g : Group). g.files) l.groups)
+    by : (b : Bool) → is_filled l s ≡ b → map extent_of (section_room l s) ≡ map extent_of (section_piece l f t)
+    by b e = rw (e, h.filled ∙ e) (with b e)
+
+-- a section of a file stands where its room is
+abbrev pub HasPlace : Layout → InputSection → Type 0
+HasPlace l s = (f g : File) (at : ℕ) → map extent_of (section_room l s) ≡ map extent_of (section_piece l g (laid_section l f at s))
+
+pub place_of_known : (l : Layout) (s : InputSection) → Known l s → HasPlace l s
+unfolding laid_section
+place_of_known l s h f g at = by s.slot refl
   where
-    in_file : (f : File) → All (HasSize l) f.sections → map extent_of (file_rooms l f) ≡ map extent_of (file_pieces l f)
-    in_file f a =
-        let same = same_places (section_room l) (section_piece l f) f.sections (All-weaker (HasSize l) (λ (s : InputSection). map extent_of (section_room l s) ≡ map extent_of (section_piece l f s)) (λ s e. same_place l f s e) f.sections a) in
-        map-append extent_of (rooms_in l f) (thunk_pieces l f)
-        ∙ ap (λ (es : List Extent). es ++ map extent_of (thunk_pieces l f)) same
-        ∙ sym (map-append extent_of (section_pieces l f) (thunk_pieces l f))
+    by : (k : Slot) → s.slot ≡ k → map extent_of (section_room l s) ≡ map extent_of (section_piece l g (laid_by k l f at s))
+    by slot.Loaded e = turned_place l g s (as_turned s) (turns l s h (ap is_loaded e))
+    by slot.Frame e = ap (map extent_of) (no_room l s (ap is_loaded e))
+    by other e = ap (map extent_of) (no_room l s (ap is_loaded e) ∙ sym (no_piece l g s (ap is_loaded e)))
+
+-- and a sorted one
+abbrev pub HasSortedPlace : Layout → Input → Type 0
+HasSortedPlace l x = map extent_of (section_room l x.section) ≡ map extent_of (sorted_piece l x)
+
+pub place_of_sorted : (l : Layout) (x : Input) → Known l x.section → is_loaded x.section.slot ≡ true → HasSortedPlace l x
+place_of_sorted l x h loaded = turned_place l x.file x.section (as_turned x.section) (turns l x.section h loaded)
+
+-- ---- file by file
+
+-- the rooms of the input sections that stand in a file's ranges
+abbrev pub rooms_in : Layout → File → List Piece
+rooms_in l f = flat_map (section_room l) (standing l f)
+
+-- what is the first file's, and a file's thunks
+abbrev pub others_in : Layout → File → List Piece
+others_in l f = of_first_file f (once_pieces l) ++ thunk_pieces l f
+
+-- what it owns, as rooms
+abbrev pub file_rooms : Layout → File → List Piece
+file_rooms l f = rooms_in l f ++ others_in l f
+
+-- lists at the same places, of which one is made of what the other's items hold
+of_map : {X Y : Type 0} (f : Y → List Piece) (g : X → List Piece) (h : X → Y) (xs : List X) → All (λ x. map extent_of (f (h x)) ≡ map extent_of (g x)) xs → map extent_of (flat_map f (map h xs)) ≡ map extent_of (flat_map g xs)
+of_map f g h [] a = refl
+of_map {X} f g h (x ∷ xs) a =
+    let P : X → Type 0 = λ y. map extent_of (f (h y)) ≡ map extent_of (g y) in
+    let here = All-head P x xs a in
+    let rest = of_map f g h xs (All-tail P x xs a) in
+    map-append extent_of (f (h x)) (flat_map f (map h xs))
+    ∙ ap (λ (es : List Extent). es ++ map extent_of (flat_map f (map h xs))) here
+    ∙ ap (λ (es : List Extent). map extent_of (g x) ++ es) rest
+    ∙ sym (map-append extent_of (g x) (flat_map g xs))
+
+sorted_places : (l : Layout) → All (HasSortedPlace l) (sorted_inputs l) → (last : Bool)
+    → map extent_of (flat_map (section_room l) (if last then map (λ (x : Input). x.section) (sorted_inputs l) else [])) ≡ map extent_of (if last then flat_map (sorted_piece l) (sorted_inputs l) else [])
+sorted_places l h false = refl
+sorted_places l h true = of_map (section_room l) (sorted_piece l) (λ (x : Input). x.section) (sorted_inputs l) h
+
+own_places : (l : Layout) (f g : File) (at : ℕ) (ss : List InputSection) → All (HasPlace l) ss → map extent_of (flat_map (section_room l) ss) ≡ map extent_of (flat_map (section_piece l g) (laid_sections l f at ss))
+own_places l f g at ss h =
+    map-flat_map extent_of (section_room l) ss
+    ∙ joined_sections l f (λ (s : InputSection). map extent_of (section_room l s)) (λ (s : InputSection). map extent_of (section_piece l g s)) at ss (λ i s m a. h i s m f g a)
+    ∙ sym (map-flat_map extent_of (section_piece l g) (laid_sections l f at ss))
+
+-- two lists in front of a third
+three : (xs ys zs us vs : List Piece) → map extent_of xs ≡ map extent_of us → map extent_of ys ≡ map extent_of vs → map extent_of ((xs ++ ys) ++ zs) ≡ map extent_of (us ++ (vs ++ zs))
+three xs ys zs us vs a b =
+    ap (map extent_of) (append_assoc xs ys zs)
+    ∙ map-append extent_of xs (ys ++ zs)
+    ∙ ap (λ (es : List Extent). map extent_of xs ++ es) (map-append extent_of ys zs)
+    ∙ ap (λ (es : List Extent). es ++ (map extent_of ys ++ map extent_of zs)) a
+    ∙ ap (λ (es : List Extent). map extent_of us ++ (es ++ map extent_of zs)) b
+    ∙ ap (λ (es : List Extent). map extent_of us ++ es) (sym (map-append extent_of vs zs))
+    ∙ sym (map-append extent_of us (vs ++ zs))
+
+in_file : (l : Layout) → All (HasSortedPlace l) (sorted_inputs l) → (f : File) (at : ℕ) → All (HasPlace l) f.sections → map extent_of (file_rooms l f) ≡ map extent_of (file_pieces l (laid_file l at f))
+in_file l sorted f at own =
+    let later = of_last_file f (map (λ (x : Input). x.section) (sorted_inputs l)) in
+    ap (λ (ps : List Piece). map extent_of (ps ++ others_in l f)) (flat_map-append (section_room l) f.sections later)
+    ∙ three (flat_map (section_room l) f.sections) (flat_map (section_room l) later) (others_in l f) (section_pieces l (laid_file l at f)) (of_last_file f (flat_map (sorted_piece l) (sorted_inputs l)))
+    (own_places l f (laid_file l at f) at f.sections own) (sorted_places l sorted (is_epilogue f.role))
+
+in_group : (l : Layout) → All (HasSortedPlace l) (sorted_inputs l) → (g : Group) → All (λ (f : File). All (HasPlace l) f.sections) g.files → flat_map (λ (f : File). map extent_of (file_rooms l f)) g.files ≡ map extent_of (owned_pieces l g)
+in_group l sorted g own =
+    joined_laid l (λ (f : File). map extent_of (file_rooms l f)) (λ (f : File). map extent_of (file_pieces l f)) g (λ i f m at. in_file l sorted (get_or g.files i f) at (own i f m))
+    ∙ sym (map-flat_map extent_of (file_pieces l) (laid_files l g))
+
+-- the rooms are where all that files own stands
+pub rooms_stand : (l : Layout) → EachInput l (HasPlace l) → All (HasSortedPlace l) (sorted_inputs l) → map extent_of (flat_map (file_rooms l) (files_of l.groups)) ≡ map extent_of (flat_map (owned_pieces l) l.groups)
+rooms_stand l own sorted =
+    map-flat_map extent_of (file_rooms l) (files_of l.groups)
+    ∙ flat_map-flat_map (λ (f : File). map extent_of (file_rooms l f)) (λ (g : Group). g.files) l.groups
+    ∙ same_items (λ (g : Group). flat_map (λ (f : File). map extent_of (file_rooms l f)) g.files) (λ (g : Group). map extent_of (owned_pieces l g)) l.groups (λ i g m. in_group l sorted (get_or l.groups i g) (own i g m))
+    ∙ sym (map-flat_map extent_of (owned_pieces l) l.groups)

@@ -11,7 +11,7 @@ use Rattle.wild_types.specs.Lists.{first_failing, unless}
 use Rattle.wild_clauses.specs.SlotPlaces.{slots_astray, slot_is_even, block_is_asked, block_has_base, pair_follows, pair_follows_by}
 use Rattle.wild_clauses.specs.SlotFlags.{is_asked, first_asked_failing, dynamic_is_interposable, stub_is_value, stub_has_slot, one_slot_for_address, thread_slot_alone, resolver_is_own, slot_agrees, resolver_moves, second_slot_fits}
 use Rattle.wild_clauses.specs.ClauseTests.{fails, check_indexes, check_slots, check_slot_flags}
-use Rattle.wild_clauses.specs.Indexes.{part_index_fits, primary_is_there, thunks_are_there, symbol_misfit, group_indexes_fit, listed_misfit, entry_is_there, definition_is_own, defines_itself}
+use Rattle.wild_clauses.specs.Indexes.{part_index_fits, primary_is_there, thunks_are_there, symbol_misfit, group_indexes_fit, listed_misfit, sorted_is_there, merged_is_there, identity_is_there, entry_is_there, definition_is_own, defines_itself}
 use Rattle.wild_types.specs.FileSymbols.{copied_again}
 use Rattle.wild_clauses.specs.VersionTables.{parent_is_there}
 use Rattle.wild_types.proofs.ListLemmas.{All-from_none_fails}
@@ -94,7 +94,10 @@ definitions_are_own l h =
     let d = Both-from_first_error (fails 9 (listed_misfit l)) _ c.rest in
     let e = Both-from_first_error (fails 9 (first_failing (parent_is_there l) 0 l.verdefs)) _ d.rest in
     let u = Both-from_first_error (fails 9 (first_failing (thunks_are_there l) 0 l.thunk_blocks)) _ e.rest in
-    let f = Both-from_first_error (fails 9 (unless (entry_is_there l l.entry))) _ u.rest in
+    let v = Both-from_first_error (fails 9 (first_failing (sorted_is_there l) 0 l.sorted)) _ u.rest in
+    let w = Both-from_first_error (fails 9 (first_failing (merged_is_there l) 0 l.merged)) _ v.rest in
+    let x = Both-from_first_error (fails 9 (unless (identity_is_there l))) _ w.rest in
+    let f = Both-from_first_error (fails 9 (unless (entry_is_there l l.entry))) _ x.rest in
     let g = Both-from_first_error (fails 9 (copied_again l [] 0 l.groups)) _ f.rest in
     let m = Both-from_first_error (fails 9 (first_failing (definition_is_own l) 0 l.symbols)) _ g.rest in
     All-from_none_fails (definition_is_own l) 0 l.symbols (None-from_fails 9 _ m.first)

@@ -1,5 +1,5 @@
--- The strings of a group begin behind those of the groups before it, in each of the two tables of strings.
-use Rattle.std.proofs.Common.{◌≡◌, ℕ, zero, suc, ◌+◌, ◌<◌, inl, inr, ◌==◌, true, false, ◌&&◌, List, [], ◌∷◌, length, get_or, take, Option, Some, None, slice_get, refl, sym, ap, ◌∙◌, arith, subst}
+-- The strings of a group begin behind those of the groups before it, in each of the two tables of strings, and so do its frames.
+use Rattle.std.proofs.Common.{◌≡◌, ℕ, zero, suc, ◌+◌, ◌<◌, inl, inr, ◌==◌, true, false, List, [], ◌∷◌, length, get_or, take, Option, Some, None, slice_get, refl, sym, ap, ◌∙◌, arith, subst}
 use Rattle.std.specs.List.{position_from}
 use Rattle.std.proofs.lemmas.Bool.{cases_Bool, and_parts, eqb-true, ne_eqb}
 use Rattle.std.proofs.lemmas.Option.{get_or_from_slice_get, slice_get_within}
@@ -30,20 +30,24 @@ use Rattle.wild_geometry.proofs.TableLemmas.{same_role}
 record Follows (places : Starts (Option ℕ)) (from : Starts ℕ) (gs : List Group) (g : Group) : Type 0 where
   dynstr : g.dynstr_start ≡ from.dynstr + total (given_at places.dynstr) gs
   strtab : g.strtab_start ≡ from.strtab + total (given_at places.strtab) gs
+  frames : g.eh_frame_start ≡ from.frames + total (given_at places.frames) gs
 
 begins : (places : Starts (Option ℕ)) (from : Starts ℕ) (g : Group) → begins_at from g ≡ true → Follows places from [] g
 begins places from g h =
-    let a = and_parts (g.dynstr_start == from.dynstr) (g.strtab_start == from.strtab && (g.symtab_local_start == from.locals && g.symtab_global_start == from.globals)) h in
-    let b = and_parts (g.strtab_start == from.strtab) (g.symtab_local_start == from.locals && g.symtab_global_start == from.globals) a.1 in
-    let c = eqb-true _ _ a.0 in
-    let d = eqb-true _ _ b.0 in
-    record { dynstr = omega arith; strtab = omega arith }
+    let a = and_parts (g.dynstr_start == from.dynstr) _ h in
+    let b = and_parts (g.strtab_start == from.strtab) _ a.1 in
+    let c = and_parts (g.eh_frame_start == from.frames) _ b.1 in
+    let d = eqb-true _ _ a.0 in
+    let e = eqb-true _ _ b.0 in
+    let f = eqb-true _ _ c.0 in
+    record { dynstr = omega arith; strtab = omega arith; frames = omega arith }
 
 behind_one : (places : Starts (Option ℕ)) (from : Starts ℕ) (g : Group) (gs : List Group) (x : Group) → Follows places (starts_behind places from g) gs x → Follows places from (g ∷ gs) x
 behind_one places from g gs x f =
     let a = f.dynstr in
     let b = f.strtab in
-    record { dynstr = omega arith; strtab = omega arith }
+    let c = f.frames in
+    record { dynstr = omega arith; strtab = omega arith; frames = omega arith }
 
 starts_follow : (places : Starts (Option ℕ)) (from : Starts ℕ) (i : ℕ) (gs : List Group) → start_astray places from i gs ≡ None → (j : ℕ) (g : Group) → j < length gs → Follows places from (take j gs) (get_or gs j g)
 starts_follow places from i [] h j d l = absurd (omega arith)
@@ -131,4 +135,11 @@ pub table_starts_from_laid : (l : Layout) → Laid l → (j : ℕ) (g : Group) �
 table_starts_from_laid l h j g is =
     let start = (group_follows l h j g is).strtab in
     let before = given_before l h role.Strtab (record { raw = λ e. absurd (omega arith); dynamic = λ e. absurd (omega arith) }) j in
+    omega arith
+
+-- and its frames
+pub frame_starts_from_laid : (l : Layout) → Laid l → (j : ℕ) (g : Group) → slice_get l.groups j ≡ Some g → g.eh_frame_start ≡ bytes_before l role.EhFrame j
+frame_starts_from_laid l h j g is =
+    let start = (group_follows l h j g is).frames in
+    let before = given_before l h role.EhFrame (record { raw = λ e. absurd (omega arith); dynamic = λ e. absurd (omega arith) }) j in
     omega arith

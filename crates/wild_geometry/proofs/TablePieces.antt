@@ -1,5 +1,5 @@
 -- What the groups give to the parts lies in the image, each piece apart from the others.
-use Rattle.std.proofs.Common.{◌≡◌, ℕ, zero, suc, ◌+◌, ◌<◌, ◌≤◌, inl, inr, ◌==◌, true, false, List, [], ◌∷◌, length, get_or, All, AllPairs, Contains, Some, slice_get, flat_map, refl, sym, ap, ◌∙◌, arith}
+use Rattle.std.proofs.Common.{◌≡◌, ℕ, zero, suc, ◌+◌, ◌<◌, ◌≤◌, inl, inr, ◌==◌, true, false, List, [], ◌∷◌, length, get_or, All, AllPairs, Contains, Some, slice_get, flat_map, refl, sym, ap, ◌∙◌, arith, subst}
 use Rattle.std.proofs.lemmas.Bool.{cases_Bool, cases_order, and_parts, or_cases, leb-true, eqb-true, eqb-false}
 use Rattle.std.proofs.lemmas.Option.{slice_get-get_or, same_Some}
 use Rattle.std.proofs.lemmas.List.Elements.{All-nil, All-cons}
@@ -15,6 +15,7 @@ use Rattle.wild_types.specs.FilePlaces.{given}
 use Rattle.wild_types.specs.Parts.{role_place, has_role}
 use Rattle.wild_types.proofs.ListLemmas.{total-prefix}
 use Rattle.wild_clauses.specs.Places.{takes_room, ends_low}
+use Rattle.wild_laid.specs.Laid.{sorted_inputs}
 use Rattle.wild_layout.specs.Content.{content}
 use Rattle.wild_layout.specs.Image.{some_piece, given_before, table_piece, table_pieces, owned_pieces, pieces}
 use Rattle.wild_layout.specs.Faults.{flat_map_from}
@@ -25,11 +26,14 @@ use Rattle.wild_geometry.proofs.InterleaveLemmas.{All-flat_map_from, AllPairs-fl
 use Rattle.wild_geometry.proofs.LaidLemmas.{Laid}
 use Rattle.wild_geometry.proofs.OrderLemmas.{Takes, EndsBy-image, Follows, PartsFollow-from_order}
 use Rattle.wild_geometry.proofs.ShareLemmas.{total_to, size_from_shares, content_is_given, content_of_raw}
-use Rattle.wild_geometry.proofs.SectionLemmas.{all_sections, Runs}
+use Rattle.wild_geometry.proofs.StandingLemmas.{all_sections, sorted_loaded}
+use Rattle.wild_geometry.proofs.SectionLemmas.{each_known, sorted_known, Runs}
 use Rattle.wild_geometry.proofs.PieceLemmas.{parts_apart, owner_at, offset_is, stood_room, Standing, section_rooms_apart, InImage, section_rooms_within}
-use Rattle.wild_geometry.proofs.Rooms.{AreBeside, room_of, section_room}
+use Rattle.wild_geometry.proofs.Rooms.{AreBeside, room_of, section_room, place_of_known, place_of_sorted, rooms_stand}
 use Rattle.wild_geometry.proofs.ThunkRuns.{all_thunks}
-use Rattle.wild_geometry.proofs.ThunkLemmas.{SectionsStand, ThunksStand, thunk_room, each_thunk, each_owned, owned_apart, owned_within}
+use Rattle.wild_geometry.proofs.ThunkLemmas.{SectionsStand, ThunksStand, thunk_room, each_thunk}
+use Rattle.wild_geometry.proofs.FrontLemmas.{Front, fronts, FrontStands, front_at, front_is, each_front, FrontsStand-from_laid}
+use Rattle.wild_geometry.proofs.OwnedLemmas.{Owned, each_owned, owned_apart, owned_within}
 
 -- ---- parts
 
@@ -178,21 +182,27 @@ given_apart l h follow =
         each_given l (Apart (piece_at l i p j g)) n k f d (λ o q lk y.
         two_given l h follow i o p q j k g f li lk (omega arith) low x y (λ e. lt)))
 
+-- and what stands at the front of one
+front_apart : (l : Layout) → AllPairs (Follows l) l.parts → (i : ℕ) (p : Part) (j : ℕ) (xs : List ℕ) (x : Front) → slice_get l.parts i ≡ Some p → Given l i p j (length xs) → FrontStands l x → Apart (piece_in l i p j xs) (front_at l x)
+front_apart l f i p j xs x is g st = subst (Apart (piece_in l i p j xs)) (front_is l x st) (owner_apart l f i p j xs x.part st.part.address x.bytes st.part is g st.room)
+
 -- a group's bytes of a part, with all that files own
-given_and_owned : (l : Layout) → Laid l → Standing l → ThunksStand l → All (λ a. All (Apart a) (flat_map (owned_pieces l) l.groups)) (given_pieces l)
-given_and_owned l h st thunks =
+given_and_owned : (l : Layout) → Laid l → Owned l → All (λ a. All (Apart a) (flat_map (owned_pieces l) l.groups)) (given_pieces l)
+given_and_owned l h own =
     All-flat_map_from (λ a. All (Apart a) (flat_map (owned_pieces l) l.groups)) (table_pieces l) 0 l.groups (λ n j g e low.
     each_given l (λ a. All (Apart a) (flat_map (owned_pieces l) l.groups)) n j g (omega arith) (λ i p li x.
-    each_owned l (AreBeside (extent_of (piece_at l i p j g))) st.stood
+    each_owned l (AreBeside (extent_of (piece_at l i p j g))) own
     (All-flat_map (Apart (piece_at l i p j g)) (section_room l) (all_sections l) (λ k s m.
     All-optional (Apart (piece_at l i p j g)) (is_filled l (get_or (all_sections l) k s)) (room_of l (get_or (all_sections l) k s)) (λ c.
     let y = get_or (all_sections l) k s in
-    let there = st.stood k s m c in
-    owner_apart l st.follow i (get_or l.parts i p) j (content_at l i p j g) y.part y.address (room_of l y).bytes there.part (slice_get-get_or l.parts i p li) (given_from_content l h i p li j g low x) (stood_room l y there))))
+    let there = own.stood k s m c in
+    owner_apart l own.follow i (get_or l.parts i p) j (content_at l i p j g) y.part y.address (room_of l y).bytes there.part (slice_get-get_or l.parts i p li) (given_from_content l h i p li j g low x) (stood_room l y there))))
+    (each_front l (Apart (piece_at l i p j g)) (λ k y m some.
+    front_apart l own.follow i (get_or l.parts i p) j (content_at l i p j g) (get_or (fronts l) k y) (slice_get-get_or l.parts i p li) (given_from_content l h i p li j g low x) (own.fronts.stood k y m some)))
     (each_thunk l (Apart (piece_at l i p j g)) (λ k t m.
     let y = get_or (all_thunks l) k t in
-    let there = thunks.stood k t m in
-    owner_apart l st.follow i (get_or l.parts i p) j (content_at l i p j g) l.primary_part y.address (thunk_bytes l y) there.part (slice_get-get_or l.parts i p li) (given_from_content l h i p li j g low x) (thunk_room l y there)))))
+    let there = own.thunks.stood k t m in
+    owner_apart l own.follow i (get_or l.parts i p) j (content_at l i p j g) l.primary_part y.address (thunk_bytes l y) there.part (slice_get-get_or l.parts i p li) (given_from_content l h i p li j g low x) (thunk_room l y there)))))
 
 given_within : (l : Layout) → Laid l → All (InImage l) (given_pieces l)
 given_within l h =
@@ -203,13 +213,27 @@ given_within l h =
     let in_image = EndsBy-image l i p li one.takes (omega arith) in
     omega arith))
 
+-- what is known of all that files own
+owned_from_laid : (l : Layout) → Laid l → SectionsStand l → ThunksStand l → Owned l
+owned_from_laid l laid stood thunks = record {
+  laid = laid;
+  follow = (PartsFollow-from_order l 0 0 l.parts laid.order).pairs;
+  places = rooms_stand l (λ i g m j f n k s o. place_of_known l (get_or (get_or (get_or l.groups i g).files j f).sections k s) (each_known l laid i g m j f n k s o)) (λ i x m. place_of_sorted l (get_or (sorted_inputs l) i x) (sorted_known l laid i x m) (sorted_loaded l i x m));
+  first = laid.shares.files;
+  some = laid.counts.some_group;
+  stood = stood;
+  thunks = thunks;
+  fronts = FrontsStand-from_laid l laid;
+}
+
 pub AreApart-from_laid : (l : Layout) → Laid l → Runs l → SectionsStand l → ThunksStand l → AreApart (image_size l) (pieces l)
 unfolding pieces
 AreApart-from_laid l laid runs stood thunks =
-    let h : Standing l = record { follow = (PartsFollow-from_order l 0 0 l.parts laid.order).pairs; ends = EndsBy-image l; runs = runs; stood = stood } in
+    let own = owned_from_laid l laid stood thunks in
+    let h : Standing l = record { follow = own.follow; ends = EndsBy-image l; runs = runs; stood = stood } in
     record {
-      within = All-both (InImage l) (table_pieces l) (owned_pieces l) 0 l.groups (given_within l laid) (owned_within l (section_rooms_within l h) stood thunks);
-      apart = AllPairs-both Apart (table_pieces l) (owned_pieces l) 0 l.groups Apart-flip (given_apart l laid h.follow) (owned_apart l h.follow Apart-flip (section_rooms_apart l h) stood thunks) (given_and_owned l laid h thunks);
+      within = All-both (InImage l) (table_pieces l) (owned_pieces l) 0 l.groups (given_within l laid) (owned_within l own (section_rooms_within l h));
+      apart = AllPairs-both Apart (table_pieces l) (owned_pieces l) 0 l.groups Apart-flip (given_apart l laid h.follow) (owned_apart l Apart-flip own (section_rooms_apart l h)) (given_and_owned l laid own);
     }
 
 -- ---- the tables

@@ -2,42 +2,39 @@
 use Rattle.std.proofs.Common.{◌≡◌, ℕ, zero, suc, ◌+◌, ◌-◌, ◌<◌, ◌≤◌, inl, inr, ◌==◌, Bool, true, false, not, ◌&&◌, if◌then◌else◌, List, [], ◌∷◌, length, map, get_or, All, AllPairs, Contains, Option, Some, None, slice_get, flat_map, refl, sym, ap, ◌∙◌, arith, subst}
 use Rattle.std.specs.Prelude.{unwrap_or}
 use Rattle.std.specs.List.{list_any}
-use Rattle.std.proofs.lemmas.Bool.{cases_Bool, and_parts, and_from, eqb-true, eq-eqb, ne_eqb, ltb-true}
-use Rattle.std.proofs.lemmas.Option.{get_or_from_slice_get, slice_get_within, slice_get-get_or}
+use Rattle.std.proofs.lemmas.Bool.{cases_Bool, and_parts, eqb-true, ne_eqb, ltb-true}
+use Rattle.std.proofs.lemmas.Option.{get_or_from_slice_get, slice_get_within, slice_get-get_or, same_Some}
 use Rattle.std.proofs.lemmas.List.Elements.{All-nil, All-cons, All-weaker}
 use Rattle.wild_words.specs.Overlay.{Piece, Apart}
-use Rattle.wild_words.specs.declared.extents.Extent.{Extent}
 use Rattle.wild_words.proofs.Basics.{implied}
-use Rattle.wild_words.proofs.ListLemmas.{AllPairs-nil, All-flat_map, AllPairs-flat_map, All-optional, All-from_flat_map, holds_at, Found-from_list_any, flat_map-flat_map, flat_map-same}
+use Rattle.wild_words.proofs.ListLemmas.{AllPairs-nil, All-flat_map, AllPairs-flat_map, All-from_flat_map, holds_at, Found-from_list_any}
 use Rattle.wild_types.specs.declared.kind.Machine.{Machine}
 use Rattle.wild_types.specs.declared.kind.Machine.TheVariants as machine
 use Rattle.wild_types.specs.declared.part.Part.{Part}
-use Rattle.wild_types.specs.declared.input.InputSection.{InputSection}
 use Rattle.wild_types.specs.declared.file.File.{File}
 use Rattle.wild_types.specs.declared.file.Group.{Group}
 use Rattle.wild_types.specs.declared.layout.Thunk.{Thunk}
 use Rattle.wild_types.specs.declared.layout.Layout.{Layout}
 use Rattle.wild_types.specs.FileThunks.{thunk_size, block_of, thunks_of}
-use Rattle.wild_types.specs.Lookups.{is_filled, image_size, is_allocated_section, takes_file_bytes, files_of}
-use Rattle.wild_clauses.specs.Contents.{is_raw, holds_thunks}
+use Rattle.wild_types.specs.Lookups.{is_filled, image_size, is_allocated_section, takes_file_bytes}
+use Rattle.wild_types.specs.FilePlaces.{given}
+use Rattle.wild_clauses.specs.Contents.{is_raw, holds_thunks, section_misplaced}
 use Rattle.wild_clauses.specs.Indexes.{part_index_fits}
 use Rattle.wild_clauses.specs.Places.{part_lies}
-use Rattle.wild_clauses.specs.Thunks.{is_used, has_thunks, misplaced_in, owns, is_owned, block_lost, machine_takes}
-use Rattle.wild_layout.specs.Sites.{extent_of}
+use Rattle.wild_clauses.specs.Thunks.{is_used, has_thunks, misplaced_from, misplaced_in, owns, is_owned, block_lost, machine_takes}
 use Rattle.wild_layout.specs.Thunks.{thunk_bytes}
-use Rattle.wild_layout.specs.Image.{thunk_offset, thunk_piece, thunk_pieces, owned_pieces}
+use Rattle.wild_layout.specs.Image.{thunk_offset, thunk_piece}
 use Rattle.wild_layout.specs.SectionPlaces.{HasRoom}
 use Rattle.wild_layout.specs.ThunkPlaces.{ThunkLies, IsOwned}
 use Rattle.wild_layout.proofs.ThunkLemmas.{length-thunk_bytes}
-use Rattle.wild_geometry.proofs.InterleaveLemmas.{AllPairs-two, All-two}
 use Rattle.wild_geometry.proofs.LaidLemmas.{Laid}
 use Rattle.wild_geometry.proofs.OrderLemmas.{Follows, EndsBy-image}
 use Rattle.wild_geometry.proofs.ShareLemmas.{size_from_shares}
-use Rattle.wild_geometry.proofs.RunLemmas.{sections_of, sections_in, get_or-map_address, length-map_address}
-use Rattle.wild_geometry.proofs.SectionLemmas.{all_sections, EachSection-from_all, Stood, raw_role}
-use Rattle.wild_geometry.proofs.Rooms.{HasSize, room_of, length-room, section_room, rooms_in, file_rooms, rooms_stand, all_at, apart_at}
-use Rattle.wild_geometry.proofs.ThunkRuns.{thunks_in, all_thunks, LiesFrom, Ahead, Beside, unused, Spread-from_groups}
-use Rattle.wild_geometry.proofs.PieceLemmas.{offset_is, owners_apart, owner_ends, stood_room, section_rooms, InImage}
+use Rattle.wild_geometry.proofs.RunLemmas.{get_or-map_address, length-map_address}
+use Rattle.wild_geometry.proofs.StandingLemmas.{all_sections}
+use Rattle.wild_geometry.proofs.SectionLemmas.{Stood, raw_role}
+use Rattle.wild_geometry.proofs.ThunkRuns.{thunks_in, all_thunks, LiesFrom, Ahead, Beside, unused, Spread-from_groups, Thunks-behind}
+use Rattle.wild_geometry.proofs.PieceLemmas.{offset_is, owners_apart, owner_ends}
 use Rattle.wild_geometry.proofs.CarriedLemmas.{Filled-from_tests, byte_of_part}
 
 -- ---- layouts without thunks
@@ -70,6 +67,7 @@ pub record ThunksStand (l : Layout) : Type 0 where
   pub stood : All (ThunkStood l) (all_thunks l)
   pub ascend : AllPairs Ahead (all_thunks l)
   pub beside : All (λ s. All (Beside l l.primary_part s) (all_thunks l)) (all_sections l)
+  pub behind : (g : Group) (gs : List Group) (p : Part) → l.groups ≡ g ∷ gs → slice_get l.parts l.primary_part ≡ Some p → All (λ (t : Thunk). p.address + given l.primary_part g ≤ t.address) (flat_map (thunks_in l) gs)
 
 abbrev pub SectionsStand : Layout → Type 0
 SectionsStand l = All (λ s. is_filled l s ≡ true → Stood l s) (all_sections l)
@@ -81,6 +79,9 @@ none_stand l none =
       stood = subst (All (ThunkStood l)) (sym e) (All-nil (ThunkStood l));
       ascend = subst (AllPairs Ahead) (sym e) (AllPairs-nil Ahead);
       beside = λ i s m. subst (All (Beside l l.primary_part (get_or (all_sections l) i s))) (sym e) (All-nil (Beside l l.primary_part (get_or (all_sections l) i s)));
+      behind = λ g gs p is there. (let later = flat_map-none (thunks_in l) gs (λ h. flat_map-none (thunks_of l) h.files (no_thunks l none)) in
+          let P : Thunk → Type 0 = λ t. p.address + given l.primary_part g ≤ t.address in
+          subst (All P) (sym later) (All-nil P));
     }
 
 some_stand : (l : Layout) → Laid l → (p : Part) → slice_get l.parts l.primary_part ≡ Some p → holds_thunks l (Some p) ≡ true → misplaced_in l (Some p) ≡ None → ThunksStand l
@@ -93,11 +94,15 @@ some_stand l h p is fits placed =
     let count = length-map_address l.parts in
     let start : p.address ≡ get_or (map (λ (q : Part). q.address) l.parts) k 0 = sym (get_or-map_address l.parts k p there ∙ ap (λ (q : Part). q.address) same) in
     let size = size_from_shares l.groups 0 l.parts h.shares.sums k k p (omega arith) there ∙ ap (λ (q : Part). q.size) same in
+    let low : k < length (map (λ (x : Part). x.address) l.parts) = omega arith in
     let r = Spread-from_groups l (p.address + p.size) p.address (map (λ (q : Part). q.address) l.parts) 0 0 l.groups h.inputs.order placed (omega arith) start (p.address + p.size) (omega arith) in
     record {
       stood = All-weaker (LiesFrom p.address (p.address + p.size)) (ThunkStood l) (λ t f. record { part = p; room = record { listed = is; raw = raw_role p p.role refl a.0; takes = b.0; from = f.from; to = f.to }; allocated = b.1 }) (all_thunks l) r.within;
       ascend = r.ascend;
       beside = r.beside;
+      behind = λ g gs q split there. (let same_part = same_Some p q (sym is ∙ there) in
+          subst (λ (x : Part). All (λ (t : Thunk). x.address + given k g ≤ t.address) (flat_map (thunks_in l) gs)) same_part
+          (Thunks-behind l (p.address + p.size) p.address (map (λ (x : Part). x.address) l.parts) 0 0 g gs (subst (λ (hs : List Group). section_misplaced l (map (λ (x : Part). x.address) l.parts) 0 hs ≡ None) split h.inputs.order) (subst (λ (hs : List Group). misplaced_from l (p.address + p.size) p.address 0 hs ≡ None) split placed) low start));
     }
 
 pub ThunksStand-from_laid : (l : Layout) → Laid l → ThunksStand l
@@ -125,7 +130,7 @@ thunk_room l t st = subst (λ (n : ℕ). HasRoom l l.primary_part t.address n st
 pub each_thunk : (l : Layout) (P : Piece → Type 0) → All (λ t. P (thunk_at l t)) (all_thunks l) → All P (pieces_of_thunks l)
 each_thunk l P h = All-flat_map P (thunk_piece l) (all_thunks l) (λ i t m. All-cons P (thunk_at l (get_or (all_thunks l) i t)) [] (h i t m) (All-nil P))
 
-thunks_apart : (l : Layout) → AllPairs (Follows l) l.parts → ThunksStand l → AllPairs Apart (pieces_of_thunks l)
+pub thunks_apart : (l : Layout) → AllPairs (Follows l) l.parts → ThunksStand l → AllPairs Apart (pieces_of_thunks l)
 thunks_apart l f h =
     AllPairs-flat_map Apart (thunk_piece l) (all_thunks l)
     (λ i t m. (λ j k d lt n. absurd (omega arith)))
@@ -139,61 +144,8 @@ thunks_apart l f h =
         let b = h.stood j t m in
         owners_apart l f l.primary_part l.primary_part x.address y.address (thunk_bytes l x) (thunk_bytes l y) a.part b.part (thunk_room l x a) (thunk_room l y b) (λ e. inl (let n = length-thunk_bytes l x in let o = h.ascend i j t lt m in omega arith))
 
--- a thunk and an input section
-section_and_thunk : (l : Layout) → AllPairs (Follows l) l.parts → (s : InputSection) (t : Thunk) → is_filled l s ≡ true → Stood l s → ThunkStood l t → Beside l l.primary_part s t → Apart (room_of l s) (thunk_at l t)
-section_and_thunk l f s t filled a b beside =
-    owners_apart l f s.part l.primary_part s.address t.address (room_of l s).bytes (thunk_bytes l t) a.part b.part (stood_room l s a) (thunk_room l t b) (λ e.
-    let n = length-room l s in
-    let m = length-thunk_bytes l t in
-    elim (beside (and_from (is_filled l s) (s.part == l.primary_part) filled (eq-eqb s.part l.primary_part e))) [ inl u ↦ inl (omega arith) | inr v ↦ inr (omega arith) ])
-
-sections_and_thunks : (l : Layout) → AllPairs (Follows l) l.parts → SectionsStand l → ThunksStand l → All (λ a. All (Apart a) (pieces_of_thunks l)) (section_rooms l)
-sections_and_thunks l f stood h =
-    All-flat_map (λ a. All (Apart a) (pieces_of_thunks l)) (section_room l) (all_sections l) (λ i s m.
-    All-optional (λ a. All (Apart a) (pieces_of_thunks l)) (is_filled l (get_or (all_sections l) i s)) (room_of l (get_or (all_sections l) i s)) (λ filled.
-    each_thunk l (Apart (room_of l (get_or (all_sections l) i s))) (λ j t n.
-    section_and_thunk l f (get_or (all_sections l) i s) (get_or (all_thunks l) j t) filled (stood i s m filled) (h.stood j t n) (h.beside i s m j t n))))
-
-thunk_in_image : (l : Layout) (t : Thunk) → ThunkStood l t → thunk_offset l t + thunk_size ≤ image_size l
+pub thunk_in_image : (l : Layout) (t : Thunk) → ThunkStood l t → thunk_offset l t + thunk_size ≤ image_size l
 thunk_in_image l t st = owner_ends l (EndsBy-image l) l.primary_part t.address thunk_size st.part st.room (omega arith)
-
-thunks_within : (l : Layout) → ThunksStand l → All (InImage l) (pieces_of_thunks l)
-thunks_within l h = each_thunk l (InImage l) (λ i t m. (let n = length-thunk_bytes l (get_or (all_thunks l) i t) in let e = thunk_in_image l (get_or (all_thunks l) i t) (h.stood i t m) in omega arith))
-
--- ---- file by file
-
-sections_by_file : (l : Layout) → section_rooms l ≡ flat_map (rooms_in l) (files_of l.groups)
-sections_by_file l =
-    flat_map-flat_map (section_room l) sections_in l.groups
-    ∙ flat_map-same (λ g. flat_map (section_room l) (sections_in g)) (λ g. flat_map (rooms_in l) g.files) l.groups (λ g. flat_map-flat_map (section_room l) sections_of g.files)
-    ∙ sym (flat_map-flat_map (rooms_in l) (λ (g : Group). g.files) l.groups)
-
-thunks_by_file : (l : Layout) → pieces_of_thunks l ≡ flat_map (thunk_pieces l) (files_of l.groups)
-thunks_by_file l =
-    flat_map-flat_map (thunk_piece l) (thunks_in l) l.groups
-    ∙ flat_map-same (λ g. flat_map (thunk_piece l) (thunks_in l g)) (λ g. flat_map (thunk_pieces l) g.files) l.groups (λ g. flat_map-flat_map (thunk_piece l) (thunks_of l) g.files)
-    ∙ sym (flat_map-flat_map (thunk_pieces l) (λ (g : Group). g.files) l.groups)
-
--- what files own stands where the rooms of their sections and their thunks do
-places : (l : Layout) → SectionsStand l → map extent_of (flat_map (file_rooms l) (files_of l.groups)) ≡ map extent_of (flat_map (owned_pieces l) l.groups)
-places l stood = rooms_stand l (EachSection-from_all l (HasSize l) (λ k s m filled f. (stood k s m filled).length f))
-
--- what holds of the places of the sections' rooms, and of those of thunks, holds of those of all that files own
-pub each_owned : (l : Layout) (P : Extent → Type 0) → SectionsStand l → All (λ (p : Piece). P (extent_of p)) (section_rooms l) → All (λ (p : Piece). P (extent_of p)) (pieces_of_thunks l) → All (λ (p : Piece). P (extent_of p)) (flat_map (owned_pieces l) l.groups)
-each_owned l P stood a b =
-    let Q : Piece → Type 0 = λ p. P (extent_of p) in
-    let fs = files_of l.groups in
-    all_at P (flat_map (file_rooms l) fs) (flat_map (owned_pieces l) l.groups) (places l stood) (All-two Q (rooms_in l) (thunk_pieces l) fs (subst (All Q) (sections_by_file l) a) (subst (All Q) (thunks_by_file l) b))
-
-pub owned_apart : (l : Layout) → AllPairs (Follows l) l.parts → ((p q : Piece) → Apart p q → Apart q p) → AllPairs Apart (section_rooms l) → SectionsStand l → ThunksStand l → AllPairs Apart (flat_map (owned_pieces l) l.groups)
-owned_apart l f flip apart stood h =
-    let cross = sections_and_thunks l f stood h in
-    let fs = files_of l.groups in
-    let by_file = subst (λ (ps : List Piece). All (λ a. All (Apart a) ps) (flat_map (rooms_in l) fs)) (thunks_by_file l) (subst (λ (ps : List Piece). All (λ a. All (Apart a) (pieces_of_thunks l)) ps) (sections_by_file l) cross) in
-    apart_at (flat_map (file_rooms l) fs) (flat_map (owned_pieces l) l.groups) (places l stood) (AllPairs-two Apart (rooms_in l) (thunk_pieces l) fs flip (subst (AllPairs Apart) (sections_by_file l) apart) (subst (AllPairs Apart) (thunks_by_file l) (thunks_apart l f h)) by_file)
-
-pub owned_within : (l : Layout) → All (InImage l) (section_rooms l) → SectionsStand l → ThunksStand l → All (InImage l) (flat_map (owned_pieces l) l.groups)
-owned_within l a stood h = each_owned l (λ (x : Extent). x.end ≤ image_size l) stood a (thunks_within l h)
 
 -- ---- thunks of a layout that is laid out
 

@@ -17,9 +17,9 @@ use Rattle.wild_types.specs.FilePlaces.{given}
 use Rattle.wild_types.specs.FileThunks.{thunk_size, thunks_of}
 use Rattle.wild_clauses.specs.Contents.{ends_of, parts_placed, section_misplaced}
 use Rattle.wild_clauses.specs.SlotPlaces.{and_then, walk}
-use Rattle.wild_clauses.specs.Thunks.{is_used, next_code, stand_from, block_step, section_step, file_step, or_next, misplaced_from}
+use Rattle.wild_clauses.specs.Thunks.{standing, is_used, next_code, stand_from, block_step, section_step, file_step, or_next, misplaced_from}
 use Rattle.wild_clauses.proofs.BlockLemmas.{length-ends_of, get_or-ends_of}
-use Rattle.wild_geometry.proofs.RunLemmas.{sections_of, sections_in, Owns, From, To, Run-from_group, each_part_placed}
+use Rattle.wild_geometry.proofs.RunLemmas.{sections_in, Owns, From, To, Run-from_group, each_part_placed}
 
 -- the thunks of a group, and all, in the order of processing
 abbrev pub thunks_in : Layout → Group → List Thunk
@@ -217,22 +217,22 @@ in_turn : {S : Type 0} (first : Result S ℕ) (next : S → Result S ℕ) (end :
 in_turn (Err e) next end h = cc
 in_turn (Ok s) next end h = record { between = s; is = refl; rest = h }
 
-Spread-from_file : (l : Layout) (group limit start end : ℕ) (f : File) → file_step l group limit start f ≡ Ok end → start ≤ limit → All (To l l.primary_part limit) f.sections → (end ≤ limit) × Spread l l.primary_part start end f.sections (thunks_of l f)
+Spread-from_file : (l : Layout) (group limit start end : ℕ) (f : File) → file_step l group limit start f ≡ Ok end → start ≤ limit → All (To l l.primary_part limit) (standing l f) → (end ≤ limit) × Spread l l.primary_part start end (standing l f) (thunks_of l f)
 Spread-from_file l group limit start end f h le ends =
-    let w = in_turn (walk (section_step l group) start f.sections) (λ n. block_step f.thunk_block limit n (thunks_of l f)) end h in
-    let a = Spread-from_sections l group start limit w.between f.sections w.is le ends in
+    let w = in_turn (walk (section_step l group) start (standing l f)) (λ n. block_step f.thunk_block limit n (thunks_of l f)) end h in
+    let a = Spread-from_sections l group start limit w.between (standing l f) w.is le ends in
     let b = Spread-from_block l l.primary_part f.thunk_block limit w.between end (thunks_of l f) w.rest a.0 in
-    (b.0, subst (λ (ss : List InputSection). Spread l l.primary_part start end ss (thunks_of l f)) (append-nil f.sections) (Spread-append l l.primary_part start w.between end f.sections [] [] (thunks_of l f) a.1 b.1))
+    (b.0, subst (λ (ss : List InputSection). Spread l l.primary_part start end ss (thunks_of l f)) (append-nil (standing l f)) (Spread-append l l.primary_part start w.between end (standing l f) [] [] (thunks_of l f) a.1 b.1))
 
-Spread-from_files : (l : Layout) (group limit start end : ℕ) (fs : List File) → walk (file_step l group limit) start fs ≡ Ok end → start ≤ limit → All (To l l.primary_part limit) (flat_map sections_of fs) → (end ≤ limit) × Spread l l.primary_part start end (flat_map sections_of fs) (flat_map (thunks_of l) fs)
+Spread-from_files : (l : Layout) (group limit start end : ℕ) (fs : List File) → walk (file_step l group limit) start fs ≡ Ok end → start ≤ limit → All (To l l.primary_part limit) (flat_map (standing l) fs) → (end ≤ limit) × Spread l l.primary_part start end (flat_map (standing l) fs) (flat_map (thunks_of l) fs)
 Spread-from_files l group limit start end [] h le ends =
     let e = walk_nil (file_step l group limit) start end h in
     (omega arith, subst (λ (n : ℕ). Spread l l.primary_part start n [] []) e (Spread-none l l.primary_part start))
 Spread-from_files l group limit start end (f ∷ fs) h le ends =
     let w = Walked-from_walk (file_step l group limit) start f fs end h in
-    let a = Spread-from_file l group limit start w.next f w.first le (All-append-left (To l l.primary_part limit) f.sections (flat_map sections_of fs) ends) in
-    let b = Spread-from_files l group limit w.next end fs w.others a.0 (All-append-right (To l l.primary_part limit) f.sections (flat_map sections_of fs) ends) in
-    (b.0, Spread-append l l.primary_part start w.next end f.sections (flat_map sections_of fs) (thunks_of l f) (flat_map (thunks_of l) fs) a.1 b.1)
+    let a = Spread-from_file l group limit start w.next f w.first le (All-append-left (To l l.primary_part limit) (standing l f) (flat_map (standing l) fs) ends) in
+    let b = Spread-from_files l group limit w.next end fs w.others a.0 (All-append-right (To l l.primary_part limit) (standing l f) (flat_map (standing l) fs) ends) in
+    (b.0, Spread-append l l.primary_part start w.next end (standing l f) (flat_map (standing l) fs) (thunks_of l f) (flat_map (thunks_of l) fs) a.1 b.1)
 
 Spread-longer : (l : Layout) (part low end high : ℕ) (ss : List InputSection) (ts : List Thunk) → end ≤ high → Spread l part low end ss ts → Spread l part low high ss ts
 Spread-longer l part low end high ss ts le r = record {
@@ -254,7 +254,7 @@ none_if true rest i h = (refl, h)
 none_if false rest i h = cc
 
 pub Spread-from_groups : (l : Layout) (last start : ℕ) (starts : List ℕ) (i j : ℕ) (gs : List Group) → section_misplaced l starts i gs ≡ None → misplaced_from l last start j gs ≡ None → l.primary_part < length starts → start ≡ get_or starts l.primary_part 0 → (end : ℕ) → end ≡ start + total (given l.primary_part) gs
-    → Spread l l.primary_part start end (flat_map sections_in gs) (flat_map (thunks_in l) gs)
+    → Spread l l.primary_part start end (flat_map (sections_in l) gs) (flat_map (thunks_in l) gs)
 Spread-from_groups l last start starts i j [] h w m is end e =
     let same : start ≡ end = omega arith in
     subst (λ (n : ℕ). Spread l l.primary_part start n [] []) same (Spread-none l l.primary_part start)
@@ -266,9 +266,24 @@ Spread-from_groups l last start starts i j (g ∷ gs) h w m is end e =
     let here = both_pass (walk (file_step l j next) start g.files) (misplaced_from l last next (j + 1) gs) within.1 in
     let run = Run-from_group l k (get_or starts k 0) (get_or starts k 0 + given k g) g (omega arith) (each_part_placed l g 0 starts placed.0 k k (omega arith) m) in
     let limit : get_or starts k 0 + given k g ≡ next = omega arith in
-    let first = Spread-from_files l j next start here.0.0 g.files here.0.1 (omega arith) (subst (λ (n : ℕ). All (To l k n) (sections_in g)) limit run.to) in
+    let first = Spread-from_files l j next start here.0.0 g.files here.0.1 (omega arith) (subst (λ (n : ℕ). All (To l k n) (sections_in l g)) limit run.to) in
     let n = length-ends_of g 0 starts in
     let own : 0 + k ≡ k = omega arith in
     let z : get_or (ends_of g 0 starts) k 0 ≡ get_or starts k 0 + given k g = rw own at (get_or-ends_of g 0 starts k m) in
     let rest = Spread-from_groups l last next (ends_of g 0 starts) (i + 1) (j + 1) gs placed.1 here.1 (omega arith) (omega arith) end (omega arith) in
-    Spread-append l k start next end (sections_in g) (flat_map sections_in gs) (thunks_in l g) (flat_map (thunks_in l) gs) (Spread-longer l k start here.0.0 next (sections_in g) (thunks_in l g) first.0 first.1) rest
+    Spread-append l k start next end (sections_in l g) (flat_map (sections_in l) gs) (thunks_in l g) (flat_map (thunks_in l) gs) (Spread-longer l k start here.0.0 next (sections_in l g) (thunks_in l g) first.0 first.1) rest
+
+-- those of the groups behind the first stand behind what that is given
+pub Thunks-behind : (l : Layout) (last start : ℕ) (starts : List ℕ) (i j : ℕ) (g : Group) (gs : List Group) → section_misplaced l starts i (g ∷ gs) ≡ None → misplaced_from l last start j (g ∷ gs) ≡ None → l.primary_part < length starts → start ≡ get_or starts l.primary_part 0
+    → All (λ (t : Thunk). start + given l.primary_part g ≤ t.address) (flat_map (thunks_in l) gs)
+Thunks-behind l last start starts i j g gs h w m is =
+    let k = l.primary_part in
+    let next = start + given k g in
+    let placed = none_if (parts_placed l g 0 starts) (section_misplaced l (ends_of g 0 starts) (i + 1) gs) i h in
+    let within = none_if (nat_le next last) (or_next (walk (file_step l j next) start g.files) (misplaced_from l last next (j + 1) gs)) j w in
+    let here = both_pass (walk (file_step l j next) start g.files) (misplaced_from l last next (j + 1) gs) within.1 in
+    let n = length-ends_of g 0 starts in
+    let own : 0 + k ≡ k = omega arith in
+    let z : get_or (ends_of g 0 starts) k 0 ≡ get_or starts k 0 + given k g = rw own at (get_or-ends_of g 0 starts k m) in
+    let rest = Spread-from_groups l last next (ends_of g 0 starts) (i + 1) (j + 1) gs placed.1 here.1 (omega arith) (omega arith) (next + total (given k) gs) refl in
+    All-weaker (LiesFrom next (next + total (given k) gs)) (λ (t : Thunk). next ≤ t.address) (λ t f. f.from) (flat_map (thunks_in l) gs) rest.within

@@ -69,10 +69,10 @@ HasTables-from_laid l h = by (ItemAt-within l.groups 0 h.counts.some_group).item
         let header_length = length-whole_bytes l role.FileHeader in
         let sections_length = length-whole_bytes l role.SectionHeaders in
         let some = h.counts.some_section in
-        let header = IsPiece-from_part l h role.FileHeader 0 f (role_place-1 f.item.role f.has) (rw f.has refl) (λ e. absurd (omega arith)) (record { own = λ x. refl; slots = λ x. refl; header = refl; block = λ x. refl }) g in
+        let header = IsPiece-from_part l h role.FileHeader 0 f (role_place-1 f.item.role f.has) (rw f.has refl) (λ e. absurd (omega arith)) (record { own = λ x. refl; slots = λ x. refl; header = refl; block = λ x. refl; stays = λ at f. refl }) g in
         let within = header.within in
         record {
           file_header = header;
-          program_headers = IsPiece-from_part l h role.ProgramHeaders file_header_size p (role_place-2 p.item.role p.has) (rw p.has refl) (λ e. omega arith) (record { own = λ x. refl; slots = λ x. refl; header = refl; block = λ x. refl }) g;
-          section_headers = IsPiece-from_part l h role.SectionHeaders (offset_of_role role.SectionHeaders l.parts) s (role_place-3 s.item.role s.has) (rw s.has refl) (λ e. absurd (omega arith)) (record { own = λ x. refl; slots = λ x. refl; header = refl; block = λ x. refl }) g;
+          program_headers = IsPiece-from_part l h role.ProgramHeaders file_header_size p (role_place-2 p.item.role p.has) (rw p.has refl) (λ e. omega arith) (record { own = λ x. refl; slots = λ x. refl; header = refl; block = λ x. refl; stays = λ at f. refl }) g;
+          section_headers = IsPiece-from_part l h role.SectionHeaders (offset_of_role role.SectionHeaders l.parts) s (role_place-3 s.item.role s.has) (rw s.has refl) (λ e. absurd (omega arith)) (record { own = λ x. refl; slots = λ x. refl; header = refl; block = λ x. refl; stays = λ at f. refl }) g;
         }

@@ -1,29 +1,28 @@
 -- Laws of bytes that are taken from the front of others.
-use Rattle.std.proofs.Common.{◌≡◌, ℕ, ◌+◌, ◌<◌, ◌≤◌, true, false, List, [], ◌++◌, length, take, drop, get_or, sym, ap, ◌∙◌, arith, subst}
-use Rattle.std.specs.Prelude.{Some, slice_get}
+use Rattle.std.proofs.Common.{◌≡◌, ℕ, ◌+◌, ◌<◌, ◌≤◌, Bool, true, false, not, ◌&&◌, refl, List, [], ◌++◌, length, take, drop, get_or, sym, ap, ◌∙◌, arith, subst}
+use Rattle.std.specs.Prelude.{All, Some, slice_get}
 use Rattle.std.specs.List.{flat_map}
 use Rattle.std.proofs.lemmas.List.{append_assoc, get_or_default, drop_more, drop_at, take_at, length-append, append-nil, drop_all}
 use Rattle.std.proofs.lemmas.Option.{slice_get-get_or}
 use Rattle.wild_words.specs.Words.{place}
-use Rattle.wild_words.specs.Overlay.{overlay}
+use Rattle.wild_words.specs.Overlay.{Piece, overlay}
+use Rattle.wild_sections.proofs.PieceLemmas.{overlay-more}
 use Rattle.wild_types.specs.declared.input.InputSection.{InputSection}
 use Rattle.wild_types.specs.declared.file.File.{File}
 use Rattle.wild_types.specs.declared.file.Group.{Group}
 use Rattle.wild_types.specs.declared.layout.Thunk.{Thunk}
 use Rattle.wild_types.specs.declared.layout.Layout.{Layout}
-use Rattle.wild_types.specs.Lookups.{is_filled}
+use Rattle.wild_types.specs.Lookups.{is_loaded, has_relocations, is_read, is_filled}
 use Rattle.wild_layout.specs.Sites.{section_bytes}
 use Rattle.wild_layout.specs.Thunks.{thunk_bytes}
 use Rattle.wild_layout.specs.Image.{offset_in, section_piece, thunk_offset, thunk_piece}
 use Rattle.wild_layout.specs.SectionPlaces.{SectionLies}
-use Rattle.wild_layout.specs.Geometry.{IsLaidOut}
-use Rattle.wild_geometry.proofs.Rooms.{lies_size}
-use Rattle.wild_image.specs.Pieces.{section_owned, group_tables, group_files, group_bytes}
-use Rattle.wild_image.specs.Append.{BeginsWith, GoesOn, EachFileLies}
-
--- in a layout that is laid out the sections and thunks of each file lie in their parts
-pub each_file_lies : (l : Layout) → IsLaidOut l → EachFileLies l
-each_file_lies l laid = λ i g m. (λ k f n. record { sections = laid.inputs i g m k f n; thunks = laid.thunks i g m k f n })
+use Rattle.std.proofs.lemmas.Bool.{and_parts}
+use Rattle.wild_geometry.proofs.SiteLemmas.{length-section_bytes}
+use Rattle.wild_types.specs.declared.input.Slot.{Slot}
+use Rattle.wild_types.specs.declared.input.Slot.TheVariants as slot
+use Rattle.wild_image.specs.Pieces.{section_owned}
+use Rattle.wild_image.specs.Append.{BeginsWith, GoesOn}
 
 -- what is left behind the first i items, whatever stands behind them all
 abbrev pub StandsBehind : {X : Type 0} → (X → List ℕ) → List X → List ℕ → List ℕ → ℕ → Type 0
@@ -75,6 +74,19 @@ cut_off own bytes n long begins = record {
   back = λ rest e. ap (drop n) e ∙ drop_at own rest n long;
 }
 
+loaded_read : (k : Slot) (b : Bool) → is_loaded k ≡ true → b ≡ false → (has_relocations k && not b) ≡ true
+loaded_read slot.Loaded b e f = rw f refl
+loaded_read slot.Discard b e f = cc
+loaded_read slot.Sorted b e f = cc
+loaded_read slot.Debug b e f = cc
+loaded_read slot.Frame b e f = cc
+loaded_read slot.Merge b e f = cc
+loaded_read slot.Rela b e f = cc
+loaded_read slot.Group b e f = cc
+
+lies_size : (l : Layout) (s : InputSection) → SectionLies l s → is_filled l s ≡ true → (f : File) → length (section_bytes l f s) ≡ s.size
+lies_size l s h filled f = length-section_bytes l f s (λ n. h.bytes (loaded_read s.slot s.nobits ((and_parts (is_loaded s.slot) _ filled).0) n)) h.fields
+
 -- a section that owns bytes has as many as its size
 pub length_owned : (l : Layout) (f : File) (s : InputSection) → SectionLies l s → is_filled l s ≡ true → length (section_owned l f s) ≡ s.size
 length_owned l f s h filled = rw filled (lies_size l s h filled f)
@@ -107,21 +119,28 @@ both_go_on xs ys bytes rest begins goes = (begins.0, goes (ys ++ begins.0) (begi
 pub both_end : (xs ys bytes between rest : List ℕ) → GoesOn xs bytes between → GoesOn ys between rest → GoesOn (xs ++ ys) bytes rest
 both_end xs ys bytes between rest first second = λ after e. second after (first (ys ++ after) (e ∙ append_assoc xs ys after))
 
--- all bytes of a group begin with what it gives to the tables
-pub group_begins : (l : Layout) (g : Group) (bytes : List ℕ) → BeginsWith (group_bytes l g) bytes → BeginsWith (group_tables l g) bytes
-unfolding group_bytes
-group_begins l g bytes begins = both_begin (group_tables l g) (group_files l g) bytes begins
-
--- and go on with its files
-pub group_goes_on : (l : Layout) (g : Group) (bytes rest : List ℕ) → BeginsWith (group_bytes l g) bytes → GoesOn (group_tables l g) bytes rest → BeginsWith (group_files l g) rest
-unfolding group_bytes
-group_goes_on l g bytes rest begins goes = both_go_on (group_tables l g) (group_files l g) bytes rest begins goes
-
--- behind both stands what stands behind the group
-pub group_ends : (l : Layout) (g : Group) (bytes files rest : List ℕ) → GoesOn (group_tables l g) bytes files → GoesOn (group_files l g) files rest → GoesOn (group_bytes l g) bytes rest
-unfolding group_bytes
-group_ends l g bytes files rest tables goes = both_end (group_tables l g) (group_files l g) bytes files rest tables goes
-
 -- bytes that are all of some items begin with those
 pub begins_all : (own bytes : List ℕ) → bytes ≡ own → BeginsWith own bytes
 begins_all own bytes is = ([], is ∙ sym (append-nil own))
+
+-- ---- the same of an item that a loop copied
+
+pub lies_at : {X : Type 0} (P : X → Type 0) (xs items : List X) (i : ℕ) (d : X) → items ≡ xs → i < length items → All P xs → P (get_or items i d)
+lies_at {X} P xs items i d same h all =
+    let Q : List X → Type 0 = λ ys. i < length ys → P (get_or ys i d) in
+    subst Q (sym same) (λ low. all i d low) h
+
+pub begins_at : {X : Type 0} (f : X → List ℕ) (xs items : List X) (i : ℕ) (d : X) (base now : List ℕ) → items ≡ xs → i < length items → BeginsWith (flat_map f xs) base → StandsBehind f xs base now i → BeginsWith (f (get_or items i d)) now
+begins_at {X} f xs items i d base now same h begins stands =
+    let Q : List X → Type 0 = λ ys. i < length ys → BeginsWith (f (get_or ys i d)) now in
+    subst Q (sym same) (λ low. next_begins f xs i (get_or xs i d) base now low (get_or_default xs i d (get_or xs i d) low) begins stands) h
+
+pub stands_at : {X : Type 0} (f : X → List ℕ) (xs items : List X) (i : ℕ) (d : X) (base now next : List ℕ) → items ≡ xs → i < length items → StandsBehind f xs base now i → GoesOn (f (get_or items i d)) now next → StandsBehind f xs base next (i + 1)
+stands_at {X} f xs items i d base now next same h stands goes =
+    let Q : List X → Type 0 = λ ys. i < length ys → GoesOn (f (get_or ys i d)) now next → StandsBehind f xs base next (i + 1) in
+    subst Q (sym same) (λ low on. stands_more f xs i (get_or xs i d) base now next low (get_or_default xs i d (get_or xs i d) low) stands on) h goes
+
+pub overlay_at : {X : Type 0} (f : X → List Piece) (xs items : List X) (i : ℕ) (d : X) (base now next : List ℕ) → items ≡ xs → i < length items → now ≡ overlay (flat_map f (take i xs)) base → next ≡ overlay (f (get_or items i d)) now → next ≡ overlay (flat_map f (take (i + 1) xs)) base
+overlay_at {X} f xs items i d base now next same h before more =
+    let Q : List X → Type 0 = λ ys. i < length ys → next ≡ overlay (f (get_or ys i d)) now → next ≡ overlay (flat_map f (take (i + 1) xs)) base in
+    subst Q (sym same) (λ low step. overlay-more f xs i d base now next low before step) h more

@@ -10,7 +10,7 @@ use Rattle.wild_types.specs.declared.input.InputSection.{InputSection}
 use Rattle.wild_types.specs.declared.file.Group.{Group}
 use Rattle.wild_types.specs.declared.layout.Layout.{Layout}
 use Rattle.wild_types.specs.Lists.{total}
-use Rattle.wild_types.specs.Lookups.{is_read, section_of, section_of_part}
+use Rattle.wild_types.specs.Lookups.{is_counted, section_of, section_of_part}
 use Rattle.wild_clauses.specs.Places.{relocation_count}
 use Rattle.wild_layout.specs.Image.{counted, count_of, counts}
 use Rattle.wild_layout.specs.Geometry.{IsLaidOut}
@@ -39,7 +39,7 @@ group_below : (l : Layout) → IsLaidOut l → (g : Group) → All (IsBelow (len
 group_below l h g =
     All-flat_map (IsBelow (length l.sections)) (file_pairs l) g.files (λ i d m.
     All-flat_map (IsBelow (length l.sections)) (section_pairs l) (get_or g.files i d).sections (λ j e n.
-    All-optional (IsBelow (length l.sections)) (is_read (get_or (get_or g.files i d).sections j e)) (section_of l (get_or (get_or g.files i d).sections j e).part, length (get_or (get_or g.files i d).sections j e).relocations) (λ r.
+    All-optional (IsBelow (length l.sections)) (is_counted (get_or (get_or g.files i d).sections j e)) (section_of l (get_or (get_or g.files i d).sections j e).part, length (get_or (get_or g.files i d).sections j e).relocations) (λ r.
     section_below l h (get_or (get_or g.files i d).sections j e).part)))
 
 pub pairs_below : (l : Layout) → IsLaidOut l → (bs : List Batch) (i : ℕ) → All (λ p. p.0 < length l.sections) (pairs_at l bs i)
@@ -70,7 +70,7 @@ pair_counted true false n = refl
 pair_counted false same n = refl
 
 section_counted : (l : Layout) (k : ℕ) (s : InputSection) → counted_in k (section_pairs l s) ≡ counted l k s
-section_counted l k s = by (is_read s) k (section_of l s.part) (length s.relocations) ∙ pair_counted (is_read s) (section_of l s.part == k) (length s.relocations)
+section_counted l k s = by (is_counted s) k (section_of l s.part) (length s.relocations) ∙ pair_counted (is_counted s) (section_of l s.part == k) (length s.relocations)
   where
     by : (read : Bool) (k at n : ℕ) → counted_in k (if read then (at, n) ∷ [] else []) ≡ (if read then n_if (at == k) n + 0 else 0)
     by true k at n = refl

@@ -10,8 +10,9 @@ use Rattle.wild_clauses.specs.WellFormed.{first_clause}
 use Rattle.wild_clauses.proofs.ClauseLemmas.{first_holds, rest_holds}
 use Rattle.wild_layout.specs.Faults.{group_errors}
 use Rattle.wild_image.specs.Pieces.{group_parts, group_pairs}
-use Rattle.wild_image.specs.Batches.{batch_errors, batch_bytes, batch_pairs, pairs_at, GivesBatch}
+use Rattle.wild_image.specs.Batches.{batch_errors, HasBatch, batch_pairs, pairs_at, GivesBatch}
 use Rattle.wild_image.specs.declared.batch.Batch.{Batch}
+use Rattle.wild_image.specs.declared.buffer.GroupBytes.{GroupBytes}
 use Rattle.wild_image.specs.Jobs.{GivesPiece}
 use Rattle.wild_image.specs.declared.piece.GroupPiece.{GroupPiece}
 use Rattle.wild_image.proofs.OutputLemmas.{few_lists}
@@ -22,21 +23,21 @@ unfolding first_clause
 few_groups l h = let e = few_lists l (first_holds (check_counts l) _ (rest_holds (check_sizes l) _ h)) in let f = e.1 in omega (arith, f)
 
 -- what a batch was found to give is what the batch with its number gives
-pub gives_found : (l : Layout) (bs : List Batch) (i : ℕ) (found : Batch) (r : Result (List ℕ) Error) → slice_get bs i ≡ Some found → Answers r (batch_errors l found) → IfOk r (λ bytes. bytes ≡ batch_bytes l found) → GivesBatch l bs i r
+pub gives_found : (l : Layout) (bs : List Batch) (i : ℕ) (found : Batch) (r : Result GroupBytes Error) → slice_get bs i ≡ Some found → Answers r (batch_errors l found) → IfOk r (HasBatch l found) → GivesBatch l bs i r
 gives_found l bs i found r at faults bytes = λ b e. given l found b r (cc) faults bytes
   where
-    given : (l : Layout) (found b : Batch) (r : Result (List ℕ) Error) → found ≡ b → Answers r (batch_errors l found) → IfOk r (λ bytes. bytes ≡ batch_bytes l found) → Answers r (batch_errors l b) × IfOk r (λ bytes. bytes ≡ batch_bytes l b)
-    given l found b r same faults bytes = (subst (λ (x : Batch). Answers r (batch_errors l x)) same faults, subst (λ (x : Batch). IfOk r (λ bytes. bytes ≡ batch_bytes l x)) same bytes)
+    given : (l : Layout) (found b : Batch) (r : Result GroupBytes Error) → found ≡ b → Answers r (batch_errors l found) → IfOk r (HasBatch l found) → Answers r (batch_errors l b) × IfOk r (HasBatch l b)
+    given l found b r same faults bytes = (subst (λ (x : Batch). Answers r (batch_errors l x)) same faults, subst (λ (x : Batch). IfOk r (HasBatch l x)) same bytes)
 
 pub pairs_found : (l : Layout) (bs : List Batch) (i : ℕ) (found : Batch) (pairs : List (ℕ × ℕ)) → slice_get bs i ≡ Some found → pairs ≡ batch_pairs l found → pairs ≡ pairs_at l bs i
 unfolding pairs_at
 pairs_found l bs i found pairs at is = rw at is
 
 -- what a batch gave
-pub bytes_given : (l : Layout) (bs : List Batch) (i : ℕ) (b : Batch) (r : Result (List ℕ) Error) (bytes : List ℕ) → GivesBatch l bs i r → slice_get bs i ≡ Some b → r ≡ Ok bytes → (batch_errors l b ≡ []) × (bytes ≡ batch_bytes l b)
+pub bytes_given : (l : Layout) (bs : List Batch) (i : ℕ) (b : Batch) (r : Result GroupBytes Error) (bytes : GroupBytes) → GivesBatch l bs i r → slice_get bs i ≡ Some b → r ≡ Ok bytes → (batch_errors l b ≡ []) × HasBatch l b bytes
 bytes_given l bs i b r bytes gives at is = rw is at (gives b at)
 
-pub fault_given : (l : Layout) (bs : List Batch) (i : ℕ) (b : Batch) (r : Result (List ℕ) Error) (e : Error) → GivesBatch l bs i r → slice_get bs i ≡ Some b → r ≡ Err e → Refuses e (batch_errors l b)
+pub fault_given : (l : Layout) (bs : List Batch) (i : ℕ) (b : Batch) (r : Result GroupBytes Error) (e : Error) → GivesBatch l bs i r → slice_get bs i ≡ Some b → r ≡ Err e → Refuses e (batch_errors l b)
 fault_given l bs i b r e gives at is = (rw is at (gives b at)).0
 
 pub piece_found : (l : Layout) (i : ℕ) (found : Group) (r : Result GroupPiece Error) → slice_get l.groups i ≡ Some found → Answers r (group_errors l i found) → IfOk r (λ p. p.parts ≡ group_parts l found) → IfOk r (λ p. p.counts ≡ group_pairs l found) → GivesPiece l i r

@@ -9,3 +9,6 @@ pub mod AppendLemmas
 pub mod GatherLemmas
 pub mod BatchLemmas
 pub mod PlainLemmas
+pub mod StandingLemmas
+pub mod FrontLemmas
+pub mod StoodLemmas

@@ -1,7 +1,7 @@
 -- Laws of the whole image, and of all faults.
-use Rattle.std.proofs.Common.{◌≡◌, ℕ, ◌^◌, ◌<◌, ◌-◌, nat_le, List, [], ◌++◌, length, Result, Ok, Err, refl, ap, ◌∙◌, arith, nat_lt}
+use Rattle.std.proofs.Common.{◌≡◌, ℕ, ◌+◌, ◌^◌, ◌<◌, ◌≤◌, ◌-◌, inl, inr, All, nat_le, List, [], ◌∷◌, ◌++◌, length, Result, Ok, Err, refl, ap, ◌∙◌, arith, nat_lt}
 use Rattle.std.specs.Prelude.{OnOk}
-use Rattle.std.proofs.lemmas.Bool.{and_parts, ltb-true}
+use Rattle.std.proofs.lemmas.Bool.{cases_Bool, and_parts, ltb-true}
 use Rattle.wild_words.specs.Overlay.{overlay}
 use Rattle.wild_types.specs.declared.fault.Error.{Error}
 use Rattle.wild_types.specs.declared.layout.Layout.{Layout}
@@ -17,7 +17,12 @@ use Rattle.wild_layout.specs.Faults.{clause_errors, flat_map_from, part_errors, 
 use Rattle.wild_layout.specs.Geometry.{IsLaidOut}
 use Rattle.wild_layout.proofs.FaultLemmas.{clause_holds}
 use Rattle.wild_sections.specs.Fits.{FieldsFit}
+use Rattle.wild_types.specs.declared.part.Part.{Part}
 use Rattle.wild_types.specs.declared.part.Role.{Role}
+use Rattle.wild_types.specs.Parts.{has_role, part_with}
+use Rattle.wild_laid.specs.Laid.{part_address}
+use Rattle.wild_layout.specs.SearchTable.{address_of_role}
+use Rattle.std.proofs.lemmas.List.Elements.{All-head, All-tail}
 use Rattle.wild_types.specs.declared.part.Role.TheVariants as role
 use Rattle.wild_types.specs.Faults.{Refuses}
 use Rattle.wild_clauses.proofs.ClauseLemmas.{test_holds, first_holds, rest_holds}
@@ -42,6 +47,21 @@ FieldsFit-IsLaidOut l h = record {
   gnu = gnu_stands l h;
   thunks = h.ascending;
 }
+
+address_by : (r : Role) (ps : List Part) → All (λ (p : Part). p.address + p.size ≤ 2 ^ 62) ps → part_address (part_with r ps) + 4 < 2 ^ 64
+address_by r [] h = omega arith
+address_by r (p ∷ ps) h =
+    let P : Part → Type 0 = λ q. q.address + q.size ≤ 2 ^ 62 in
+    let here : p.address + p.size ≤ 2 ^ 62 = All-head P p ps h in
+    let rest = address_by r ps (All-tail P p ps h) in
+    elim (cases_Bool (has_role r p)) [
+      | inl t ↦ rw t (omega (arith, here))
+      | inr f ↦ rw f rest
+    ]
+
+-- a part of a role stands far below the end of memory
+pub role_address : (l : Layout) → IsLaidOut l → (r : Role) → address_of_role l r + 4 < 2 ^ 64
+role_address l laid r = address_by r l.parts (λ i d low. (laid.parts i d low).address)
 
 -- the padding and the groups make the image
 pub image_is : (result : Result (Unit {0}) Error) (l : Layout) (one two : List ℕ) → one ≡ padding l → OnOk result (two ≡ overlay (flat_map_from (group_pieces l) 0 l.groups) one) → OnOk result (two ≡ bytes l)

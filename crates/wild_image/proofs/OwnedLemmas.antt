@@ -1,11 +1,11 @@
 -- Laws of what a group owns of each part.
-use Rattle.std.proofs.Common.{◌≡◌, ℕ, ◌+◌, ◌<◌, inl, inr, ◌==◌, if◌then◌else◌, true, List, [], ◌∷◌, ◌++◌, length, map, take, set, get_or, refl, sym, ap, ◌∙◌, arith, subst}
-use Rattle.std.specs.Prelude.{Option, Some, slice_get}
+use Rattle.std.proofs.Common.{◌≡◌, ℕ, ◌+◌, ◌<◌, inl, inr, ◌==◌, if◌then◌else◌, Bool, true, false, List, [], ◌∷◌, ◌++◌, length, map, take, set, get_or, refl, sym, ap, ◌∙◌, arith, subst}
+use Rattle.std.specs.Prelude.{Option, Some, slice_get, Result, Ok, Err, OnOk}
 use Rattle.std.specs.List.{flat_map}
 use Rattle.wild_words.proofs.Basics.{slice_get_inside}
 use Rattle.wild_words.proofs.ListLemmas.{flat_map-more}
 use Rattle.std.proofs.lemmas.Bool.{cases_eq, eq-eqb, ne_eqb}
-use Rattle.std.proofs.lemmas.List.{append-nil, append_assoc, get_or-set_same, get_or-set_other, get_or_default, get_or-map, map_more, length-map}
+use Rattle.std.proofs.lemmas.List.{append-nil, nil_from_length, append_assoc, get_or-set_same, get_or-set_other, get_or_default, get_or-map, map_more, length-map}
 use Rattle.std.proofs.lemmas.Option.{get_or_from_slice_get, slice_get_within}
 use Rattle.std.proofs.lemmas.List.FromFn.{fill_by_all}
 use Rattle.wild_types.specs.declared.part.Part.{Part}
@@ -16,7 +16,7 @@ use Rattle.wild_types.specs.declared.layout.Layout.{Layout}
 use Rattle.wild_types.specs.Lookups.{is_filled}
 use Rattle.wild_layout.specs.Sites.{section_bytes}
 use Rattle.wild_layout.specs.Content.{content}
-use Rattle.wild_image.specs.Pieces.{role_of, group_given, owned_in, group_owned, group_part, group_parts}
+use Rattle.wild_image.specs.Pieces.{role_of, group_given, in_part, owned_in, group_owned, group_part, group_parts}
 
 -- bytes behind those of one part
 pub part_extended : (l : Layout) (f : File) (s : InputSection) (parts : List (List ℕ)) (d new : List ℕ) → is_filled l s ≡ true → s.part < length parts → new ≡ get_or parts s.part d ++ section_bytes l f s
@@ -52,6 +52,20 @@ pub both_owned : (f g : ℕ → List ℕ) (base now next : List (List ℕ)) → 
 both_owned f g base now next long first second k low =
     second k (omega arith) ∙ ap (λ (ys : List ℕ). ys ++ g k) (first k low) ∙ append_assoc (get_or base k []) (f k) (g k)
 
+-- the same, where the second may want memory
+pub owned_twice : {T E : Type 0} (r : Result T E) (f g : ℕ → List ℕ) (base now next : List (List ℕ)) → length now ≡ length base → ((k : ℕ) → k < length base → get_or now k [] ≡ get_or base k [] ++ f k)
+    → OnOk r ((k : ℕ) → k < length now → get_or next k [] ≡ get_or now k [] ++ g k) → OnOk r ((k : ℕ) → k < length base → get_or next k [] ≡ get_or base k [] ++ (f k ++ g k))
+owned_twice (Ok x) f g base now next long first second = both_owned f g base now next long first second
+owned_twice (Err e) f g base now next long first second = tt
+
+-- bytes of which there are none stand nowhere
+nowhere : (b : Bool) (bs : List ℕ) → length bs ≡ 0 → (if b then bs else []) ≡ []
+nowhere true bs z = nil_from_length bs z
+nowhere false bs z = refl
+
+pub none_taken : (parts : List (List ℕ)) (k part : ℕ) (bs : List ℕ) → length bs ≡ 0 → get_or parts k [] ≡ get_or parts k [] ++ in_part k part bs
+none_taken parts k part bs z = sym (append-nil (get_or parts k [])) ∙ ap (λ (ys : List ℕ). get_or parts k [] ++ ys) (sym (nowhere (part == k) bs z))
+
 -- one more item's bytes, for an item that a loop read
 pub owned_read : {X : Type 0} (f : ℕ → X → List ℕ) (xs : List X) (i : ℕ) (x : X) (base now next : List (List ℕ)) → i < length xs → x ≡ get_or xs i x → length next ≡ length now
     → ((k : ℕ) → k < length now → get_or now k [] ≡ get_or base k [] ++ flat_map (f k) (take i xs)) → ((k : ℕ) → k < length now → get_or next k [] ≡ get_or now k [] ++ f k x)
@@ -61,6 +75,14 @@ owned_read {X} f xs i x base now next h read long before step k low =
     subst P read (step k (omega arith)) ∙ ap (λ (ys : List ℕ). ys ++ f k (get_or xs i x)) (before k (omega arith))
     ∙ append_assoc (get_or base k []) (flat_map (f k) (take i xs)) (f k (get_or xs i x))
     ∙ ap (λ (ys : List ℕ). get_or base k [] ++ ys) (sym (flat_map-more (f k) xs i x h))
+
+-- the same, of an item that a loop copied
+pub owned_at : {X : Type 0} (f : ℕ → X → List ℕ) (xs items : List X) (i : ℕ) (d : X) (base now next : List (List ℕ)) → items ≡ xs → i < length items → length next ≡ length now
+    → ((k : ℕ) → k < length now → get_or now k [] ≡ get_or base k [] ++ flat_map (f k) (take i xs)) → ((k : ℕ) → k < length now → get_or next k [] ≡ get_or now k [] ++ f k (get_or items i d))
+    → (k : ℕ) → k < length next → get_or next k [] ≡ get_or base k [] ++ flat_map (f k) (take (i + 1) xs)
+owned_at {X} f xs items i d base now next same h long before step =
+    let Q : List X → Type 0 = λ ys. i < length ys → ((k : ℕ) → k < length now → get_or next k [] ≡ get_or now k [] ++ f k (get_or ys i d)) → (k : ℕ) → k < length next → get_or next k [] ≡ get_or base k [] ++ flat_map (f k) (take (i + 1) xs) in
+    subst Q (sym same) (λ low each. owned_read f xs i (get_or xs i d) base now next low (get_or_default xs i d (get_or xs i d) low) long before each) h step
 
 -- the same, of one list of bytes
 pub bytes_read : {X : Type 0} (f : X → List ℕ) (xs : List X) (i : ℕ) (x : X) (base now next : List ℕ) → i < length xs → x ≡ get_or xs i x → now ≡ base ++ flat_map f (take i xs) → next ≡ now ++ f x → next ≡ base ++ flat_map f (take (i + 1) xs)

@@ -1,7 +1,7 @@
 -- Groups that are worked on at once.
 --   AreBatches gs bs       the batches are these groups, cut
 --   IsWithin gs b          the batch's groups stand in these from its first one on
---   batch_errors l b       the faults of its groups; batch_pieces, batch_bytes and batch_pairs likewise
+--   batch_errors l b       the faults of its groups; batch_pieces, batch_tables, batch_files and batch_pairs likewise
 --   GivesBatch l bs i r    r is all bytes of batch i, or its first fault
 --   pairs_at l bs i        what batch i counts
 use Rattle.std.specs.Prelude.{◌≡◌, ℕ, ◌+◌, List, [], ◌∷◌, map, length, Option, Some, None, slice_get, Result, IfOk}
@@ -13,8 +13,9 @@ use Rattle.wild_types.specs.declared.layout.Layout.{Layout}
 use Rattle.wild_types.specs.Faults.{Answers}
 use Rattle.wild_layout.specs.Faults.{flat_map_from, group_errors}
 use Rattle.wild_layout.specs.Image.{group_pieces}
-use Rattle.wild_image.specs.Pieces.{group_bytes, group_pairs}
+use Rattle.wild_image.specs.Pieces.{group_tables, group_files, group_pairs}
 use Rattle.wild_image.specs.declared.batch.Batch.{Batch}
+use Rattle.wild_image.specs.declared.buffer.GroupBytes.{GroupBytes}
 
 -- the numbers of the batches' first groups, where the first of all is i
 abbrev pub firsts : ℕ → List Batch → List ℕ
@@ -36,15 +37,23 @@ batch_errors l b = flat_map_from (group_errors l) b.first b.groups.now
 abbrev pub batch_pieces : Layout → Batch → List Piece
 batch_pieces l b = flat_map_from (group_pieces l) b.first b.groups.now
 
-abbrev pub batch_bytes : Layout → Batch → List ℕ
-batch_bytes l b = flat_map (group_bytes l) b.groups.now
+-- what its groups give to the tables, and the bytes of their files
+abbrev pub batch_tables : Layout → Batch → List ℕ
+batch_tables l b = flat_map (group_tables l) b.groups.now
+
+abbrev pub batch_files : Layout → Batch → List ℕ
+batch_files l b = flat_map (group_files l) b.groups.now
+
+pub record HasBatch (l : Layout) (b : Batch) (bytes : GroupBytes) : Type 0 where
+  pub tables : bytes.tables ≡ batch_tables l b
+  pub files : bytes.files ≡ batch_files l b
 
 abbrev pub batch_pairs : Layout → Batch → List (ℕ × ℕ)
 batch_pairs l b = flat_map (group_pairs l) b.groups.now
 
 -- all bytes of batch i, or its first fault
-abbrev pub GivesBatch : Layout → List Batch → ℕ → Result (List ℕ) Error → Type 0
-GivesBatch l bs i r = (b : Batch) → slice_get bs i ≡ Some b → Answers r (batch_errors l b) × IfOk r (λ bytes. bytes ≡ batch_bytes l b)
+abbrev pub GivesBatch : Layout → List Batch → ℕ → Result GroupBytes Error → Type 0
+GivesBatch l bs i r = (b : Batch) → slice_get bs i ≡ Some b → Answers r (batch_errors l b) × IfOk r (HasBatch l b)
 
 abbrev pub pairs_of : Layout → Option Batch → List (ℕ × ℕ)
 pairs_of l None = []

@@ -5,3 +5,5 @@ pub mod Counts
 pub mod Jobs
 pub mod Pieces
 pub mod Steps
+pub mod Stood
+pub mod Owners

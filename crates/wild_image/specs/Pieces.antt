@@ -1,24 +1,33 @@
 -- What a group has of each part, and what it counts.
 --   group_given l part g  what a group gives to a part: the content of the part's role
---   owned_in l f part s   the bytes of an input section of a file, where it owns some of that part
---   group_owned l part g  those of a group's input sections and thunks, file by file in the order of processing
+--   standing s            a loaded section, or a sorted one, as it stands in the output
+--   file_sections l f     the bytes of a file's input sections that own some, one behind the other; sorted_bytes l x those of a sorted
+--                         section; once_bytes l the strings that were merged, and the output's identity
+--   group_tables l g      what a group gives to the tables, part by part
+--   group_files l g       the bytes of its files, in the order of processing
+--   group_owned l part g  of these those that stand in a part
 --   group_parts l g       what the group gives to each part, with those behind it
---   group_bytes l g       what the group gives to the tables, part by part, and behind that its input sections' bytes and thunks
---   group_pairs l g       a pair of a section and a number for each input section that is read
-use Rattle.std.specs.Prelude.{ℕ, ◌==◌, ◌&&◌, if◌then◌else◌, List, [], ◌∷◌, ◌++◌, map, length, Option, None, Some, slice_get}
+--   group_pairs l g       a pair of a section and a number for each input section whose relocations are counted
+use Rattle.std.specs.Prelude.{ℕ, ◌==◌, ◌&&◌, Bool, false, not, ◌||◌, if◌then◌else◌, List, [], ◌∷◌, ◌++◌, map, length, Option, None, Some, slice_get}
 use Rattle.std.specs.List.{flat_map, range_with_len}
 use Rattle.wild_types.specs.declared.part.Part.{Part}
 use Rattle.wild_types.specs.declared.part.Role.{Role}
 use Rattle.wild_types.specs.declared.part.Role.TheVariants as role
+use Rattle.wild_types.specs.declared.input.Slot.TheVariants as slot
 use Rattle.wild_types.specs.declared.input.InputSection.{InputSection}
 use Rattle.wild_types.specs.declared.file.File.{File}
 use Rattle.wild_types.specs.declared.file.Group.{Group}
 use Rattle.wild_types.specs.declared.layout.Thunk.{Thunk}
+use Rattle.wild_types.specs.declared.layout.Merged.{Merged}
+use Rattle.wild_types.specs.declared.layout.SortedSection.{SortedSection}
 use Rattle.wild_types.specs.declared.layout.Layout.{Layout}
 use Rattle.wild_types.specs.FileThunks.{thunks_of}
-use Rattle.wild_types.specs.Lookups.{section_of, is_filled, is_read}
+use Rattle.wild_types.specs.Lookups.{section_of, is_loaded, is_filled, is_counted, takes_file_bytes}
+use Rattle.wild_laid.specs.Turned.{turned_bytes, turned_offset, as_turned}
+use Rattle.wild_laid.specs.Laid.{Input, sorted_input, of_last_file}
 use Rattle.wild_layout.specs.Sites.{section_bytes}
 use Rattle.wild_layout.specs.Content.{content}
+use Rattle.wild_layout.specs.Image.{merged_bytes, of_first_file}
 use Rattle.wild_layout.specs.Thunks.{thunk_bytes, file_thunks}
 
 -- the role of a part; raw where there is none
@@ -30,12 +39,103 @@ role_of (Some p) = p.role
 abbrev pub group_given : Layout → ℕ → Group → List ℕ
 group_given l part g = content l (role_of (slice_get l.parts part)) g
 
+-- ---- bytes of files, one behind the other
+
+-- a loaded section, or a sorted one, as it stands
+abbrev pub standing : InputSection → InputSection
+standing s = record {
+  slot = slot.Loaded;
+  name = if s.reversed then [] else s.name;
+  part = s.part;
+  address = s.address;
+  size = s.size;
+  flags = s.flags;
+  nobits = s.nobits;
+  reversed = false;
+  singleton = if s.reversed then None else s.singleton;
+  target = if s.reversed then 0 else s.target;
+  members = if s.reversed then [] else s.members;
+  bytes = if s.reversed then turned_bytes s.bytes else s.bytes;
+  strings = if s.reversed then [] else s.strings;
+  relocations = if s.reversed then map (turned_offset s.size) s.relocations else s.relocations;
+}
+
+-- there are bytes of a section of that size
+abbrev pub has_room : Layout → InputSection → Bool
+has_room l s = not (s.size == 0) && (not s.nobits || takes_file_bytes l (section_of l s.part))
+
+-- the bytes of an input section of a file, as it stands, that owns some
+abbrev pub section_owned : Layout → File → InputSection → List ℕ
+section_owned l f s = if is_filled l s then section_bytes l f s else []
+
+-- of a section of the plan, which stands where it is loaded
+abbrev pub loaded_owned : Layout → File → InputSection → List ℕ
+loaded_owned l f s = if is_loaded s.slot then section_owned l f (standing s) else []
+
+abbrev pub file_sections : Layout → File → List ℕ
+file_sections l f = flat_map (loaded_owned l f) f.sections
+
+-- of a section that is named among the sorted ones
+abbrev pub input_owned : Layout → Input → List ℕ
+input_owned l x = section_owned l x.file (as_turned x.section)
+
+abbrev pub sorted_owned : Layout → SortedSection → List ℕ
+sorted_owned l x = flat_map (input_owned l) (sorted_input l x)
+
+abbrev pub all_sorted : Layout → List ℕ
+all_sorted l = flat_map (sorted_owned l) l.sorted
+
+-- what stands once: the strings that were merged, and the output's identity
+abbrev pub once_bytes : Layout → List ℕ
+once_bytes l = flat_map merged_bytes l.merged ++ l.identity.bytes
+
+-- what only the last or the first file has
+abbrev pub ends_bytes : Layout → File → List ℕ
+ends_bytes l f = of_last_file f (all_sorted l) ++ of_first_file f (once_bytes l)
+
+-- the bytes of a file's input sections, behind them what only the last or the first has, and its thunks
+abbrev pub file_bytes : Layout → File → List ℕ
+file_bytes l f = file_sections l f ++ (ends_bytes l f ++ file_thunks l f)
+
+-- those of a group's files, in the order of processing
+unfoldable pub group_files : Layout → Group → List ℕ
+group_files l g = flat_map (file_bytes l) g.files
+
+-- what a group gives to the tables, part by part
+abbrev pub group_tables : Layout → Group → List ℕ
+group_tables l g = flat_map (λ (p : Part). content l p.role g) l.parts
+
+-- ---- the same by part
+
+-- bytes that stand in a part, where they do
+abbrev pub in_part : ℕ → ℕ → List ℕ → List ℕ
+in_part part k bs = if k == part then bs else []
+
 -- the bytes of an input section of a file, where it owns some of that part
 abbrev pub owned_in : Layout → File → ℕ → InputSection → List ℕ
 owned_in l f part s = if is_filled l s && s.part == part then section_bytes l f s else []
 
+abbrev pub loaded_in : Layout → File → ℕ → InputSection → List ℕ
+loaded_in l f part s = if is_loaded s.slot then owned_in l f part (standing s) else []
+
 abbrev pub sections_owned : Layout → ℕ → File → List ℕ
-sections_owned l part f = flat_map (owned_in l f part) f.sections
+sections_owned l part f = flat_map (loaded_in l f part) f.sections
+
+abbrev pub input_in : Layout → ℕ → Input → List ℕ
+input_in l part x = owned_in l x.file part (as_turned x.section)
+
+abbrev pub sorted_in : Layout → ℕ → SortedSection → List ℕ
+sorted_in l part x = flat_map (input_in l part) (sorted_input l x)
+
+abbrev pub all_sorted_in : Layout → ℕ → List ℕ
+all_sorted_in l part = flat_map (sorted_in l part) l.sorted
+
+-- merged strings, and the identity
+abbrev pub merged_in : ℕ → Merged → List ℕ
+merged_in part m = in_part part m.part (merged_bytes m)
+
+abbrev pub once_in : Layout → ℕ → List ℕ
+once_in l part = flat_map (merged_in part) l.merged ++ in_part part l.identity.part l.identity.bytes
 
 -- a thunk stands in the primary part
 abbrev pub thunk_in : Layout → ℕ → Thunk → List ℕ
@@ -44,10 +144,14 @@ thunk_in l part t = if l.primary_part == part then thunk_bytes l t else []
 abbrev pub thunks_in : Layout → ℕ → File → List ℕ
 thunks_in l part f = flat_map (thunk_in l part) (thunks_of l f)
 
-abbrev pub file_owned : Layout → ℕ → File → List ℕ
-file_owned l part f = sections_owned l part f ++ thunks_in l part f
+-- what only the last or the first file has
+abbrev pub ends_in : Layout → ℕ → File → List ℕ
+ends_in l part f = of_last_file f (all_sorted_in l part) ++ of_first_file f (once_in l part)
 
-abbrev pub group_owned : Layout → ℕ → Group → List ℕ
+abbrev pub file_owned : Layout → ℕ → File → List ℕ
+file_owned l part f = sections_owned l part f ++ (ends_in l part f ++ thunks_in l part f)
+
+unfoldable pub group_owned : Layout → ℕ → Group → List ℕ
 group_owned l part g = flat_map (file_owned l part) g.files
 
 -- all that a group has of a part
@@ -58,32 +162,11 @@ group_part l g part = group_given l part g ++ group_owned l part g
 unfoldable pub group_parts : Layout → Group → List (List ℕ)
 group_parts l g = map (group_part l g) (range_with_len 0 (length l.parts))
 
--- what a group gives to the tables, part by part
-abbrev pub group_tables : Layout → Group → List ℕ
-group_tables l g = flat_map (λ (p : Part). content l p.role g) l.parts
-
--- the bytes of an input section of a file that owns some
-abbrev pub section_owned : Layout → File → InputSection → List ℕ
-section_owned l f s = if is_filled l s then section_bytes l f s else []
-
-abbrev pub file_sections : Layout → File → List ℕ
-file_sections l f = flat_map (section_owned l f) f.sections
-
--- those of a file's input sections, and its thunks
-abbrev pub file_bytes : Layout → File → List ℕ
-file_bytes l f = file_sections l f ++ file_thunks l f
-
--- those of a group's files, in the order of processing
-abbrev pub group_files : Layout → Group → List ℕ
-group_files l g = flat_map (file_bytes l) g.files
-
--- all bytes of a group: what it gives to the tables, then its files'
-unfoldable pub group_bytes : Layout → Group → List ℕ
-group_bytes l g = group_tables l g ++ group_files l g
+-- ---- counts
 
 -- what an input section adds to which count
 abbrev pub section_pairs : Layout → InputSection → List (ℕ × ℕ)
-section_pairs l s = if is_read s then (section_of l s.part, length s.relocations) ∷ [] else []
+section_pairs l s = if is_counted s then (section_of l s.part, length s.relocations) ∷ [] else []
 
 abbrev pub file_pairs : Layout → File → List (ℕ × ℕ)
 file_pairs l f = flat_map (section_pairs l) f.sections

@@ -1,45 +1,63 @@
 //! Putting what the groups have into the image.
-ghost use Rattle.std.specs.Prelude.{◌≡◌, ◌+◌, ◌<◌, ◌≤◌, ◌^◌, ℕ, Some, if◌then◌else◌, length, replicate, slice_get, OnOk, All};
+ghost use Rattle.std.specs.Prelude.{◌≡◌, ◌+◌, ◌<◌, ◌≤◌, ◌^◌, ℕ, true, Some, if◌then◌else◌, length, replicate, slice_get, OnOk, All};
 ghost use Rattle.std.specs.List.{flat_map};
 ghost use Rattle.wild_words.specs.Overlay.{overlay};
 ghost use Rattle.wild_types.specs.declared.file.File.{File};
 ghost use Rattle.wild_types.specs.declared.file.Group.{Group};
 ghost use Rattle.wild_types.specs.declared.part.Role.TheVariants.{Raw};
+ghost use Rattle.wild_types.specs.FileRoles.{is_prelude, is_epilogue};
 ghost use Rattle.wild_types.specs.Faults.{Answers};
-ghost use Rattle.wild_types.specs.Lookups.{image_size};
+ghost use Rattle.wild_laid.specs.Laid.{of_last_file};
+ghost use Rattle.wild_types.specs.Lookups.{is_filled, image_size};
 ghost use Rattle.wild_types.specs.Parts.{has_role};
 ghost use Rattle.wild_types.specs.FilePlaces.{given};
 ghost use Rattle.wild_types.specs.FileThunks.{thunks_of};
 ghost use Rattle.wild_layout.specs.Content.{content};
-ghost use Rattle.wild_layout.specs.Image.{section_piece, section_pieces, thunk_piece, thunk_pieces, file_pieces, owned_pieces, given_before, table_piece, table_pieces, group_pieces};
-ghost use Rattle.wild_layout.specs.SectionPlaces.{SectionLies};
+ghost use Rattle.wild_layout.specs.Image.{section_piece, merged_bytes, front_piece, once_pieces, thunk_piece, thunk_pieces, of_first_file, given_before, table_piece, table_pieces};
+ghost use Rattle.wild_layout.specs.SectionPlaces.{SectionLies, FrontLies};
 ghost use Rattle.wild_layout.specs.ThunkPlaces.{ThunkLies};
 ghost use Rattle.wild_layout.specs.Thunks.{thunk_bytes, file_thunks};
-ghost use Rattle.wild_image.specs.Pieces.{section_owned, file_sections, file_bytes, group_tables, group_files, group_bytes};
-ghost use Rattle.wild_image.specs.Append.{BeginsWith, GoesOn, HasStarts, EachPartLies, FileLies, EachFileLies};
-ghost use Rattle.wild_image.specs.Batches.{AreBatches, IsWithin, GivesBatch, batch_errors, batch_pieces, batch_bytes};
+ghost use Rattle.wild_image.specs.Pieces.{standing, section_owned, loaded_owned, file_sections, sorted_owned, all_sorted, once_bytes, ends_bytes, file_bytes, group_tables, group_files};
+ghost use Rattle.wild_image.specs.Owners.{loaded_piece, loaded_pieces, sorted_pieces, all_sorted_pieces, merged_piece, ends_pieces, standing_pieces};
+ghost use Rattle.wild_image.specs.Append.{BeginsWith, GoesOn, HasStarts, EachPartLies, LoadedLies, SortedLies, SomeLies, MergedLies, FileLies, EachFileLies};
+ghost use Rattle.wild_image.specs.Batches.{AreBatches, IsWithin, GivesBatch, HasBatch, batch_errors, batch_pieces};
 ghost use Rattle.wild_image.specs.declared.job.Outcome.{Outcome};
 
 use crate::batch::Batch;
+use crate::buffer::GroupBytes;
 use crate::job::Outcome;
+use crate::marks::strings_size;
+use wild_laid::sorted_input;
 use wild_sections::offset_of;
-use wild_types::{Error, File, Group, InputSection, Layout, Part, Role, THUNK_SIZE, Thunk};
+use wild_types::{
+    Error, File, Group, InputSection, Layout, Merged, Part, Role, SortedSection, THUNK_SIZE, Thunk,
+};
 use wild_words::put;
 
-/// Puts the bytes of a section, the first of these, into the image, and tells what stands behind them.
-fn append_section<'b>(
+/// Whether a section that is loaded or sorted owns bytes of the image, as it stands.
+#[tactic(auto, using(crate::proofs::StandingLemmas::filled_standing))]
+pub(crate) fn owns_room(layout: &Layout, section: &InputSection) -> bool
+    requires { SectionLies layout.now (standing section.now) }
+    ensures { result ≡ is_filled layout.now (standing section.now) }
+{
+    section.size != 0
+        && (!section.nobits || layout.takes_file_bytes(layout.section_of(section.part)))
+}
+
+/// Puts the bytes of a section that is loaded or sorted, the first of these, into the image, and tells what stands behind them.
+fn append_standing<'b>(
     layout: &Layout,
     section: &InputSection,
     bytes: &'b [u8],
     out: &mut [u8],
 ) -> &'b [u8]
-    requires lies { SectionLies layout.now section.now }
+    requires lies { SectionLies layout.now (standing section.now) }
     requires room { length out.old ≡ image_size layout.now }
-    requires own { (f : File) × BeginsWith (section_owned layout.now f section.now) bytes.now }
-    ensures image { (f : File) → BeginsWith (section_owned layout.now f section.now) bytes.now → out.new ≡ overlay (section_piece layout.now f section.now) out.old }
-    ensures rest { (f : File) → BeginsWith (section_owned layout.now f section.now) bytes.now → GoesOn (section_owned layout.now f section.now) bytes.now result.now }
+    requires own { (f : File) × BeginsWith (section_owned layout.now f (standing section.now)) bytes.now }
+    ensures image { (f : File) → BeginsWith (section_owned layout.now f (standing section.now)) bytes.now → out.new ≡ overlay (section_piece layout.now f (standing section.now)) out.old }
+    ensures rest { (f : File) → BeginsWith (section_owned layout.now f (standing section.now)) bytes.now → GoesOn (section_owned layout.now f (standing section.now)) bytes.now result.now }
 {
-    if !section.is_filled(layout) {
+    if !owns_room(layout, section) {
         return bytes;
     }
     let start = offset_of(layout.parts.as_slice(), section.part, section.address) as usize;
@@ -48,12 +66,31 @@ fn append_section<'b>(
     rest
 }
 
+/// Puts the bytes of a section, the first of these, into the image, where it is a loaded one, and tells what stands behind them.
+fn append_section<'b>(
+    layout: &Layout,
+    section: &InputSection,
+    bytes: &'b [u8],
+    out: &mut [u8],
+) -> &'b [u8]
+    requires lies { LoadedLies layout.now section.now }
+    requires room { length out.old ≡ image_size layout.now }
+    requires own { (f : File) × BeginsWith (loaded_owned layout.now f section.now) bytes.now }
+    ensures image { (f : File) → BeginsWith (loaded_owned layout.now f section.now) bytes.now → out.new ≡ overlay (loaded_piece layout.now f section.now) out.old }
+    ensures rest { (f : File) → BeginsWith (loaded_owned layout.now f section.now) bytes.now → GoesOn (loaded_owned layout.now f section.now) bytes.now result.now }
+{
+    if section.slot.is_loaded() {
+        return append_standing(layout, section, bytes, out);
+    }
+    bytes
+}
+
 /// Puts the bytes of the sections of a file into the image, and tells what stands behind them.
 fn append_sections<'b>(layout: &Layout, file: &File, bytes: &'b [u8], out: &mut [u8]) -> &'b [u8]
-    requires lies { All (SectionLies layout.now) file.now.sections }
+    requires lies { All (LoadedLies layout.now) file.now.sections }
     requires room { length out.old ≡ image_size layout.now }
     requires own { BeginsWith (file_sections layout.now file.now) bytes.now }
-    ensures image { out.new ≡ overlay (section_pieces layout.now file.now) out.old }
+    ensures image { out.new ≡ overlay (loaded_pieces layout.now file.now) out.old }
     ensures rest { GoesOn (file_sections layout.now file.now) bytes.now result.now }
 {
     let mut rest = bytes;
@@ -61,6 +98,167 @@ fn append_sections<'b>(layout: &Layout, file: &File, bytes: &'b [u8], out: &mut 
         rest = append_section(layout, section, rest, out);
     }
     rest
+}
+
+/// Puts the bytes of a section that is named among the sorted ones into the image, and tells what stands behind them.
+fn append_sorted_section<'b>(
+    layout: &Layout,
+    entry: &SortedSection,
+    bytes: &'b [u8],
+    out: &mut [u8],
+) -> &'b [u8]
+    requires lies { SortedLies layout.now entry.now }
+    requires room { length out.old ≡ image_size layout.now }
+    requires own { BeginsWith (sorted_owned layout.now entry.now) bytes.now }
+    ensures image { out.new ≡ overlay (sorted_pieces layout.now entry.now) out.old }
+    ensures rest { GoesOn (sorted_owned layout.now entry.now) bytes.now result.now }
+{
+    match sorted_input(layout, *entry) {
+        Some(input) => append_standing(layout, input.section, bytes, out),
+        None => bytes,
+    }
+}
+
+/// Puts the bytes of the sorted sections into the image, and tells what stands behind them.
+fn append_sorted<'b>(layout: &Layout, bytes: &'b [u8], out: &mut [u8]) -> &'b [u8]
+    requires lies { All (SortedLies layout.now) layout.now.sorted }
+    requires room { length out.old ≡ image_size layout.now }
+    requires own { BeginsWith (all_sorted layout.now) bytes.now }
+    ensures image { out.new ≡ overlay (all_sorted_pieces layout.now) out.old }
+    ensures rest { GoesOn (all_sorted layout.now) bytes.now result.now }
+{
+    let mut rest = bytes;
+    for entry in layout.sorted.as_slice() {
+        rest = append_sorted_section(layout, entry, rest, out);
+    }
+    rest
+}
+
+/// Puts bytes at the front of a part into the image.
+#[tactic(auto, using(crate::proofs::FrontLemmas::front_part, crate::proofs::FrontLemmas::front_ends, crate::proofs::FrontLemmas::front_put))]
+fn put_some(layout: &Layout, part: usize, own: &[u8], out: &mut [u8])
+    requires some { 1 ≤ length own.now }
+    requires lies { FrontLies layout.now part own.now }
+    requires room { length out.old ≡ image_size layout.now }
+    ensures { out.new ≡ overlay (front_piece layout.now part own.now) out.old }
+{
+    let front = layout.parts.as_slice()[part].offset as usize;
+    put(out, front, own);
+}
+
+/// The same, where there are some.
+#[tactic(auto, using(crate::proofs::FrontLemmas::front_not_put))]
+fn put_front(layout: &Layout, part: usize, own: &[u8], out: &mut [u8])
+    requires lies { SomeLies layout.now part own.now }
+    requires room { length out.old ≡ image_size layout.now }
+    ensures { out.new ≡ overlay (front_piece layout.now part own.now) out.old }
+{
+    if own.len() != 0 {
+        put_some(layout, part, own, out);
+    }
+}
+
+/// How many bytes merged strings have.
+pub(crate) fn merged_size(merged: &Merged) -> usize
+    requires { length (merged_bytes merged.now) < 2 ^ 64 }
+    ensures { result ≡ length (merged_bytes merged.now) }
+{
+    strings_size(merged.strings.as_slice()) as usize
+}
+
+/// Puts merged strings, the first of these bytes, into the image, and tells what stands behind them.
+fn append_merged<'b>(layout: &Layout, merged: &Merged, bytes: &'b [u8], out: &mut [u8]) -> &'b [u8]
+    requires lies { MergedLies layout.now merged.now }
+    requires room { length out.old ≡ image_size layout.now }
+    requires own { BeginsWith (merged_bytes merged.now) bytes.now }
+    ensures image { out.new ≡ overlay (front_piece layout.now merged.now.part (merged_bytes merged.now)) out.old }
+    ensures rest { GoesOn (merged_bytes merged.now) bytes.now result.now }
+{
+    let (own, rest) = bytes.split_at(merged_size(merged));
+    put_front(layout, merged.part, own, out);
+    rest
+}
+
+/// Puts the strings that were merged into the image, and tells what stands behind them.
+fn append_strings<'b>(layout: &Layout, bytes: &'b [u8], out: &mut [u8]) -> &'b [u8]
+    requires lies { All (MergedLies layout.now) layout.now.merged }
+    requires room { length out.old ≡ image_size layout.now }
+    requires own { BeginsWith (flat_map merged_bytes layout.now.merged) bytes.now }
+    ensures image { out.new ≡ overlay (flat_map (merged_piece layout.now) layout.now.merged) out.old }
+    ensures rest { GoesOn (flat_map merged_bytes layout.now.merged) bytes.now result.now }
+{
+    let mut rest = bytes;
+    for merged in layout.merged.as_slice() {
+        rest = append_merged(layout, merged, rest, out);
+    }
+    rest
+}
+
+/// Puts the output's identity, the first of these bytes, into the image, and tells what stands behind it.
+fn append_identity<'b>(layout: &Layout, bytes: &'b [u8], out: &mut [u8]) -> &'b [u8]
+    requires lies { SomeLies layout.now layout.now.identity.part layout.now.identity.bytes }
+    requires room { length out.old ≡ image_size layout.now }
+    requires own { BeginsWith layout.now.identity.bytes bytes.now }
+    ensures image { out.new ≡ overlay (front_piece layout.now layout.now.identity.part layout.now.identity.bytes) out.old }
+    ensures rest { GoesOn layout.now.identity.bytes bytes.now result.now }
+{
+    let (own, rest) = bytes.split_at(layout.identity.bytes.len());
+    put_front(layout, layout.identity.part, own, out);
+    rest
+}
+
+/// Puts what stands once into the image: the strings that were merged, and the output's identity; tells what stands behind it.
+fn append_once<'b>(layout: &Layout, bytes: &'b [u8], out: &mut [u8]) -> &'b [u8]
+    requires merged { All (MergedLies layout.now) layout.now.merged }
+    requires identity { SomeLies layout.now layout.now.identity.part layout.now.identity.bytes }
+    requires room { length out.old ≡ image_size layout.now }
+    requires own { BeginsWith (once_bytes layout.now) bytes.now }
+    ensures image { out.new ≡ overlay (once_pieces layout.now) out.old }
+    ensures rest { GoesOn (once_bytes layout.now) bytes.now result.now }
+{
+    let rest = append_strings(layout, bytes, out);
+    append_identity(layout, rest, out)
+}
+
+/// Puts what only the last file has into the image, and tells what stands behind it.
+fn append_last<'b>(layout: &Layout, file: &File, bytes: &'b [u8], out: &mut [u8]) -> &'b [u8]
+    requires lies { is_epilogue file.now.role ≡ true → All (SortedLies layout.now) layout.now.sorted }
+    requires room { length out.old ≡ image_size layout.now }
+    requires own { BeginsWith (of_last_file file.now (all_sorted layout.now)) bytes.now }
+    ensures image { out.new ≡ overlay (of_last_file file.now (all_sorted_pieces layout.now)) out.old }
+    ensures rest { GoesOn (of_last_file file.now (all_sorted layout.now)) bytes.now result.now }
+{
+    if file.role.is_epilogue() {
+        return append_sorted(layout, bytes, out);
+    }
+    bytes
+}
+
+/// Puts what only the first file has into the image, and tells what stands behind it.
+fn append_first<'b>(layout: &Layout, file: &File, bytes: &'b [u8], out: &mut [u8]) -> &'b [u8]
+    requires merged { is_prelude file.now.role ≡ true → All (MergedLies layout.now) layout.now.merged }
+    requires identity { is_prelude file.now.role ≡ true → SomeLies layout.now layout.now.identity.part layout.now.identity.bytes }
+    requires room { length out.old ≡ image_size layout.now }
+    requires own { BeginsWith (of_first_file file.now (once_bytes layout.now)) bytes.now }
+    ensures image { out.new ≡ overlay (of_first_file file.now (once_pieces layout.now)) out.old }
+    ensures rest { GoesOn (of_first_file file.now (once_bytes layout.now)) bytes.now result.now }
+{
+    if file.role.is_prelude() {
+        return append_once(layout, bytes, out);
+    }
+    bytes
+}
+
+/// Puts what only the last or the first file has into the image, and tells what stands behind it.
+fn append_ends<'b>(layout: &Layout, file: &File, bytes: &'b [u8], out: &mut [u8]) -> &'b [u8]
+    requires lies { FileLies layout.now file.now }
+    requires room { length out.old ≡ image_size layout.now }
+    requires own { BeginsWith (ends_bytes layout.now file.now) bytes.now }
+    ensures image { out.new ≡ overlay (ends_pieces layout.now file.now) out.old }
+    ensures rest { GoesOn (ends_bytes layout.now file.now) bytes.now result.now }
+{
+    let rest = append_last(layout, file, bytes, out);
+    append_first(layout, file, rest, out)
 }
 
 /// Puts a thunk, the first of these bytes, into the image, and tells what stands behind it.
@@ -97,19 +295,21 @@ fn append_file<'b>(layout: &Layout, file: &File, bytes: &'b [u8], out: &mut [u8]
     requires lies { FileLies layout.now file.now }
     requires room { (length out.old ≡ image_size layout.now) × (image_size layout.now ≤ 2 ^ 62) }
     requires own { BeginsWith (file_bytes layout.now file.now) bytes.now }
-    ensures image { out.new ≡ overlay (file_pieces layout.now file.now) out.old }
+    ensures image { out.new ≡ overlay (standing_pieces layout.now file.now) out.old }
     ensures rest { GoesOn (file_bytes layout.now file.now) bytes.now result.now }
 {
-    let rest = append_sections(layout, file, bytes, out);
+    let behind = append_sections(layout, file, bytes, out);
+    let rest = append_ends(layout, file, behind, out);
     append_thunks(layout, file, rest, out)
 }
 
 /// Puts the bytes of a group's files into the image, and tells what stands behind them.
+#[tactic(auto, unfolding(crate::specs::Pieces::group_files))]
 fn append_files<'b>(layout: &Layout, group: &Group, bytes: &'b [u8], out: &mut [u8]) -> &'b [u8]
     requires lies { All (FileLies layout.now) group.now.files }
     requires room { (length out.old ≡ image_size layout.now) × (image_size layout.now ≤ 2 ^ 62) }
     requires own { BeginsWith (group_files layout.now group.now) bytes.now }
-    ensures image { out.new ≡ overlay (owned_pieces layout.now group.now) out.old }
+    ensures image { out.new ≡ overlay (flat_map (standing_pieces layout.now) group.now.files) out.old }
     ensures rest { GoesOn (group_files layout.now group.now) bytes.now result.now }
 {
     let mut rest = bytes;
@@ -195,45 +395,30 @@ fn move_starts(layout: &Layout, index: usize, group: &Group, starts: &mut [u64])
     }
 }
 
-/// Puts all that the group with that number has, the first of these bytes, into the image, and tells what stands behind
-/// that.
-fn append_group<'b>(
-    layout: &Layout,
-    index: usize,
-    group: &Group,
-    bytes: &'b [u8],
-    starts: &[u64],
-    out: &mut [u8],
-) -> &'b [u8]
-    requires inputs { All (FileLies layout.now) group.now.files }
-    requires lies { EachPartLies layout.now }
-    requires group { slice_get layout.now.groups index ≡ Some group.now }
-    requires own { BeginsWith (group_bytes layout.now group.now) bytes.now }
-    requires starts { HasStarts layout.now index starts.now }
-    requires room { (length out.old ≡ image_size layout.now) × (image_size layout.now ≤ 2 ^ 62) }
-    ensures image { out.new ≡ overlay (group_pieces layout.now index group.now) out.old }
-    ensures rest { GoesOn (group_bytes layout.now group.now) bytes.now result.now }
-{
-    let rest = append_tables(layout, index, group, bytes, starts, out);
-    append_files(layout, group, rest, out)
-}
-
 /// Puts all that a batch has into the image, and moves the parts' starts behind it.
-fn append_batch(layout: &Layout, batch: &Batch, bytes: &[u8], starts: &mut [u64], out: &mut [u8])
+fn append_batch(
+    layout: &Layout,
+    batch: &Batch,
+    bytes: &GroupBytes,
+    starts: &mut [u64],
+    out: &mut [u8],
+)
     requires inputs { All (λ (g : Group). All (FileLies layout.now) g.files) batch.now.groups.now }
     requires lies { EachPartLies layout.now }
     requires within { IsWithin layout.now.groups batch.now }
     requires small { batch.now.first + length batch.now.groups.now < 2 ^ 64 }
-    requires bytes { bytes.now ≡ batch_bytes layout.now batch.now }
+    requires bytes { HasBatch layout.now batch.now bytes.now }
     requires starts { HasStarts layout.now batch.now.first starts.old }
     requires room { (length out.old ≡ image_size layout.now) × (image_size layout.now ≤ 2 ^ 62) }
     ensures image { out.new ≡ overlay (batch_pieces layout.now batch.now) out.old }
     ensures starts { HasStarts layout.now (batch.now.first + length batch.now.groups.now) starts.new }
 {
-    let mut rest = bytes;
+    let mut tables = bytes.tables.as_slice();
+    let mut files = bytes.files.as_slice();
     for (i, group) in batch.groups.iter().enumerate() {
         let index = batch.first + i;
-        rest = append_group(layout, index, group, rest, starts, out);
+        tables = append_tables(layout, index, group, tables, starts, out);
+        files = append_files(layout, group, files, out);
         move_starts(layout, index, group, starts);
     }
 }
@@ -259,7 +444,7 @@ pub(crate) fn append_all(
 {
     for (i, batch) in batches.iter().enumerate() {
         match &outcomes[i].bytes {
-            Ok(bytes) => append_batch(layout, batch, bytes.as_slice(), starts, out),
+            Ok(bytes) => append_batch(layout, batch, bytes, starts, out),
             Err(error) => return Err(*error),
         }
     }

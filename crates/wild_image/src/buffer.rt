@@ -1,25 +1,47 @@
-//! All bytes of a group in one buffer: what it gives to the tables, part by part, and behind that its input
-//! sections' bytes and its thunks in the order of processing.
-ghost use Rattle.std.specs.Prelude.{◌≡◌, ◌+◌, ◌<◌, ◌^◌, ◌++◌, true, false, length, replicate, Some, slice_get, IfOk, OnOk, All};
-ghost use Rattle.wild_types.specs.declared.file.File.{File};
-ghost use Rattle.wild_types.specs.declared.file.Group.{Group};
+//! All bytes of a group: what it gives to the tables, part by part, and its input sections' bytes and thunks in the order of
+//! processing.
+ghost use Rattle.std.specs.Prelude.{◌≡◌, ◌+◌, ◌<◌, ◌^◌, ◌++◌, [], true, false, List, ℕ, length, replicate, Some, slice_get, option_to_list, IfOk, OnOk, All};
+ghost use Rattle.std.specs.List.{flat_map};
+ghost use Rattle.wild_types.specs.FileRoles.{is_epilogue};
 ghost use Rattle.wild_types.specs.Faults.{Answers};
-ghost use Rattle.wild_types.specs.Lookups.{is_filled, is_read};
-ghost use Rattle.wild_layout.specs.Faults.{flat_map_from, section_errors, file_errors, group_errors};
-ghost use Rattle.wild_layout.specs.Content.{content};
+ghost use Rattle.wild_types.specs.Lookups.{is_filled, is_read, is_frame};
+ghost use Rattle.wild_laid.specs.FrameInputs.{kept_size};
+ghost use Rattle.wild_laid.specs.Laid.{laid_section, laid_sections, laid_file, file_frames, frames_at, behind, of_last_file};
+ghost use Rattle.wild_layout.specs.Faults.{section_errors, sections_errors, sorted_errors, first_errors, file_errors, files_errors, group_errors};
+ghost use Rattle.wild_layout.specs.Content.{content, frame_bytes_of, end_of_frames, frames_bytes};
+ghost use Rattle.wild_layout.specs.Image.{of_first_file};
 ghost use Rattle.wild_layout.specs.SectionPlaces.{SectionLies};
-ghost use Rattle.wild_image.specs.Append.{GivesItsShares};
-ghost use Rattle.wild_image.specs.Pieces.{section_owned, file_sections, file_bytes, group_files, group_tables, group_bytes};
 ghost use Rattle.wild_contents.specs.Given.{NeedsFit};
-ghost use Rattle.wild_image.specs.Batches.{batch_errors, batch_bytes};
+ghost use Rattle.wild_contents.specs.Laid.{group_frames, HaveSearchTable};
+ghost use Rattle.wild_contents.specs.SearchTable.{IsTableFor, IsSearchTable};
+ghost use Rattle.wild_image.specs.Append.{GivesItsShares, IsTurned, SortedStands, FileStands, GroupStands};
+ghost use Rattle.wild_image.specs.Pieces.{section_owned, sorted_owned, all_sorted, once_bytes, file_bytes, group_files, group_tables};
+ghost use Rattle.wild_image.specs.Stood.{stood_faults, StoodApart, IsWhole, zeros_of, errors_behind, bytes_behind};
+ghost use Rattle.wild_image.specs.Batches.{HasBatch, batch_errors};
 
 use crate::append::table_size;
 use crate::batch::Batch;
 use std::alloc::{AllocError, Global};
-use wild_contents::{PartBytes, add_content, add_thunks, check_entries, check_symbol_tables};
+use wild_contents::{
+    Beside, PartBytes, SearchTable, add_content, add_thunks, behind_frames, check_entries,
+    check_symbol_tables,
+};
+use wild_laid::{LaidSection, frames_at, lay, lay_sorted, sorted_input};
 use wild_relax::Arch;
-use wild_sections::{InputPlace, Resolved, write_data};
-use wild_types::{Error, File, Group, InputSection, Layout, Part};
+use wild_sections::{InputPlace, Origin, Resolved, write_data};
+use wild_types::{Error, File, Group, InputSection, Layout, Part, Role, SortedSection, has_role};
+use wild_words::Bytes;
+
+/// What groups have of an image.
+#[derive(Drop)]
+pub(crate) struct GroupBytes {
+    /// What they give to the tables, part by part.
+    pub(crate) tables: PartBytes,
+    /// The bytes of their files.
+    pub(crate) files: PartBytes,
+    /// The frames of the last of them.
+    pub(crate) frames: PartBytes,
+}
 
 /// Adds what a group gives to part i. Where it is given nothing, nothing is looked at.
 fn add_table<A: Arch>(
@@ -28,17 +50,20 @@ fn add_table<A: Arch>(
     group: &Group,
     i: usize,
     part: &Part,
+    beside: &Beside<'_>,
     bytes: &mut PartBytes,
 ) -> Result<(), AllocError>
     requires part { slice_get resolved.now.layout.now.parts i ≡ Some part.now }
     requires gives { GivesItsShares resolved.now.layout.now group.now }
     requires few { NeedsFit group.now }
+    requires frames { beside.now.frames.now ≡ group_frames resolved.now.layout.now group.now }
+    requires table { HaveSearchTable resolved.now.layout.now beside.now.table.now group.now.files }
     ensures { OnOk result (bytes.new ≡ bytes.old ++ content resolved.now.layout.now part.now.role group.now) }
 {
     if table_size(part, group, i) == 0 {
         return Ok(());
     }
-    add_content(alloc, resolved, part.role, group, bytes)
+    add_content(alloc, resolved, part.role, group, beside, bytes)
 }
 
 /// Adds what a group gives to the tables, part by part.
@@ -46,35 +71,53 @@ fn add_group_tables<A: Arch>(
     alloc: Global,
     resolved: &Resolved<A>,
     group: &Group,
+    beside: &Beside<'_>,
     bytes: &mut PartBytes,
 ) -> Result<(), AllocError>
     requires gives { GivesItsShares resolved.now.layout.now group.now }
     requires few { NeedsFit group.now }
+    requires frames { beside.now.frames.now ≡ group_frames resolved.now.layout.now group.now }
+    requires table { HaveSearchTable resolved.now.layout.now beside.now.table.now group.now.files }
     ensures { OnOk result (bytes.new ≡ bytes.old ++ group_tables resolved.now.layout.now group.now) }
 {
     for (i, part) in resolved.layout.parts.as_slice().iter().enumerate() {
-        add_table(alloc, resolved, group, i, part, bytes)?;
+        add_table(alloc, resolved, group, i, part, beside, bytes)?;
     }
     Ok(())
 }
 
-/// Answers the first fault of a section of that file whose relocations are read and that owns no bytes.
-#[tactic(auto, unfolding(wild_layout::specs::Faults::section_errors))]
+/// Where a section comes from that stands so.
+fn origin_of<'a>(place: InputPlace, laid: &'a LaidSection<'_>) -> Origin<'a>
+    ensures place { result.place ≡ place }
+    ensures relocations { result.relocations.now ≡ laid.now.origins }
+    ensures ending { option_to_list result.ending ≡ laid.now.faults }
+{
+    Origin {
+        place,
+        relocations: laid.origins(),
+        ending: laid.fault(),
+    }
+}
+
+/// Answers the first fault of a section, as it stands, whose relocations are read and that owns no bytes.
+#[tactic(auto, unfolding(crate::specs::Stood::stood_faults))]
 fn check_data<A: Arch>(
     alloc: Global,
     resolved: &Resolved<A>,
     place: InputPlace,
     file: &File,
-    section: &InputSection,
+    laid: &LaidSection<'_>,
 ) -> Result<(), Error>
-    requires read { is_read section.now ≡ true }
-    requires none { is_filled resolved.now.layout.now section.now ≡ false }
-    requires lies { SectionLies resolved.now.layout.now section.now }
-    ensures faults { Answers result (section_errors resolved.now.layout.now place.group place.file file.now place.section section.now) }
+    requires read { is_read laid.now.section ≡ true }
+    requires moves { StoodApart resolved.now.layout.now file.now laid.now }
+    requires none { is_filled resolved.now.layout.now laid.now.section ≡ false }
+    requires loaded { is_frame laid.now.section.slot ≡ false }
+    requires lies { SectionLies resolved.now.layout.now laid.now.section }
+    ensures faults { Answers result (stood_faults resolved.now.layout.now place.group place.file place.section file.now laid.now) }
 {
     let mut room = [0; 0];
-    let item = section.item(resolved.layout, file);
-    write_data(alloc, resolved, place, &item, &mut room)
+    let item = laid.section().item(resolved.layout, file);
+    write_data(alloc, resolved, &origin_of(place, laid), &item, &mut room)
 }
 
 /// So many zeros.
@@ -84,96 +127,335 @@ fn zeros(alloc: Global, count: usize) -> Result<Vec<u8>, AllocError>
     Ok(vec![in alloc; 0u8; count]?)
 }
 
-/// Adds the bytes of a section of that file, or answers its first fault.
-#[tactic(auto, unfolding(wild_layout::specs::Faults::section_errors, wild_layout::specs::Sites::section_bytes))]
-fn add_section<A: Arch>(
+/// Adds as many zeros as a section has bytes, where it owns some.
+fn add_zeros(
     alloc: Global,
-    resolved: &Resolved<A>,
-    place: InputPlace,
-    file: &File,
+    layout: &Layout,
     section: &InputSection,
     bytes: &mut PartBytes,
-) -> Result<(), Error>
-    requires lies { SectionLies resolved.now.layout.now section.now }
-    ensures faults { Answers result (section_errors resolved.now.layout.now place.group place.file file.now place.section section.now) }
-    ensures bytes { OnOk result (bytes.new ≡ bytes.old ++ section_owned resolved.now.layout.now file.now section.now) }
+) -> Result<(), AllocError>
+    ensures { OnOk result (bytes.new ≡ bytes.old ++ zeros_of layout.now section.now) }
 {
-    if section.is_read() {
-        if section.is_filled(resolved.layout) {
-            let item = section.item(resolved.layout, file);
-            return bytes.add_data(alloc, resolved, place, &item);
-        }
-        return check_data(alloc, resolved, place, file, section);
-    }
-    if section.is_filled(resolved.layout) {
+    if section.is_filled(layout) {
         let zeros = zeros(alloc, section.size as usize)?;
         bytes.extend(&zeros)?;
     }
     Ok(())
 }
 
-/// Adds the bytes of the sections of a file, or answers their first fault.
-#[tactic(auto, using(wild_sections::proofs::FaultLemmas::first_from))]
+/// Adds the bytes of a section with data, as it stands, to those of the file's sections or of its frames, or answers its first
+/// fault.
+#[tactic(auto, using(crate::proofs::StoodLemmas::frames_own_none), unfolding(crate::specs::Stood::stood_faults, wild_layout::specs::Sites::section_bytes, wild_layout::specs::Content::frame_bytes_of))]
+fn add_read<A: Arch>(
+    alloc: Global,
+    resolved: &Resolved<A>,
+    place: InputPlace,
+    file: &File,
+    laid: &LaidSection<'_>,
+    bytes: &mut GroupBytes,
+) -> Result<(), Error>
+    requires read { is_read laid.now.section ≡ true }
+    requires moves { StoodApart resolved.now.layout.now file.now laid.now }
+    requires lies { SectionLies resolved.now.layout.now laid.now.section }
+    ensures faults { Answers result (stood_faults resolved.now.layout.now place.group place.file place.section file.now laid.now) }
+    ensures files { OnOk result (bytes.new.files ≡ bytes.old.files ++ section_owned resolved.now.layout.now file.now laid.now.section) }
+    ensures frames { OnOk result (bytes.new.frames ≡ bytes.old.frames ++ frame_bytes_of resolved.now.layout.now file.now laid.now.section) }
+    ensures tables { bytes.new.tables ≡ bytes.old.tables }
+{
+    let section = laid.section();
+    let item = section.item(resolved.layout, file);
+    let origin = origin_of(place, laid);
+    if section.slot.is_frame() {
+        return bytes.frames.add_data(alloc, resolved, &origin, &item);
+    }
+    if section.is_filled(resolved.layout) {
+        return bytes.files.add_data(alloc, resolved, &origin, &item);
+    }
+    check_data(alloc, resolved, place, file, laid)
+}
+
+/// Adds the bytes of a section of that file, as it stands, or answers its first fault.
+#[tactic(auto, using(crate::proofs::StoodLemmas::zeros_owned), unfolding(crate::specs::Stood::stood_faults))]
+fn add_stood<A: Arch>(
+    alloc: Global,
+    resolved: &Resolved<A>,
+    place: InputPlace,
+    file: &File,
+    laid: &LaidSection<'_>,
+    bytes: &mut GroupBytes,
+) -> Result<(), Error>
+    requires whole { IsWhole laid.now.section }
+    requires moves { is_read laid.now.section ≡ true → StoodApart resolved.now.layout.now file.now laid.now }
+    requires lies { SectionLies resolved.now.layout.now laid.now.section }
+    ensures faults { Answers result (stood_faults resolved.now.layout.now place.group place.file place.section file.now laid.now) }
+    ensures files { OnOk result (bytes.new.files ≡ bytes.old.files ++ section_owned resolved.now.layout.now file.now laid.now.section) }
+    ensures frames { OnOk result (bytes.new.frames ≡ bytes.old.frames ++ frame_bytes_of resolved.now.layout.now file.now laid.now.section) }
+    ensures tables { bytes.new.tables ≡ bytes.old.tables }
+{
+    let section = laid.section();
+    if section.is_read() {
+        return add_read(alloc, resolved, place, file, laid, bytes);
+    }
+    add_zeros(alloc, resolved.layout, section, &mut bytes.files)?;
+    Ok(())
+}
+
+/// Adds the bytes of a section of that file, or answers its first fault, where the file's next frames stand at an address; tells
+/// where those behind it stand.
+#[tactic(auto, using(crate::proofs::StoodLemmas::section_stood, crate::proofs::StoodLemmas::laid_whole, crate::proofs::StoodLemmas::laid_apart, wild_contents::proofs::LaidLemmas::room_of_laid))]
+fn add_section<A: Arch>(
+    alloc: Global,
+    resolved: &Resolved<A>,
+    place: InputPlace,
+    file: &File,
+    at: u64,
+    section: &InputSection,
+    bytes: &mut GroupBytes,
+) -> Result<u64, Error>
+    requires lies { SectionLies resolved.now.layout.now (laid_section resolved.now.layout.now file.now at section.now) }
+    requires turned { IsTurned resolved.now.layout.now section.now }
+    ensures faults { Answers result (section_errors resolved.now.layout.now place.group place.file file.now at place.section section.now) }
+    ensures next { IfOk result (λ n. n ≡ behind at (kept_size resolved.now.layout.now file.now section.now)) }
+    ensures files { OnOk result (bytes.new.files ≡ bytes.old.files ++ section_owned resolved.now.layout.now file.now (laid_section resolved.now.layout.now file.now at section.now)) }
+    ensures frames { OnOk result (bytes.new.frames ≡ bytes.old.frames ++ frame_bytes_of resolved.now.layout.now file.now (laid_section resolved.now.layout.now file.now at section.now)) }
+    ensures tables { bytes.new.tables ≡ bytes.old.tables }
+{
+    let laid = lay(alloc, resolved.layout, file, at, section)?;
+    add_stood(alloc, resolved, place, file, &laid, bytes)?;
+    Ok(behind_frames(at, laid.section()))
+}
+
+/// Adds the bytes of the sections of a file, whose frames stand from an address on, or answers their first fault; tells where those
+/// behind stand.
+#[tactic(auto, using(crate::proofs::StoodLemmas::faults_refuse, crate::proofs::StoodLemmas::faults_done, crate::proofs::StoodLemmas::given_done, wild_contents::proofs::LaidLemmas::reach_done))]
 fn add_file_sections<A: Arch>(
     alloc: Global,
     resolved: &Resolved<A>,
     place: InputPlace,
     file: &File,
-    bytes: &mut PartBytes,
-) -> Result<(), Error>
-    requires lies { All (SectionLies resolved.now.layout.now) file.now.sections }
-    ensures faults { Answers result (flat_map_from (section_errors resolved.now.layout.now place.group place.file file.now) 0 file.now.sections) }
-    ensures bytes { OnOk result (bytes.new ≡ bytes.old ++ file_sections resolved.now.layout.now file.now) }
+    at: u64,
+    bytes: &mut GroupBytes,
+) -> Result<u64, Error>
+    requires lies { All (SectionLies resolved.now.layout.now) (laid_sections resolved.now.layout.now file.now at file.now.sections) }
+    requires turned { All (IsTurned resolved.now.layout.now) file.now.sections }
+    ensures faults { Answers result (sections_errors resolved.now.layout.now place.group place.file file.now at 0 file.now.sections) }
+    ensures next { IfOk result (λ n. n ≡ behind at (file_frames resolved.now.layout.now file.now)) }
+    ensures files { OnOk result (bytes.new.files ≡ bytes.old.files ++ flat_map (section_owned resolved.now.layout.now file.now) (laid_sections resolved.now.layout.now file.now at file.now.sections)) }
+    ensures frames { OnOk result (bytes.new.frames ≡ bytes.old.frames ++ flat_map (frame_bytes_of resolved.now.layout.now file.now) (laid_sections resolved.now.layout.now file.now at file.now.sections)) }
+    ensures tables { bytes.new.tables ≡ bytes.old.tables }
 {
+    let mut next = at;
     for (i, section) in file.sections.as_slice().iter().enumerate() {
         let here = InputPlace {
             section: i,
             ..place
         };
-        add_section(alloc, resolved, here, file, section, bytes)?;
+        next = add_section(alloc, resolved, here, file, next, section, bytes)?;
+    }
+    Ok(next)
+}
+
+/// Adds the bytes of a section that is named among the sorted ones, or answers its first fault, which has the section's own place.
+#[tactic(auto, using(crate::proofs::StoodLemmas::sorted_stood, crate::proofs::StandingLemmas::one_owned, crate::proofs::StoodLemmas::sorted_no_frames))]
+fn add_sorted_section<A: Arch>(
+    alloc: Global,
+    resolved: &Resolved<A>,
+    entry: &SortedSection,
+    bytes: &mut GroupBytes,
+) -> Result<(), Error>
+    requires stands { SortedStands resolved.now.layout.now entry.now }
+    ensures faults { Answers result (sorted_errors resolved.now.layout.now entry.now) }
+    ensures files { OnOk result (bytes.new.files ≡ bytes.old.files ++ sorted_owned resolved.now.layout.now entry.now) }
+    ensures frames { OnOk result (bytes.new.frames ≡ bytes.old.frames) }
+    ensures tables { bytes.new.tables ≡ bytes.old.tables }
+{
+    let place = InputPlace {
+        group: entry.group,
+        file: entry.file,
+        section: entry.section,
+    };
+    match sorted_input(resolved.layout, *entry) {
+        Some(input) => {
+            let laid = lay_sorted(alloc, input.section)?;
+            add_stood(alloc, resolved, place, input.file, &laid, bytes)
+        }
+        None => Ok(()),
+    }
+}
+
+/// Adds the bytes of the sorted sections, or answers their first fault.
+#[tactic(auto, using(wild_sections::proofs::FaultLemmas::first_faults))]
+fn add_sorted<A: Arch>(
+    alloc: Global,
+    resolved: &Resolved<A>,
+    bytes: &mut GroupBytes,
+) -> Result<(), Error>
+    requires stands { All (SortedStands resolved.now.layout.now) resolved.now.layout.now.sorted }
+    ensures faults { Answers result (flat_map (sorted_errors resolved.now.layout.now) resolved.now.layout.now.sorted) }
+    ensures files { OnOk result (bytes.new.files ≡ bytes.old.files ++ all_sorted resolved.now.layout.now) }
+    ensures frames { OnOk result (bytes.new.frames ≡ bytes.old.frames) }
+    ensures tables { bytes.new.tables ≡ bytes.old.tables }
+{
+    for entry in resolved.layout.sorted.as_slice() {
+        add_sorted_section(alloc, resolved, entry, bytes)?;
     }
     Ok(())
 }
 
-/// Adds the bytes of the sections of a file and its thunks, or answers its first fault: that of its sections, or else of
-/// its copies and slots, or else of its thunks.
-#[tactic(auto, using(wild_sections::proofs::FaultLemmas::first_of_both), unfolding(wild_layout::specs::Faults::file_errors))]
+/// Adds what ends the frames of the output.
+fn add_end(layout: &Layout, frames: &mut PartBytes) -> Result<(), AllocError>
+    ensures { OnOk result (frames.new ≡ frames.old ++ end_of_frames layout.now) }
+{
+    if layout.options.terminator {
+        frames.extend(&[0; 4])?;
+    }
+    Ok(())
+}
+
+/// Adds what only the last file has: the sorted sections, and what ends the frames.
+fn add_last<A: Arch>(
+    alloc: Global,
+    resolved: &Resolved<A>,
+    file: &File,
+    bytes: &mut GroupBytes,
+) -> Result<(), Error>
+    requires stands { is_epilogue file.now.role ≡ true → All (SortedStands resolved.now.layout.now) resolved.now.layout.now.sorted }
+    ensures faults { Answers result (of_last_file file.now (flat_map (sorted_errors resolved.now.layout.now) resolved.now.layout.now.sorted)) }
+    ensures files { OnOk result (bytes.new.files ≡ bytes.old.files ++ of_last_file file.now (all_sorted resolved.now.layout.now)) }
+    ensures frames { OnOk result (bytes.new.frames ≡ bytes.old.frames ++ of_last_file file.now (end_of_frames resolved.now.layout.now)) }
+    ensures tables { bytes.new.tables ≡ bytes.old.tables }
+{
+    if file.role.is_epilogue() {
+        add_sorted(alloc, resolved, bytes)?;
+        add_end(resolved.layout, &mut bytes.frames)?;
+    }
+    Ok(())
+}
+
+/// Adds strings, one behind the other.
+fn add_strings(strings: &[Bytes], bytes: &mut PartBytes) -> Result<(), AllocError>
+    ensures { OnOk result (bytes.new ≡ bytes.old ++ flat_map (λ (s : List ℕ). s) strings.now) }
+{
+    for string in strings {
+        bytes.extend(string.as_slice())?;
+    }
+    Ok(())
+}
+
+/// Adds what stands once: the strings that were merged, and the output's identity.
+fn add_once(layout: &Layout, bytes: &mut PartBytes) -> Result<(), AllocError>
+    ensures { OnOk result (bytes.new ≡ bytes.old ++ once_bytes layout.now) }
+{
+    for merged in layout.merged.as_slice() {
+        add_strings(merged.strings.as_slice(), bytes)?;
+    }
+    bytes.extend(layout.identity.bytes.as_slice())
+}
+
+/// Adds what only the first file has.
+fn add_first(layout: &Layout, file: &File, bytes: &mut PartBytes) -> Result<(), AllocError>
+    ensures { OnOk result (bytes.new ≡ bytes.old ++ of_first_file file.now (once_bytes layout.now)) }
+{
+    if file.role.is_prelude() {
+        add_once(layout, bytes)?;
+    }
+    Ok(())
+}
+
+/// Refuses the first file where something is too far from the search table of frames.
+fn check_search_table(
+    layout: &Layout,
+    place: InputPlace,
+    file: &File,
+    table: &SearchTable,
+) -> Result<(), Error>
+    requires { IsTableFor layout.now table.now file.now }
+    ensures { Answers result (first_errors layout.now place.group place.file file.now) }
+{
+    match table.fault {
+        Some(fault) if file.role.is_prelude() => Err(Error {
+            fault,
+            at: place.file(),
+        }),
+        _ => Ok(()),
+    }
+}
+
+/// Adds what a file has behind its sections: what only the last or the first file has, and its thunks; or answers the first fault of
+/// these, of its copies and slots, and of the search table.
+#[tactic(auto, using(wild_sections::proofs::FaultLemmas::first_of_both), unfolding(crate::specs::Stood::errors_behind, crate::specs::Stood::bytes_behind))]
+fn add_behind<A: Arch>(
+    alloc: Global,
+    resolved: &Resolved<A>,
+    place: InputPlace,
+    file: &File,
+    table: &SearchTable,
+    bytes: &mut GroupBytes,
+) -> Result<(), Error>
+    requires stands { is_epilogue file.now.role ≡ true → All (SortedStands resolved.now.layout.now) resolved.now.layout.now.sorted }
+    requires table { IsTableFor resolved.now.layout.now table.now file.now }
+    ensures faults { Answers result (errors_behind resolved.now.layout.now place.group place.file file.now) }
+    ensures files { OnOk result (bytes.new.files ≡ bytes.old.files ++ bytes_behind resolved.now.layout.now file.now) }
+    ensures frames { OnOk result (bytes.new.frames ≡ bytes.old.frames ++ of_last_file file.now (end_of_frames resolved.now.layout.now)) }
+    ensures tables { bytes.new.tables ≡ bytes.old.tables }
+{
+    add_last(alloc, resolved, file, bytes)?;
+    check_entries(resolved, place, file)?;
+    add_first(resolved.layout, file, &mut bytes.files)?;
+    add_thunks(resolved, place, file, &mut bytes.files)?;
+    check_search_table(resolved.layout, place, file, table)
+}
+
+/// Adds the bytes of the sections of a file, whose frames stand from an address on, and what it has behind them, or answers its first
+/// fault; tells where the frames behind stand.
+#[tactic(auto, using(wild_sections::proofs::FaultLemmas::first_of_both, crate::proofs::StoodLemmas::file_faults_by, crate::proofs::StoodLemmas::file_owned_by, crate::proofs::StoodLemmas::file_frames_by))]
 fn add_file<A: Arch>(
     alloc: Global,
     resolved: &Resolved<A>,
     place: InputPlace,
     file: &File,
-    bytes: &mut PartBytes,
-) -> Result<(), Error>
-    requires lies { All (SectionLies resolved.now.layout.now) file.now.sections }
-    ensures faults { Answers result (file_errors resolved.now.layout.now place.group place.file file.now) }
-    ensures bytes { OnOk result (bytes.new ≡ bytes.old ++ file_bytes resolved.now.layout.now file.now) }
+    at: u64,
+    table: &SearchTable,
+    bytes: &mut GroupBytes,
+) -> Result<u64, Error>
+    requires stands { FileStands resolved.now.layout.now at file.now }
+    requires table { IsTableFor resolved.now.layout.now table.now file.now }
+    ensures faults { Answers result (file_errors resolved.now.layout.now place.group at place.file file.now) }
+    ensures next { IfOk result (λ n. n ≡ behind at (file_frames resolved.now.layout.now file.now)) }
+    ensures files { OnOk result (bytes.new.files ≡ bytes.old.files ++ file_bytes resolved.now.layout.now file.now) }
+    ensures frames { OnOk result (bytes.new.frames ≡ bytes.old.frames ++ frames_bytes resolved.now.layout.now (laid_file resolved.now.layout.now at file.now)) }
+    ensures tables { bytes.new.tables ≡ bytes.old.tables }
 {
-    add_file_sections(alloc, resolved, place, file, bytes)?;
-    check_entries(resolved, place, file)?;
-    add_thunks(resolved, place, file, bytes)
+    let next = add_file_sections(alloc, resolved, place, file, at, bytes)?;
+    add_behind(alloc, resolved, place, file, table, bytes)?;
+    Ok(next)
 }
 
 /// Adds the bytes of a group's files, or answers their first fault.
-#[tactic(auto, using(wild_sections::proofs::FaultLemmas::first_from))]
+#[tactic(auto, using(crate::proofs::StoodLemmas::files_refuse, crate::proofs::StoodLemmas::files_done, crate::proofs::StoodLemmas::framed_done), unfolding(crate::specs::Append::GroupStands, crate::specs::Pieces::group_files, wild_contents::specs::Laid::group_frames, wild_laid::specs::Laid::laid_files))]
 fn add_files<A: Arch>(
     alloc: Global,
     resolved: &Resolved<A>,
     index: usize,
     group: &Group,
-    bytes: &mut PartBytes,
+    table: &SearchTable,
+    bytes: &mut GroupBytes,
 ) -> Result<(), Error>
-    requires lies { All (λ (f : File). All (SectionLies resolved.now.layout.now) f.sections) group.now.files }
-    ensures faults { Answers result (flat_map_from (file_errors resolved.now.layout.now index) 0 group.now.files) }
-    ensures bytes { OnOk result (bytes.new ≡ bytes.old ++ group_files resolved.now.layout.now group.now) }
+    requires stands { GroupStands resolved.now.layout.now group.now }
+    requires table { All (IsTableFor resolved.now.layout.now table.now) group.now.files }
+    ensures faults { Answers result (files_errors resolved.now.layout.now index (frames_at resolved.now.layout.now group.now) 0 group.now.files) }
+    ensures files { OnOk result (bytes.new.files ≡ bytes.old.files ++ group_files resolved.now.layout.now group.now) }
+    ensures frames { OnOk result (bytes.new.frames ≡ bytes.old.frames ++ group_frames resolved.now.layout.now group.now) }
+    ensures tables { bytes.new.tables ≡ bytes.old.tables }
 {
+    let mut next = frames_at(resolved.layout, group);
     for (i, file) in group.files.as_slice().iter().enumerate() {
         let place = InputPlace {
             group: index,
             file: i,
             section: 0,
         };
-        add_file(alloc, resolved, place, file, bytes)?;
+        next = add_file(alloc, resolved, place, file, next, table, bytes)?;
     }
     Ok(())
 }
@@ -185,19 +467,24 @@ fn add_group_files<A: Arch>(
     resolved: &Resolved<A>,
     index: usize,
     group: &Group,
-    bytes: &mut PartBytes,
+    table: &SearchTable,
+    bytes: &mut GroupBytes,
 ) -> Result<(), Error>
-    requires lies { All (λ (f : File). All (SectionLies resolved.now.layout.now) f.sections) group.now.files }
+    requires stands { GroupStands resolved.now.layout.now group.now }
+    requires table { All (IsTableFor resolved.now.layout.now table.now) group.now.files }
     ensures faults { Answers result (group_errors resolved.now.layout.now index group.now) }
-    ensures bytes { OnOk result (bytes.new ≡ bytes.old ++ group_files resolved.now.layout.now group.now) }
+    ensures files { OnOk result (bytes.new.files ≡ bytes.old.files ++ group_files resolved.now.layout.now group.now) }
+    ensures frames { OnOk result (bytes.new.frames ≡ bytes.old.frames ++ group_frames resolved.now.layout.now group.now) }
+    ensures tables { bytes.new.tables ≡ bytes.old.tables }
 {
-    add_files(alloc, resolved, index, group, bytes)?;
+    add_files(alloc, resolved, index, group, table, bytes)?;
     check_symbol_tables(resolved, index, group.files.as_slice())
 }
 
-/// How many bytes some groups have, so that their buffer is taken at once.
-fn room_of_groups(layout: &Layout, groups: &[Group]) -> usize {
-    let mut room: usize = 0;
+/// How many bytes some groups have of raw parts and of tables, so that their buffers are taken at once.
+fn room_of_groups(layout: &Layout, groups: &[Group]) -> (usize, usize) {
+    let mut files: usize = 0;
+    let mut tables: usize = 0;
     for group in groups {
         for (part, size) in layout
             .parts
@@ -206,30 +493,56 @@ fn room_of_groups(layout: &Layout, groups: &[Group]) -> usize {
             .zip(group.part_sizes.as_slice())
         {
             if *size != 0 && layout.takes_file_bytes(part.section) {
-                room = room.saturating_add(*size as usize);
+                if has_role(Role::Raw, part) {
+                    files = files.saturating_add(*size as usize);
+                } else {
+                    tables = tables.saturating_add(*size as usize);
+                }
             }
         }
     }
-    room
+    (tables, files)
+}
+
+impl GroupBytes {
+    /// No bytes, with room for so many of tables and of files.
+    pub(crate) fn with_room(alloc: Global, tables: usize, files: usize) -> Result<Self, AllocError>
+        ensures tables { IfOk result (λ b. b.tables ≡ []) }
+        ensures files { IfOk result (λ b. b.files ≡ []) }
+    {
+        Ok(GroupBytes {
+            tables: PartBytes::with_room(alloc, tables)?,
+            files: PartBytes::with_room(alloc, files)?,
+            frames: PartBytes::empty(alloc),
+        })
+    }
 }
 
 /// Adds all bytes of a group, or answers its first fault.
-#[tactic(auto, unfolding(crate::specs::Pieces::group_bytes))]
 pub(crate) fn add_group<A: Arch>(
     alloc: Global,
     resolved: &Resolved<A>,
     index: usize,
     group: &Group,
-    bytes: &mut PartBytes,
+    table: &SearchTable,
+    bytes: &mut GroupBytes,
 ) -> Result<(), Error>
-    requires lies { All (λ (f : File). All (SectionLies resolved.now.layout.now) f.sections) group.now.files }
+    requires stands { GroupStands resolved.now.layout.now group.now }
     requires gives { GivesItsShares resolved.now.layout.now group.now }
     requires few { NeedsFit group.now }
+    requires table { All (IsTableFor resolved.now.layout.now table.now) group.now.files }
     ensures faults { Answers result (group_errors resolved.now.layout.now index group.now) }
-    ensures bytes { OnOk result (bytes.new ≡ bytes.old ++ group_bytes resolved.now.layout.now group.now) }
+    ensures tables { OnOk result (bytes.new.tables ≡ bytes.old.tables ++ group_tables resolved.now.layout.now group.now) }
+    ensures files { OnOk result (bytes.new.files ≡ bytes.old.files ++ group_files resolved.now.layout.now group.now) }
 {
-    add_group_tables(alloc, resolved, group, bytes)?;
-    add_group_files(alloc, resolved, index, group, bytes)
+    bytes.frames = PartBytes::empty(alloc);
+    add_group_files(alloc, resolved, index, group, table, bytes)?;
+    let beside = Beside {
+        frames: bytes.frames.as_slice(),
+        table: table.bytes.as_slice(),
+    };
+    add_group_tables(alloc, resolved, group, &beside, &mut bytes.tables)?;
+    Ok(())
 }
 
 /// All bytes of a batch, or its first fault.
@@ -237,17 +550,20 @@ pub(crate) fn bytes_of_batch<A: Arch>(
     alloc: Global,
     resolved: &Resolved<A>,
     batch: &Batch,
-) -> Result<PartBytes, Error>
-    requires lies { All (λ (g : Group). All (λ (f : File). All (SectionLies resolved.now.layout.now) f.sections) g.files) batch.now.groups.now }
+    table: &SearchTable,
+) -> Result<GroupBytes, Error>
+    requires stands { All (GroupStands resolved.now.layout.now) batch.now.groups.now }
     requires gives { All (GivesItsShares resolved.now.layout.now) batch.now.groups.now }
     requires few { All NeedsFit batch.now.groups.now }
+    requires table { IsSearchTable resolved.now.layout.now table.now }
     requires small { batch.now.first + length batch.now.groups.now < 2 ^ 64 }
     ensures faults { Answers result (batch_errors resolved.now.layout.now batch.now) }
-    ensures bytes { IfOk result (λ bs. bs ≡ batch_bytes resolved.now.layout.now batch.now) }
+    ensures bytes { IfOk result (HasBatch resolved.now.layout.now batch.now) }
 {
-    let mut bytes = PartBytes::with_room(alloc, room_of_groups(resolved.layout, batch.groups))?;
+    let (tables, files) = room_of_groups(resolved.layout, batch.groups);
+    let mut bytes = GroupBytes::with_room(alloc, tables, files)?;
     for (i, group) in batch.groups.iter().enumerate() {
-        add_group(alloc, resolved, batch.first + i, group, &mut bytes)?;
+        add_group(alloc, resolved, batch.first + i, group, table, &mut bytes)?;
     }
     Ok(bytes)
 }

@@ -1,34 +1,39 @@
 //! All bytes of a group, cut into what it has of each part.
-ghost use Rattle.std.specs.Prelude.{◌≡◌, ◌<◌, ◌++◌, ℕ, [], length, map, All, IfOk, OnOk, slice_index_or};
+ghost use Rattle.std.specs.Prelude.{◌≡◌, ◌<◌, ◌++◌, ℕ, true, [], length, map, All, IfOk, OnOk, slice_index_or};
 ghost use Rattle.wild_types.specs.declared.file.File.{File};
 ghost use Rattle.wild_types.specs.declared.part.Part.{Part};
 ghost use Rattle.wild_types.specs.FileThunks.{thunks_of};
 ghost use Rattle.wild_layout.specs.Content.{content};
-ghost use Rattle.wild_layout.specs.SectionPlaces.{SectionLies};
+ghost use Rattle.wild_layout.specs.SectionPlaces.{SectionLies, FrontLies};
 ghost use Rattle.wild_layout.specs.ThunkPlaces.{ThunkLies};
 ghost use Rattle.wild_layout.specs.Thunks.{thunk_bytes, file_thunks};
-ghost use Rattle.wild_image.specs.Append.{BeginsWith, GoesOn, GivesItsShares, FileLies};
-ghost use Rattle.wild_image.specs.Pieces.{section_owned, file_sections, file_bytes, group_tables, group_files, group_bytes, owned_in, sections_owned, thunk_in, thunks_in, file_owned, group_owned, group_parts};
+ghost use Rattle.std.specs.List.{flat_map};
+ghost use Rattle.wild_types.specs.FileRoles.{is_prelude, is_epilogue};
+ghost use Rattle.wild_laid.specs.Laid.{of_last_file};
+ghost use Rattle.wild_layout.specs.Image.{merged_bytes, of_first_file};
+ghost use Rattle.wild_image.specs.Append.{BeginsWith, GoesOn, GivesItsShares, LoadedLies, SortedLies, SomeLies, MergedLies, FileLies};
+ghost use Rattle.wild_image.specs.Pieces.{standing, section_owned, loaded_owned, file_sections, sorted_owned, all_sorted, once_bytes, ends_bytes, file_bytes, group_tables, group_files, in_part, owned_in, loaded_in, sections_owned, sorted_in, all_sorted_in, merged_in, once_in, ends_in, thunk_in, thunks_in, file_owned, group_owned, group_parts};
 
-use crate::append::table_size;
+use crate::append::{merged_size, owns_room, table_size};
+use crate::buffer::GroupBytes;
 use std::alloc::{AllocError, Global};
 use wild_contents::PartBytes;
-use wild_types::{File, Group, InputSection, Layout, THUNK_SIZE, Thunk};
+use wild_laid::sorted_input;
+use wild_types::{File, Group, InputSection, Layout, Merged, SortedSection, THUNK_SIZE, Thunk};
 use wild_words::Items;
 
-/// What a group gives to each part, the first of these bytes; tells what stands behind that.
-fn cut_tables<'b>(
+/// What a group gives to each part, one behind the other in these bytes.
+fn cut_tables(
     alloc: Global,
     layout: &Layout,
     group: &Group,
-    bytes: &'b [u8],
+    bytes: &[u8],
     parts: &mut Vec<PartBytes>,
-) -> Result<&'b [u8], AllocError>
+) -> Result<(), AllocError>
     requires gives { GivesItsShares layout.now group.now }
     requires own { BeginsWith (group_tables layout.now group.now) bytes.now }
     requires none { parts.old.items ≡ [] }
-    ensures parts { OnOk result (parts.new.items ≡ map (λ (p : Part). content layout.now p.role group.now) layout.now.parts) }
-    ensures rest { IfOk result (λ r. GoesOn (group_tables layout.now group.now) bytes.now r.now) }
+    ensures { OnOk result (parts.new.items ≡ map (λ (p : Part). content layout.now p.role group.now) layout.now.parts) }
 {
     let mut rest = bytes;
     for (i, part) in layout.parts.as_slice().iter().enumerate() {
@@ -38,28 +43,47 @@ fn cut_tables<'b>(
         parts.push(piece)?;
         rest = behind;
     }
+    Ok(())
+}
+
+/// Adds the bytes of a section that is loaded or sorted, the first of these, to those of its part, and tells what stands behind them.
+fn cut_standing<'b>(
+    layout: &Layout,
+    section: &InputSection,
+    bytes: &'b [u8],
+    parts: &mut [PartBytes],
+) -> Result<&'b [u8], AllocError>
+    requires lies { SectionLies layout.now (standing section.now) }
+    requires room { length parts.old ≡ length layout.now.parts }
+    requires own { (f : File) × BeginsWith (section_owned layout.now f (standing section.now)) bytes.now }
+    ensures owned { OnOk result ((f : File) → BeginsWith (section_owned layout.now f (standing section.now)) bytes.now → (k : ℕ) → k < length parts.old → slice_index_or parts.new k [] ≡ slice_index_or parts.old k [] ++ owned_in layout.now f k (standing section.now)) }
+    ensures rest { IfOk result (λ r. (f : File) → BeginsWith (section_owned layout.now f (standing section.now)) bytes.now → GoesOn (section_owned layout.now f (standing section.now)) bytes.now r.now) }
+{
+    if !owns_room(layout, section) {
+        return Ok(bytes);
+    }
+    let (own, rest) = bytes.split_at(section.size as usize);
+    parts[section.part].extend(own)?;
     Ok(rest)
 }
 
-/// Adds the bytes of a section, the first of these, to those of its part, and tells what stands behind them.
+/// Adds the bytes of a section, the first of these, to those of its part, where it is a loaded one, and tells what stands behind them.
 fn cut_section<'b>(
     layout: &Layout,
     section: &InputSection,
     bytes: &'b [u8],
     parts: &mut [PartBytes],
 ) -> Result<&'b [u8], AllocError>
-    requires lies { SectionLies layout.now section.now }
+    requires lies { LoadedLies layout.now section.now }
     requires room { length parts.old ≡ length layout.now.parts }
-    requires own { (f : File) × BeginsWith (section_owned layout.now f section.now) bytes.now }
-    ensures owned { OnOk result ((f : File) → BeginsWith (section_owned layout.now f section.now) bytes.now → (k : ℕ) → k < length parts.old → slice_index_or parts.new k [] ≡ slice_index_or parts.old k [] ++ owned_in layout.now f k section.now) }
-    ensures rest { IfOk result (λ r. (f : File) → BeginsWith (section_owned layout.now f section.now) bytes.now → GoesOn (section_owned layout.now f section.now) bytes.now r.now) }
+    requires own { (f : File) × BeginsWith (loaded_owned layout.now f section.now) bytes.now }
+    ensures owned { OnOk result ((f : File) → BeginsWith (loaded_owned layout.now f section.now) bytes.now → (k : ℕ) → k < length parts.old → slice_index_or parts.new k [] ≡ slice_index_or parts.old k [] ++ loaded_in layout.now f k section.now) }
+    ensures rest { IfOk result (λ r. (f : File) → BeginsWith (loaded_owned layout.now f section.now) bytes.now → GoesOn (loaded_owned layout.now f section.now) bytes.now r.now) }
 {
-    if !section.is_filled(layout) {
-        return Ok(bytes);
+    if section.slot.is_loaded() {
+        return cut_standing(layout, section, bytes, parts);
     }
-    let (own, rest) = bytes.split_at(section.size as usize);
-    parts[section.part].extend(own)?;
-    Ok(rest)
+    Ok(bytes)
 }
 
 /// Adds the bytes of the sections of a file to those of their parts, and tells what stands behind them.
@@ -69,7 +93,7 @@ fn cut_sections<'b>(
     bytes: &'b [u8],
     parts: &mut [PartBytes],
 ) -> Result<&'b [u8], AllocError>
-    requires lies { All (SectionLies layout.now) file.now.sections }
+    requires lies { All (LoadedLies layout.now) file.now.sections }
     requires room { length parts.old ≡ length layout.now.parts }
     requires own { BeginsWith (file_sections layout.now file.now) bytes.now }
     ensures owned { OnOk result ((k : ℕ) → k < length parts.old → slice_index_or parts.new k [] ≡ slice_index_or parts.old k [] ++ sections_owned layout.now k file.now) }
@@ -80,6 +104,205 @@ fn cut_sections<'b>(
         rest = cut_section(layout, section, rest, parts)?;
     }
     Ok(rest)
+}
+
+/// Adds the bytes of a section that is named among the sorted ones to those of its part, and tells what stands behind them.
+fn cut_sorted_section<'b>(
+    layout: &Layout,
+    entry: &SortedSection,
+    bytes: &'b [u8],
+    parts: &mut [PartBytes],
+) -> Result<&'b [u8], AllocError>
+    requires lies { SortedLies layout.now entry.now }
+    requires room { length parts.old ≡ length layout.now.parts }
+    requires own { BeginsWith (sorted_owned layout.now entry.now) bytes.now }
+    ensures owned { OnOk result ((k : ℕ) → k < length parts.old → slice_index_or parts.new k [] ≡ slice_index_or parts.old k [] ++ sorted_in layout.now k entry.now) }
+    ensures rest { IfOk result (λ r. GoesOn (sorted_owned layout.now entry.now) bytes.now r.now) }
+{
+    match sorted_input(layout, *entry) {
+        Some(input) => cut_standing(layout, input.section, bytes, parts),
+        None => Ok(bytes),
+    }
+}
+
+/// Adds the bytes of the sorted sections to those of their parts, and tells what stands behind them.
+fn cut_sorted<'b>(
+    layout: &Layout,
+    bytes: &'b [u8],
+    parts: &mut [PartBytes],
+) -> Result<&'b [u8], AllocError>
+    requires lies { All (SortedLies layout.now) layout.now.sorted }
+    requires room { length parts.old ≡ length layout.now.parts }
+    requires own { BeginsWith (all_sorted layout.now) bytes.now }
+    ensures owned { OnOk result ((k : ℕ) → k < length parts.old → slice_index_or parts.new k [] ≡ slice_index_or parts.old k [] ++ all_sorted_in layout.now k) }
+    ensures rest { IfOk result (λ r. GoesOn (all_sorted layout.now) bytes.now r.now) }
+{
+    let mut rest = bytes;
+    for entry in layout.sorted.as_slice() {
+        rest = cut_sorted_section(layout, entry, rest, parts)?;
+    }
+    Ok(rest)
+}
+
+/// Adds bytes, of which there are some, to those of a part.
+#[tactic(auto, using(crate::proofs::FrontLemmas::front_part))]
+fn add_some(
+    layout: &Layout,
+    part: usize,
+    own: &[u8],
+    parts: &mut [PartBytes],
+) -> Result<(), AllocError>
+    requires lies { FrontLies layout.now part own.now }
+    requires room { length parts.old ≡ length layout.now.parts }
+    ensures { OnOk result ((k : ℕ) → k < length parts.old → slice_index_or parts.new k [] ≡ slice_index_or parts.old k [] ++ in_part k part own.now) }
+{
+    parts[part].extend(own)?;
+    Ok(())
+}
+
+/// The same, where there are some.
+#[tactic(auto, using(crate::proofs::OwnedLemmas::none_taken))]
+fn add_front(
+    layout: &Layout,
+    part: usize,
+    own: &[u8],
+    parts: &mut [PartBytes],
+) -> Result<(), AllocError>
+    requires lies { SomeLies layout.now part own.now }
+    requires room { length parts.old ≡ length layout.now.parts }
+    ensures { OnOk result ((k : ℕ) → k < length parts.old → slice_index_or parts.new k [] ≡ slice_index_or parts.old k [] ++ in_part k part own.now) }
+{
+    if own.len() != 0 {
+        add_some(layout, part, own, parts)?;
+    }
+    Ok(())
+}
+
+/// Adds merged strings, the first of these bytes, to those of their part, and tells what stands behind them.
+fn cut_merged<'b>(
+    layout: &Layout,
+    merged: &Merged,
+    bytes: &'b [u8],
+    parts: &mut [PartBytes],
+) -> Result<&'b [u8], AllocError>
+    requires lies { MergedLies layout.now merged.now }
+    requires room { length parts.old ≡ length layout.now.parts }
+    requires own { BeginsWith (merged_bytes merged.now) bytes.now }
+    ensures owned { OnOk result ((k : ℕ) → k < length parts.old → slice_index_or parts.new k [] ≡ slice_index_or parts.old k [] ++ merged_in k merged.now) }
+    ensures rest { IfOk result (λ r. GoesOn (merged_bytes merged.now) bytes.now r.now) }
+{
+    let (own, rest) = bytes.split_at(merged_size(merged));
+    add_front(layout, merged.part, own, parts)?;
+    Ok(rest)
+}
+
+/// Adds the strings that were merged to those of their parts, and tells what stands behind them.
+fn cut_strings<'b>(
+    layout: &Layout,
+    bytes: &'b [u8],
+    parts: &mut [PartBytes],
+) -> Result<&'b [u8], AllocError>
+    requires lies { All (MergedLies layout.now) layout.now.merged }
+    requires room { length parts.old ≡ length layout.now.parts }
+    requires own { BeginsWith (flat_map merged_bytes layout.now.merged) bytes.now }
+    ensures owned { OnOk result ((k : ℕ) → k < length parts.old → slice_index_or parts.new k [] ≡ slice_index_or parts.old k [] ++ flat_map (merged_in k) layout.now.merged) }
+    ensures rest { IfOk result (λ r. GoesOn (flat_map merged_bytes layout.now.merged) bytes.now r.now) }
+{
+    let mut rest = bytes;
+    for merged in layout.merged.as_slice() {
+        rest = cut_merged(layout, merged, rest, parts)?;
+    }
+    Ok(rest)
+}
+
+/// Adds the output's identity, the first of these bytes, to those of its part, and tells what stands behind it.
+fn cut_identity<'b>(
+    layout: &Layout,
+    bytes: &'b [u8],
+    parts: &mut [PartBytes],
+) -> Result<&'b [u8], AllocError>
+    requires lies { SomeLies layout.now layout.now.identity.part layout.now.identity.bytes }
+    requires room { length parts.old ≡ length layout.now.parts }
+    requires own { BeginsWith layout.now.identity.bytes bytes.now }
+    ensures owned { OnOk result ((k : ℕ) → k < length parts.old → slice_index_or parts.new k [] ≡ slice_index_or parts.old k [] ++ in_part k layout.now.identity.part layout.now.identity.bytes) }
+    ensures rest { IfOk result (λ r. GoesOn layout.now.identity.bytes bytes.now r.now) }
+{
+    let (own, rest) = bytes.split_at(layout.identity.bytes.len());
+    add_front(layout, layout.identity.part, own, parts)?;
+    Ok(rest)
+}
+
+/// Adds what stands once to the bytes of its parts: the strings that were merged, and the output's identity; tells what stands behind it.
+fn cut_once<'b>(
+    layout: &Layout,
+    bytes: &'b [u8],
+    parts: &mut [PartBytes],
+) -> Result<&'b [u8], AllocError>
+    requires merged { All (MergedLies layout.now) layout.now.merged }
+    requires identity { SomeLies layout.now layout.now.identity.part layout.now.identity.bytes }
+    requires room { length parts.old ≡ length layout.now.parts }
+    requires own { BeginsWith (once_bytes layout.now) bytes.now }
+    ensures owned { OnOk result ((k : ℕ) → k < length parts.old → slice_index_or parts.new k [] ≡ slice_index_or parts.old k [] ++ once_in layout.now k) }
+    ensures rest { IfOk result (λ r. GoesOn (once_bytes layout.now) bytes.now r.now) }
+{
+    let rest = cut_strings(layout, bytes, parts)?;
+    cut_identity(layout, rest, parts)
+}
+
+/// Adds what only the last file has to the bytes of its parts, and tells what stands behind it.
+fn cut_last<'b>(
+    layout: &Layout,
+    file: &File,
+    bytes: &'b [u8],
+    parts: &mut [PartBytes],
+) -> Result<&'b [u8], AllocError>
+    requires lies { is_epilogue file.now.role ≡ true → All (SortedLies layout.now) layout.now.sorted }
+    requires room { length parts.old ≡ length layout.now.parts }
+    requires own { BeginsWith (of_last_file file.now (all_sorted layout.now)) bytes.now }
+    ensures owned { OnOk result ((k : ℕ) → k < length parts.old → slice_index_or parts.new k [] ≡ slice_index_or parts.old k [] ++ of_last_file file.now (all_sorted_in layout.now k)) }
+    ensures rest { IfOk result (λ r. GoesOn (of_last_file file.now (all_sorted layout.now)) bytes.now r.now) }
+{
+    if file.role.is_epilogue() {
+        return cut_sorted(layout, bytes, parts);
+    }
+    Ok(bytes)
+}
+
+/// Adds what only the first file has to the bytes of its parts, and tells what stands behind it.
+fn cut_first<'b>(
+    layout: &Layout,
+    file: &File,
+    bytes: &'b [u8],
+    parts: &mut [PartBytes],
+) -> Result<&'b [u8], AllocError>
+    requires merged { is_prelude file.now.role ≡ true → All (MergedLies layout.now) layout.now.merged }
+    requires identity { is_prelude file.now.role ≡ true → SomeLies layout.now layout.now.identity.part layout.now.identity.bytes }
+    requires room { length parts.old ≡ length layout.now.parts }
+    requires own { BeginsWith (of_first_file file.now (once_bytes layout.now)) bytes.now }
+    ensures owned { OnOk result ((k : ℕ) → k < length parts.old → slice_index_or parts.new k [] ≡ slice_index_or parts.old k [] ++ of_first_file file.now (once_in layout.now k)) }
+    ensures rest { IfOk result (λ r. GoesOn (of_first_file file.now (once_bytes layout.now)) bytes.now r.now) }
+{
+    if file.role.is_prelude() {
+        return cut_once(layout, bytes, parts);
+    }
+    Ok(bytes)
+}
+
+/// Adds what only the last or the first file has to the bytes of its parts, and tells what stands behind it.
+fn cut_ends<'b>(
+    layout: &Layout,
+    file: &File,
+    bytes: &'b [u8],
+    parts: &mut [PartBytes],
+) -> Result<&'b [u8], AllocError>
+    requires lies { FileLies layout.now file.now }
+    requires room { length parts.old ≡ length layout.now.parts }
+    requires own { BeginsWith (ends_bytes layout.now file.now) bytes.now }
+    ensures owned { OnOk result ((k : ℕ) → k < length parts.old → slice_index_or parts.new k [] ≡ slice_index_or parts.old k [] ++ ends_in layout.now k file.now) }
+    ensures rest { IfOk result (λ r. GoesOn (ends_bytes layout.now file.now) bytes.now r.now) }
+{
+    let rest = cut_last(layout, file, bytes, parts)?;
+    cut_first(layout, file, rest, parts)
 }
 
 /// Adds a thunk, the first of these bytes, to those of the primary part, and tells what stands behind it.
@@ -133,11 +356,13 @@ fn cut_file<'b>(
     ensures owned { OnOk result ((k : ℕ) → k < length parts.old → slice_index_or parts.new k [] ≡ slice_index_or parts.old k [] ++ file_owned layout.now k file.now) }
     ensures rest { IfOk result (λ r. GoesOn (file_bytes layout.now file.now) bytes.now r.now) }
 {
-    let rest = cut_sections(layout, file, bytes, parts)?;
+    let behind = cut_sections(layout, file, bytes, parts)?;
+    let rest = cut_ends(layout, file, behind, parts)?;
     cut_thunks(layout, file, rest, parts)
 }
 
 /// Adds the bytes of a group's files to those of their parts.
+#[tactic(auto, unfolding(crate::specs::Pieces::group_files, crate::specs::Pieces::group_owned))]
 fn cut_files(
     layout: &Layout,
     group: &Group,
@@ -177,15 +402,16 @@ pub(crate) fn cut_group(
     alloc: Global,
     layout: &Layout,
     group: &Group,
-    bytes: &[u8],
+    bytes: &GroupBytes,
 ) -> Result<Items<PartBytes>, AllocError>
     requires inputs { All (FileLies layout.now) group.now.files }
     requires gives { GivesItsShares layout.now group.now }
-    requires bytes { bytes.now ≡ group_bytes layout.now group.now }
+    requires tables { bytes.now.tables ≡ group_tables layout.now group.now }
+    requires files { bytes.now.files ≡ group_files layout.now group.now }
     ensures { IfOk result (λ v. v ≡ group_parts layout.now group.now) }
 {
     let mut parts = Vec::with_capacity(alloc, layout.parts.len())?;
-    let rest = cut_tables(alloc, layout, group, bytes, &mut parts)?;
-    fill_parts(layout, group, rest, &mut parts)?;
+    cut_tables(alloc, layout, group, bytes.tables.as_slice(), &mut parts)?;
+    fill_parts(layout, group, bytes.files.as_slice(), &mut parts)?;
     Ok(Items::from_vec(parts))
 }

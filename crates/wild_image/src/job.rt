@@ -3,12 +3,13 @@ ghost use Rattle.std.specs.Prelude.{◌≡◌, ◌<◌, ◌^◌, length, Ok, []}
 ghost use Rattle.wild_clauses.specs.WellFormed.{first_clause};
 ghost use Rattle.wild_layout.specs.Faults.{flat_map_from, part_errors};
 ghost use Rattle.wild_image.specs.Batches.{AreBatches};
+ghost use Rattle.wild_image.specs.Stood.{IsMade};
 
 use crate::batch::Batch;
-use crate::buffer::bytes_of_batch;
+use crate::buffer::{GroupBytes, bytes_of_batch};
 use crate::pairs::{Pairs, pairs_of_groups};
 use std::alloc::{AllocError, Global};
-use wild_contents::PartBytes;
+use wild_contents::SearchTable;
 use wild_crew::{Counted, Job};
 use wild_geometry::layouts_are_laid_out;
 use wild_relax::Arch;
@@ -18,7 +19,7 @@ use wild_types::Error;
 /// What came of a batch: all its bytes, or its first fault; and what it counted.
 #[derive(Drop)]
 pub(crate) struct Outcome {
-    pub(crate) bytes: Result<PartBytes, Error>,
+    pub(crate) bytes: Result<GroupBytes, Error>,
     pub(crate) counts: Pairs,
 }
 
@@ -38,10 +39,12 @@ pub(crate) struct GroupJob<'a, A: Arch> {
     pub(crate) alloc: Global,
     pub(crate) resolved: Resolved<'a, A>,
     pub(crate) batches: &'a [Batch<'a>],
+    pub(crate) table: &'a SearchTable,
     ghost clauses: { first_clause resolved.layout.now ≡ Ok tt },
     ghost shares: { flat_map_from (part_errors resolved.layout.now) 0 resolved.layout.now.parts ≡ [] },
     ghost batches_are: { AreBatches resolved.layout.now.groups batches.now },
     ghost few: { length batches.now < 2 ^ 32 },
+    ghost table_is: { IsMade resolved.layout.now table.now },
 }
 
 impl<'a, A: Arch> Job<Outcome> for GroupJob<'a, A> {
@@ -62,7 +65,7 @@ impl<'a, A: Arch> Job<Outcome> for GroupJob<'a, A> {
         layouts_are_laid_out();
         let batch = &self.batches[group as usize];
         let counts = pairs_of_groups(self.alloc, self.resolved.layout, batch.groups)?;
-        let bytes = bytes_of_batch(self.alloc, &self.resolved, batch);
+        let bytes = bytes_of_batch(self.alloc, &self.resolved, batch, self.table);
         Ok(Outcome { bytes, counts })
     }
 }

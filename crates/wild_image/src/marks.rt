@@ -1,13 +1,14 @@
 //! Which bytes of an image have an owner.
-ghost use Rattle.std.specs.Prelude.{◌≡◌, ◌≤◌, ◌&&◌, ℕ, nat_le, nat_lt, length, slice_get};
-ghost use Rattle.std.specs.List.{list_any};
+ghost use Rattle.std.specs.Prelude.{◌≡◌, ◌≤◌, ◌&&◌, ◌-◌, ◌^◌, ℕ, List, min, nat_le, nat_lt, length, slice_get};
+ghost use Rattle.std.specs.List.{flat_map, list_any};
 ghost use Rattle.wild_types.specs.FileThunks.{thunks_of};
-ghost use Rattle.wild_layout.specs.Image.{offset_in, is_within, part_owns, section_owns, thunk_owns, file_owns, group_owns, is_owned};
+ghost use Rattle.wild_layout.specs.Image.{offset_in, offset_of_part, is_within, part_owns, section_owns, thunk_owns, file_owns, group_owns, merged_bytes, front_owns, once_owns, is_owned};
 ghost use Rattle.wild_image.specs.Padding.{Marks};
 
 use wild_types::{
-    File, Group, InputSection, Layout, Part, Role, THUNK_SIZE, Thunk, has_role, wide_sum,
+    File, Group, InputSection, Layout, Merged, Part, Role, THUNK_SIZE, Thunk, has_role, wide_sum,
 };
+use wild_words::Bytes;
 
 /// Marks the bytes of a range.
 fn mark_range(at: usize, end: usize, taken: &mut [bool])
@@ -52,7 +53,7 @@ fn mark_part(layout: &Layout, part: &Part, taken: &mut [bool])
 fn mark_section(layout: &Layout, section: &InputSection, taken: &mut [bool])
     ensures { Marks (λ (k : ℕ). section_owns layout.now k section.now) taken.old taken.new }
 {
-    if section.is_filled(layout) {
+    if section.owns_bytes(layout) {
         let at = offset_in(layout.parts.as_slice(), section.part, section.address);
         mark(at, section.size, taken);
     }
@@ -103,12 +104,71 @@ fn mark_parts(layout: &Layout, taken: &mut [bool])
     }
 }
 
+/// The file offset of a part.
+fn offset_of_part(parts: &[Part], part: usize) -> u64
+    ensures { result ≡ offset_of_part (slice_get parts.now part) }
+{
+    match parts.get(part) {
+        Some(part) => part.offset,
+        None => 0,
+    }
+}
+
+/// How many bytes strings have, at most 2^64 - 1.
+pub(crate) fn strings_size(strings: &[Bytes]) -> u64
+    ensures { result ≡ min (2 ^ 64 - 1) (length (flat_map (λ (s : List ℕ). s) strings.now)) }
+{
+    let mut size: u64 = 0;
+    for string in strings {
+        size = size.saturating_add(string.len() as u64);
+    }
+    size
+}
+
+/// Marks what stands at the front of a part.
+fn mark_front(layout: &Layout, part: usize, size: u64, taken: &mut [bool])
+    ensures { Marks (is_within (offset_of_part (slice_get layout.now.parts part)) size) taken.old taken.new }
+{
+    let at = offset_of_part(layout.parts.as_slice(), part);
+    mark(at as u128, size, taken);
+}
+
+/// Marks what merged strings own.
+#[tactic(auto, using(crate::proofs::PaddingLemmas::marks_capped))]
+fn mark_merged(layout: &Layout, merged: &Merged, taken: &mut [bool])
+    ensures { Marks (λ (k : ℕ). front_owns layout.now k merged.now.part (merged_bytes merged.now)) taken.old taken.new }
+{
+    let size = strings_size(merged.strings.as_slice());
+    let _all = taken.len();
+    mark_front(layout, merged.part, size, taken);
+}
+
+/// Marks what stands once: the strings that were merged, and the output's identity.
+#[tactic(auto, using(crate::proofs::PaddingLemmas::marks_both))]
+fn mark_once(layout: &Layout, taken: &mut [bool])
+    ensures { Marks (once_owns layout.now) taken.old taken.new }
+{
+    for merged in layout.merged.as_slice() {
+        mark_merged(layout, merged, taken);
+    }
+    let identity = &layout.identity;
+    mark_front(layout, identity.part, identity.bytes.len() as u64, taken);
+}
+
+/// Marks what the files of all groups own.
+fn mark_groups(layout: &Layout, taken: &mut [bool])
+    ensures { Marks (λ (k : ℕ). list_any (group_owns layout.now k) layout.now.groups) taken.old taken.new }
+{
+    for group in layout.groups.as_slice() {
+        mark_group(layout, group, taken);
+    }
+}
+
 /// Marks each byte that has an owner.
 pub(crate) fn mark_owned(layout: &Layout, taken: &mut [bool])
     ensures { Marks (is_owned layout.now) taken.old taken.new }
 {
     mark_parts(layout, taken);
-    for group in layout.groups.as_slice() {
-        mark_group(layout, group, taken);
-    }
+    mark_groups(layout, taken);
+    mark_once(layout, taken);
 }

@@ -18,6 +18,7 @@ use crate::shares::check_shares;
 use std::alloc::{AllocError, Global};
 use std::thread::Threads;
 use wild_clauses::well_formed;
+use wild_contents::make_search_table;
 use wild_crew::{Gate, OpenGate, gather};
 use wild_geometry::layouts_are_laid_out;
 use wild_needs::elf_entry_address;
@@ -104,6 +105,7 @@ where
     ensures counts { IfOk result (λ o. o.counts ≡ counts layout.now) }
 {
     let resolved = Resolved::<A>::new(alloc, layout)?;
+    let table = make_search_table(rt, alloc, &resolved)?;
     let groups = layout.groups.as_slice();
     let cut = batches_of(alloc, groups, batch_size(groups.len()))?;
     let batches = cut.as_slice();
@@ -111,6 +113,7 @@ where
         alloc,
         resolved,
         batches,
+        table: &table,
     };
     let sections = layout.sections.len() as u32;
     let gathered = gather(rt, alloc, &job, sections, u32::from(workers), gate)?;

@@ -1,19 +1,27 @@
 //! What a group has of each part.
-ghost use Rattle.std.specs.Prelude.{◌≡◌, [], ℕ, ◌<◌, ◌^◌, length, IfOk, All, Ok};
+ghost use Rattle.std.specs.Prelude.{◌≡◌, [], ℕ, ◌<◌, ◌+◌, ◌^◌, length, IfOk, All, Ok};
 ghost use Rattle.wild_types.specs.Faults.{Answers};
 ghost use Rattle.wild_types.specs.Lookups.{section_of};
 ghost use Rattle.wild_clauses.specs.WellFormed.{first_clause};
 ghost use Rattle.wild_layout.specs.Faults.{flat_map_from, part_errors, group_errors};
-ghost use Rattle.wild_image.specs.Append.{GivesItsShares, FileLies};
+ghost use Rattle.std.specs.List.{list_any};
+ghost use Rattle.wild_types.specs.declared.part.Role.TheVariants as role;
+ghost use Rattle.wild_types.specs.declared.file.File.{File};
+ghost use Rattle.wild_types.specs.FileRoles.{is_prelude};
+ghost use Rattle.wild_layout.specs.SearchTable.{address_of_role};
+ghost use Rattle.wild_contents.specs.SearchTable.{IsTableFor};
+ghost use Rattle.wild_image.specs.Append.{GivesItsShares, FileLies, GroupStands};
 ghost use Rattle.wild_image.specs.Pieces.{group_parts, group_pairs};
 ghost use Rattle.wild_image.specs.Jobs.{GivesPiece};
 ghost use Rattle.wild_contents.specs.Given.{NeedsFit};
 
-use crate::buffer::add_group;
+use crate::buffer::{GroupBytes, add_group};
 use crate::cut::cut_group;
 use crate::pairs::{Pairs, with_group};
-use std::alloc::Global;
-use wild_contents::PartBytes;
+use std::alloc::{AllocError, Global};
+use std::marker::Sync;
+use std::thread::Threads;
+use wild_contents::{PartBytes, SearchTable, make_search_table};
 use wild_geometry::layouts_are_laid_out;
 use wild_relax::Arch;
 use wild_sections::Resolved;
@@ -34,8 +42,11 @@ fn piece_of<A: Arch>(
     resolved: &Resolved<A>,
     index: usize,
     group: &Group,
+    table: &SearchTable,
 ) -> Result<GroupPiece, Error>
     requires inputs { All (FileLies resolved.now.layout.now) group.now.files }
+    requires stands { GroupStands resolved.now.layout.now group.now }
+    requires table { All (IsTableFor resolved.now.layout.now table.now) group.now.files }
     requires gives { GivesItsShares resolved.now.layout.now group.now }
     requires few { NeedsFit group.now }
     requires sections { (part : ℕ) → section_of resolved.now.layout.now part < 2 ^ 32 }
@@ -43,9 +54,9 @@ fn piece_of<A: Arch>(
     ensures parts { IfOk result (λ p. p.parts ≡ group_parts resolved.now.layout.now group.now) }
     ensures counts { IfOk result (λ p. p.counts ≡ group_pairs resolved.now.layout.now group.now) }
 {
-    let mut bytes = PartBytes::with_room(alloc, 0)?;
-    add_group(alloc, resolved, index, group, &mut bytes)?;
-    let parts = cut_group(alloc, resolved.layout, group, bytes.as_slice())?;
+    let mut bytes = GroupBytes::with_room(alloc, 0, 0)?;
+    add_group(alloc, resolved, index, group, table, &mut bytes)?;
+    let parts = cut_group(alloc, resolved.layout, group, &bytes)?;
     let pairs = with_group(alloc, resolved.layout, group, Pairs::None)?;
     Ok(GroupPiece {
         parts,
@@ -53,9 +64,39 @@ fn piece_of<A: Arch>(
     })
 }
 
+/// Whether the group has the first file.
+fn has_first(group: &Group) -> bool
+    ensures { result ≡ list_any (λ (f : File). is_prelude f.role) group.now.files }
+{
+    group
+        .files
+        .as_slice()
+        .iter()
+        .any(|file| file.role.is_prelude())
+}
+
+/// The search table of frames, where the group has the first file, which writes it.
+#[tactic(auto, using(crate::proofs::StoodLemmas::table_of_all, crate::proofs::StoodLemmas::table_of_none))]
+fn table_for<A: Arch>(
+    rt: &(impl Threads + Sync),
+    alloc: Global,
+    resolved: &Resolved<A>,
+    group: &Group,
+) -> Result<SearchTable, AllocError>
+    requires place { address_of_role resolved.now.layout.now role.EhFrameHdr + 4 < 2 ^ 64 }
+    ensures { IfOk result (λ t. All (IsTableFor resolved.now.layout.now t) group.now.files) }
+{
+    if !has_first(group) {
+        return Ok(SearchTable::none(alloc));
+    }
+    let table = make_search_table(rt, alloc, resolved)?;
+    Ok(table)
+}
+
 /// What the group with that number has and counts, or its first fault. `well_formed` tells whether the clauses
 /// hold, `check_shares` whether the shares are what is needed.
 pub fn write_group<A: Arch>(
+    rt: &(impl Threads + Sync),
     alloc: Global,
     layout: &Layout,
     group: usize,
@@ -69,5 +110,6 @@ pub fn write_group<A: Arch>(
     layouts_are_laid_out();
     let resolved = Resolved::<A>::new(alloc, layout)?;
     let found = &layout.groups.as_slice()[group];
-    piece_of(alloc, &resolved, group, found)
+    let table = table_for(rt, alloc, &resolved, found)?;
+    piece_of(alloc, &resolved, group, found, &table)
 }

@@ -1,28 +1,41 @@
--- In a layout without faults each section that is read is decided.
-use Rattle.std.proofs.Common.{◌≡◌, ℕ, zero, suc, ◌+◌, ◌<◌, true, List, [], ◌∷◌, length, get_or, refl, sym, ◌∙◌, arith, subst}
-use Rattle.std.specs.Prelude.{Option, Some, None, Result, Ok, Err, All, Contains, slice_get}
+-- In a layout without faults each section that is read is decided, as it stands.
+use Rattle.std.proofs.lemmas.Bool.{and_parts}
+use Rattle.std.proofs.Common.{◌≡◌, ℕ, zero, suc, ◌+◌, ◌<◌, Bool, true, false, List, [], ◌∷◌, length, get_or, refl, sym, ap, ◌∙◌, arith, subst}
+use Rattle.std.specs.Prelude.{Option, Some, None, Result, Ok, Err, All, Contains, slice_get, if◌then◌else◌}
 use Rattle.std.specs.List.{flat_map, range_with_len}
-use Rattle.std.proofs.lemmas.List.Elements.{All-contains}
-use Rattle.wild_words.proofs.Basics.{slice_get_inside, range-Contains}
-use Rattle.wild_words.proofs.ListLemmas.{nil_parts}
+use Rattle.std.proofs.lemmas.List.Elements.{All-nil, All-cons, All-head, All-tail, All-contains}
+use Rattle.wild_words.proofs.Basics.{slice_get_inside, range-Contains, Contains-from_flat_map}
+use Rattle.wild_words.proofs.ListLemmas.{nil_parts, All-append-left}
 use Rattle.wild_types.specs.declared.fault.At.{At}
+use Rattle.wild_types.specs.declared.fault.Error.{Error}
 use Rattle.wild_types.specs.declared.fault.Fault.{Fault}
+use Rattle.wild_types.specs.declared.input.Slot.TheVariants as slot
 use Rattle.wild_types.specs.declared.input.InputRelocation.{InputRelocation}
 use Rattle.wild_types.specs.declared.input.InputSection.{InputSection}
 use Rattle.wild_types.specs.declared.file.File.{File}
 use Rattle.wild_types.specs.declared.file.Group.{Group}
+use Rattle.wild_types.specs.declared.layout.SortedSection.{SortedSection}
 use Rattle.wild_types.specs.declared.layout.Layout.{Layout}
-use Rattle.wild_types.specs.Item.{Item, item_of}
-use Rattle.wild_types.specs.Lookups.{is_read}
+use Rattle.wild_types.specs.Item.{Item, item_of, block_for}
+use Rattle.wild_types.specs.FileRoles.{is_epilogue}
+use Rattle.wild_types.specs.Lookups.{is_read, is_counted, is_frame}
+use Rattle.wild_laid.specs.Turned.{as_turned, turned}
+use Rattle.wild_laid.specs.FrameInputs.{kept_size}
+use Rattle.wild_laid.specs.Laid.{Input, laid_section, laid_sections, laid_file, laid_from, laid_files, file_frames, frames_at, behind, sorted_input, sorted_inputs, sorted_sections, of_last_file, processed, as_loaded, origins_of}
 use Rattle.wild_layout.specs.declared.decision.Decision.{Decision}
 use Rattle.wild_layout.specs.Decide.{decide}
-use Rattle.wild_layout.specs.Faults.{flat_map_from, group_errors, file_errors, item_errors, section_errors, refusal_of, refusal_at, relocation_errors, at_offset}
-use Rattle.wild_layout.specs.SectionPlaces.{FieldLies, SectionLies}
+use Rattle.wild_layout.specs.Sites.{MovesApart}
+use Rattle.wild_layout.specs.Faults.{flat_map_from, group_errors, file_errors, files_errors, sections_errors, section_errors, stood_errors, item_errors, sorted_errors, sorted_errors_of, bad_frames, refusal_of, refusal_at, relocation_errors, at_offset}
+use Rattle.wild_layout.specs.SectionPlaces.{FieldLies, SectionLies, HasWords}
 use Rattle.wild_layout.specs.Geometry.{IsLaidOut}
 use Rattle.wild_layout.proofs.SiteLemmas.{sites_apart}
+use Rattle.wild_layout.proofs.MovedSites.{laid_moves, turned_or_stays}
+use Rattle.wild_layout.proofs.FaultLemmas.{no_overlap, sections_of_file, sorted_of_file, files_of_group}
+use Rattle.wild_geometry.specs.Laid.{IsOf, Own, Ordered, IsLaid}
 use Rattle.wild_geometry.specs.Loaded.{IsDecided}
-use Rattle.wild_meaning.specs.Item.{IsInput}
-use Rattle.wild_layout.proofs.FaultLemmas.{no_overlap}
+use Rattle.wild_geometry.proofs.FrameSizes.{IsLoadedInput, sorted_loaded}
+use Rattle.wild_geometry.proofs.StoodSections.{in_processed}
+use Rattle.wild_geometry.proofs.StandingLemmas.{sorted_holds}
 use Rattle.wild_loaded.specs.Memory.{EachDecided}
 
 -- ---- lists of nothing
@@ -49,36 +62,117 @@ not_refused : (at : At) (d : Result Decision Fault) → refusal_of at d ≡ [] �
 not_refused at (Ok x) h = (x, refl)
 not_refused at (Err f) h = cc
 
-each_decided : (l : Layout) (g f k : ℕ) (s : Item) (i : ℕ) → i < length s.relocations → relocation_errors l g f k s i ≡ [] → (d : Decision) × (decide l s i ≡ Ok d)
+each_decided : (l : Layout) (g f k : ℕ) (s : Item) (origins : List InputRelocation) (i : ℕ) → i < length origins → relocation_errors l g f k s origins i ≡ [] → (d : Decision) × (decide l s i ≡ Ok d)
 unfolding relocation_errors
-each_decided l g f k s i m h = listed l g f k s i (slice_get s.relocations i) refl m h
+each_decided l g f k s origins i m h = listed l g f k s origins i (slice_get origins i) refl m h
   where
-    listed : (l : Layout) (g f k : ℕ) (s : Item) (i : ℕ) (o : Option InputRelocation) → slice_get s.relocations i ≡ o → i < length s.relocations → refusal_at g f k (decide l s i) o ≡ [] → (d : Decision) × (decide l s i ≡ Ok d)
-    listed l g f k s i None e m h = let here = slice_get_inside s.relocations i m in let both : Some here.0 ≡ None = sym here.1 ∙ e in cc
-    listed l g f k s i (Some r) e m h = not_refused (at_offset g f k r.offset) (decide l s i) h
+    listed : (l : Layout) (g f k : ℕ) (s : Item) (origins : List InputRelocation) (i : ℕ) (o : Option InputRelocation) → slice_get origins i ≡ o → i < length origins → refusal_at g f k (decide l s i) o ≡ [] → (d : Decision) × (decide l s i ≡ Ok d)
+    listed l g f k s origins i None e m h = let here = slice_get_inside origins i m in let both : Some here.0 ≡ None = sym here.1 ∙ e in cc
+    listed l g f k s origins i (Some r) e m h = not_refused (at_offset g f k r.offset) (decide l s i) h
 
-item_decided : (l : Layout) (g f k : ℕ) (s : Item) → All (FieldLies l.machine (length s.bytes)) s.relocations → item_errors l g f k s ≡ [] → IsDecided l s
-item_decided l g f k s lies h =
+item_decided : (l : Layout) (g f k : ℕ) (s : Item) (origins : List InputRelocation) (ending : List Error) → All (FieldLies l.machine (length s.bytes)) s.relocations → MovesApart l s origins → item_errors l g f k s origins ending ≡ [] → IsDecided l s
+item_decided l g f k s origins ending lies moves h =
     let parts = nil_parts _ _ h in
+    let rest = nil_parts _ _ parts.1 in
+    let count = moves.count in
     record {
-      each = λ i m. each_decided l g f k s i m (nothing_at (relocation_errors l g f k s) (range_with_len 0 (length s.relocations)) i (range-Contains (length s.relocations) i m) parts.0);
-      apart = sites_apart l s lies (no_overlap _ _ parts.1);
+      each = λ i m. each_decided l g f k s origins i (omega (arith, m, count)) (nothing_at (relocation_errors l g f k s origins) (range_with_len 0 (length s.relocations)) i (range-Contains (length s.relocations) i m) parts.0);
+      apart = sites_apart l s origins lies moves (no_overlap _ _ rest.1);
     }
 
-section_decided : (l : Layout) (g f : ℕ) (file : File) (k : ℕ) (s : InputSection) → is_read s ≡ true → SectionLies l s → section_errors l g f file k s ≡ [] → IsDecided l (item_of l file s)
-unfolding section_errors
-section_decided l g f file k s t lies h = item_decided l g f k (item_of l file s) (subst (λ (n : ℕ). All (FieldLies l.machine n) s.relocations) (sym (lies.bytes t)) lies.fields) (rw t at h)
+-- a section that stands so is decided
+section_decided : (l : Layout) (g k i : ℕ) (f : File) (s t : InputSection) → is_read t ≡ true → SectionLies l t → MovesApart l (item_of l f t) (origins_of l f s) → stood_errors l g k f i s t ≡ [] → IsDecided l (item_of l f t)
+section_decided l g k i f s t reads lies moves h =
+    item_decided l g k i (item_of l f t) (origins_of l f s) (bad_frames l g k f i s) (subst (λ (n : ℕ). All (FieldLies l.machine n) t.relocations) (sym (lies.bytes reads)) lies.fields) moves (rw reads at h)
 
-pub lies_at : (l : Layout) (s : InputSection) → IsLaidOut l → IsInput l s → SectionLies l s
-lies_at l s laid k =
-    All-contains (SectionLies l) k.file.sections s (All-contains (λ (f : File). All (SectionLies l) f.sections) k.group.files k.file (All-contains (λ (g : Group). All (λ (f : File). All (SectionLies l) f.sections) g.files) l.groups k.group laid.inputs k.grouped) k.filed) k.listed
+abbrev HasTheirWords : Layout → InputSection → Type 0
+HasTheirWords l s = is_counted s ≡ true → s.reversed ≡ true → HasWords l.machine s
+
+abbrev Decided : Layout → File → InputSection → Type 0
+Decided l f t = is_read t ≡ true → IsDecided l (item_of l f t)
+
+sections_of : (l : Layout) (g k : ℕ) (f : File) (at i : ℕ) (ss : List InputSection) → All (HasTheirWords l) ss → All (SectionLies l) (laid_sections l f at ss) → sections_errors l g k f at i ss ≡ [] → All (Decided l f) (laid_sections l f at ss)
+unfolding section_errors
+sections_of l g k f at i [] words lies none = All-nil (Decided l f)
+sections_of l g k f at i (s ∷ ss) words lies none =
+    let t = laid_section l f at s in
+    let ts = laid_sections l f (behind at (kept_size l f s)) ss in
+    let parts = nil_parts (section_errors l g k f at i s) (sections_errors l g k f (behind at (kept_size l f s)) (i + 1) ss) none in
+    All-cons (Decided l f) t ts
+    (λ reads. section_decided l g k i f s t reads (All-head (SectionLies l) t ts lies) (laid_moves l f (block_for l f t) at s (All-head (HasTheirWords l) s ss words) reads) parts.0)
+    (sections_of l g k f (behind at (kept_size l f s)) (i + 1) ss (All-tail (HasTheirWords l) s ss words) (All-tail (SectionLies l) t ts lies) parts.1)
+
+-- ---- files
+
+-- the sections of a file, and where it is the last the sorted ones
+record FileDecided (l : Layout) (f : File) : Type 0 where
+  own : All (Decided l f) f.sections
+  last : is_epilogue f.role ≡ true → (x : Input) → Contains (sorted_inputs l) x → Decided l x.file (as_turned x.section)
+
+-- a section whose words are reversed is read where it was
+turned_reads : (s : InputSection) → s.slot ≡ slot.Loaded → is_read (as_turned s) ≡ true → is_counted s ≡ true
+unfolding as_turned
+turned_reads s e h = by_test s.reversed h
+  where
+    by_test : (b : Bool) → is_read (if b then turned s else s) ≡ true → is_counted s ≡ true
+    by_test true h = rw e ((and_parts _ _ h).1)
+    by_test false h = rw e ((and_parts _ _ h).1)
+
+as_loaded_words : (l : Layout) (s : InputSection) → s.slot ≡ slot.Sorted → HasTheirWords l s → HasTheirWords l (as_loaded s)
+as_loaded_words l s e h = λ counted reversed. (let w = h (rw e counted) reversed in record { whole = w.whole; bytes = w.bytes; fields = w.fields })
+
+sorted_decided : (l : Layout) → IsLaidOut l → flat_map (sorted_errors l) l.sorted ≡ [] → (x : Input) → Contains (sorted_inputs l) x → SectionLies l (as_turned x.section) → Decided l x.file (as_turned x.section)
+sorted_decided l laid none x c lies = λ reads.
+    let y = Contains-from_flat_map (sorted_input l) l.sorted x c in
+    let all = nothing_at (sorted_errors l) l.sorted y.0 y.1 none in
+    let mine : stood_errors l y.0.group y.0.file x.file y.0.section x.section (as_turned x.section) ≡ [] = nothing_at (sorted_errors_of l y.0) (sorted_input l y.0) x y.2 all in
+    let loaded = All-contains IsLoadedInput (sorted_inputs l) x (sorted_loaded l) c in
+    let words = All-contains (λ (z : Input). HasTheirWords l z.section) (sorted_inputs l) x (sorted_holds l (HasTheirWords l) (HasTheirWords l) laid.turned (as_loaded_words l)) c in
+    let moves = turned_or_stays l (block_for l x.file (as_turned x.section)) x.section (λ r. words (turned_reads x.section loaded reads) r) in
+    let origins : origins_of l x.file x.section ≡ x.section.relocations = no_frame x.section loaded in
+    section_decided l y.0.group y.0.file y.0.section x.file x.section (as_turned x.section) reads lies (subst (λ (rs : List InputRelocation). MovesApart l (item_of l x.file (as_turned x.section)) rs) (sym origins) moves) mine
+  where
+    no_frame : (s : InputSection) → s.slot ≡ slot.Loaded → origins_of l x.file s ≡ s.relocations
+    no_frame s e = rw e refl
+
+file_decided : (l : Layout) (g at k : ℕ) (f : File) → IsLaidOut l → All (HasTheirWords l) f.sections → All (SectionLies l) (processed l (laid_file l at f)) → file_errors l g at k f ≡ [] → FileDecided l (laid_file l at f)
+file_decided l g at k f laid words lies none = record {
+  own = sections_of l g k f at 0 f.sections words (All-append-left (SectionLies l) (laid_sections l f at f.sections) (of_last_file f (sorted_sections l)) lies) (sections_of_file l g at k f none);
+  last = λ last x c. sorted_decided l laid (all_sorted (is_epilogue f.role) last (sorted_of_file l g at k f none)) x c (lies_sorted last x c);
+}
+  where
+    all_sorted : (b : Bool) → b ≡ true → (if b then flat_map (sorted_errors l) l.sorted else []) ≡ [] → flat_map (sorted_errors l) l.sorted ≡ []
+    all_sorted true e h = h
+    all_sorted false e h = cc
+
+    lies_sorted : is_epilogue f.role ≡ true → (x : Input) → Contains (sorted_inputs l) x → SectionLies l (as_turned x.section)
+    lies_sorted last x c = All-contains (SectionLies l) (processed l (laid_file l at f)) (as_turned x.section) lies (in_processed l (laid_file l at f) x.file (as_turned x.section) (Ordered last x c refl refl))
+
+files_decided : (l : Layout) (g at k : ℕ) (fs : List File) → IsLaidOut l → All (λ (f : File). All (HasTheirWords l) f.sections) fs → All (λ (f : File). All (SectionLies l) (processed l f)) (laid_from l at fs) → files_errors l g at k fs ≡ [] → All (FileDecided l) (laid_from l at fs)
+files_decided l g at k [] laid words lies none = All-nil (FileDecided l)
+files_decided l g at k (f ∷ fs) laid words lies none =
+    let parts = nil_parts (file_errors l g at k f) (files_errors l g (behind at (file_frames l f)) (k + 1) fs) none in
+    let h = laid_file l at f in
+    let hs = laid_from l (behind at (file_frames l f)) fs in
+    All-cons (FileDecided l) h hs
+    (file_decided l g at k f laid (All-head (λ (x : File). All (HasTheirWords l) x.sections) f fs words) (All-head (λ (x : File). All (SectionLies l) (processed l x)) h hs lies) parts.0)
+    (files_decided l g (behind at (file_frames l f)) (k + 1) fs laid (All-tail (λ (x : File). All (HasTheirWords l) x.sections) f fs words) (All-tail (λ (x : File). All (SectionLies l) (processed l x)) h hs lies) parts.1)
+
+group_decided : (l : Layout) (i : ℕ) (g : Group) → IsLaidOut l → All (λ (f : File). All (HasTheirWords l) f.sections) g.files → All (λ (f : File). All (SectionLies l) (processed l f)) (laid_files l g) → group_errors l i g ≡ [] → All (FileDecided l) (laid_files l g)
+unfolding laid_files
+group_decided l i g laid words lies none = files_decided l i (frames_at l g) 0 g.files laid words lies (files_of_group l i g none)
 
 -- each section that is read is decided, where no group has a fault
 pub sections_decided : (l : Layout) → IsLaidOut l → flat_map_from (group_errors l) 0 l.groups ≡ [] → EachDecided l
-unfolding group_errors file_errors
-sections_decided l laid none = λ s k read.
-    let lies = lies_at l s laid k in
-    let g = nothing_from (group_errors l) 0 l.groups k.group k.grouped none in
-    let f = nothing_from (file_errors l g.0) 0 k.group.files k.file k.filed (nil_parts _ _ g.1).0 in
-    let e = nothing_from (section_errors l g.0 f.0 k.file) 0 k.file.sections s k.listed (nil_parts _ _ f.1).0 in
-    section_decided l g.0 f.0 k.file e.0 s read lies e.1
+sections_decided l laid none = λ s k reads.
+    let e = nothing_from (group_errors l) 0 l.groups k.group k.grouped none in
+    let words = All-contains (λ (g : Group). All (λ (f : File). All (HasTheirWords l) f.sections) g.files) l.groups k.group laid.turned k.grouped in
+    let lies = All-contains (λ (g : Group). All (λ (f : File). All (SectionLies l) (processed l f)) (laid_files l g)) l.groups k.group laid.inputs k.grouped in
+    let file = All-contains (FileDecided l) (laid_files l k.group) k.file (group_decided l e.0 k.group laid words lies e.1) k.filed in
+    of_file l k.file k.owner s file k.listed reads
+  where
+    of_file : (l : Layout) (f owner : File) (s : InputSection) → FileDecided l f → IsOf l f owner s → is_read s ≡ true → IsDecided l (item_of l owner s)
+    of_file l f owner s d (Own e c) reads = subst (λ (o : File). IsDecided l (item_of l o s)) (sym e) (All-contains (Decided l f) f.sections s d.own c reads)
+    of_file l f owner s d (Ordered last x c e i) reads =
+        let there = d.last last x c (subst (λ (t : InputSection). is_read t ≡ true) i reads) in
+        subst (λ (o : File). IsDecided l (item_of l o s)) (sym e) (subst (λ (t : InputSection). IsDecided l (item_of l x.file t)) (sym i) there)

@@ -15,15 +15,15 @@ use Rattle.wild_loader.specs.declared.world.World.{World}
 use Rattle.wild_loader.specs.declared.instruction.Deed.{Deed}
 use Rattle.wild_loader.specs.declared.instruction.Deed.TheVariants.{Call, Jump}
 use Rattle.wild_meaning.specs.Sequence.{Instruction}
-use Rattle.wild_types.specs.Item.{Item, item_of}
-use Rattle.wild_meaning.specs.Item.{place_at, IsLoadedSlot, IsKept, OfSection}
-use Rattle.wild_meaning.specs.Template.{effect_of, demand_of, reads, IsInstruction, DoesDemanded}
+use Rattle.wild_types.specs.Item.{Item}
+use Rattle.wild_meaning.specs.Item.{place_at, IsLoadedSlot, IsKept, OfSection, stood_item}
+use Rattle.wild_meaning.specs.Template.{effect_of, demand_of, reads, IsInstruction, DoesDemanded, IsBranchReferent}
 use Rattle.wild_meaning.specs.Field.{formula_of}
 use Rattle.wild_meaning.specs.Reference.{ReferenceHolds, ItemHolds}
 use Rattle.wild_meaning.proofs.BitLemmas.{bit_alloc}
 use Rattle.wild_meaning.proofs.SymbolLemmas.{referent_stands}
 use Rattle.wild_laws.specs.FirstTypes.{IsLoadedSection, IsRelocated, IsBranch}
-use Rattle.wild_laws.specs.FirstPath.{BranchReaches, IsFollowed, HoldsByFields, HasValueOf, HasInstruction, DoesInstruction, MeaningGivesFields}
+use Rattle.wild_laws.specs.FirstPath.{BranchReaches, IsFollowed, HoldsByFields, HasValueOf, HasInstruction, DoesInstruction, MeaningGivesFields, IsBranchedTo}
 use Rattle.wild_laws.proofs.Sequences.{direct}
 use Rattle.wild_meaning.proofs.PairLemmas.{counts_four}
 use Rattle.wild_laws.proofs.FirstCode.{first_byte, IsFirst, of_branch, of_address, IsCallOrJump, template_direct, is_branch, branch_template, old_length, DoesDeed, call_does, jump_does}
@@ -32,7 +32,7 @@ use Rattle.wild_laws.proofs.FirstBytes.{does_so, other_byte}
 use Rattle.wild_laws.proofs.FirstSlots.{slot_call_goes, slot_jump_goes}
 
 -- such a section is kept
-kept : (l : Layout) (s : InputSection) (k : IsLoadedSection l s) → IsKept l (item_of l k.file s)
+kept : (l : Layout) (s : InputSection) (k : IsLoadedSection l s) → IsKept l (stood_item l k.file s)
 kept l s h = OfSection s (record { input = record { group = h.group; grouped = h.grouped; file = h.file; filed = h.filed; listed = h.listed }; loaded = subst IsLoadedSlot (sym h.loaded) tt; room = bit_alloc s.flags h.carried; has_data = h.has_data }) refl
 
 -- a number that is taken twice modulo 2^64
@@ -80,6 +80,11 @@ jump_does_it : (l : Layout) (w : World) (m : Memory) (s : Item) (r : InputReloca
 jump_does_it l w m s r k x f branch (inl p) = p.does k (direct 0xe9 Jump) r (branch_template l s r k 0xe9 Jump (1, omega arith, refl) x f branch)
 jump_does_it l w m s r k x f branch (inr q) = let d = template_direct l s r q.start q.instruction q.first x f q.template in jump_rewritten l w m s r q.first k q.start q.instruction x branch d.stands d.which d.same (does_so l w m s q.first q.start q.instruction q.does)
 
+-- what code goes to
+branched_to : (l : Layout) (w : World) (m : Memory) (s : Item) (r : InputRelocation) (a : ℕ) → l.machine ≡ machine.X86_64 → IsBranchReferent l w m s r a → IsBranchedTo l w m r a
+branched_to l w m s r a x (inl h) = inr (h.0.takes.1, h.1)
+branched_to l w m s r a x (inr h) = inl (referent_stands StubDistance l w m s r a x (λ t. t.0) h.1)
+
 -- such code goes to what comes to the symbol
 goes : (l : Layout) (w : World) (m : Memory) (s : Item) (r : InputRelocation) (k opcode : ℕ) (deed : Deed) → DoesDeed opcode deed → l.machine ≡ machine.X86_64 → IsBranch s r k opcode → DoesDemanded (reads w m) l w m s r k (direct opcode deed) → BranchReaches l w m s r k deed
 goes l w m s r k opcode deed does x branch d =
@@ -91,7 +96,7 @@ goes l w m s r k opcode deed does x branch d =
     let value = once_more d.value (d.demands.goal + cast_unsigned w64 r.addend + 4) is_there in
     record {
       target = d.demands.goal;
-      stands = referent_stands StubDistance l w m s r d.demands.goal x d.demands.stands;
+      stands = branched_to l w m s r d.demands.goal x d.demands.stands;
       bytes = d.code.bytes;
       five = d.code.whole;
       held = d.code.held;
@@ -129,4 +134,4 @@ item_fields l w m s x all =
     }
 
 pub meaning_gives_fields : MeaningGivesFields
-meaning_gives_fields = λ l w image x linked s loaded. item_fields l w linked.memory (item_of l loaded.file s) x (linked.kept (item_of l loaded.file s) (kept l s loaded))
+meaning_gives_fields = λ l w image x linked s loaded. item_fields l w linked.memory (stood_item l loaded.file s) x (linked.kept (stood_item l loaded.file s) (kept l s loaded))

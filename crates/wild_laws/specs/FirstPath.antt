@@ -5,7 +5,7 @@
 --   IsFollowed ..          a reference is asked in the world, and not of the output's own symbol alone
 --   HoldsByFields ..       what these say of an input section; of other types by what the judge has for them
 --   NamesAreAddresses      what this says of symbols that no resolver answers for
-use Rattle.std.specs.Prelude.{◌≡◌, ℕ, ℤ, ◌+◌, ◌-◌, ◌%◌, ◌^◌, ◌<◌, false, List, length, Some, Contains, slice_index}
+use Rattle.std.specs.Prelude.{◌≡◌, ℕ, ℤ, ◌+◌, ◌-◌, ◌%◌, ◌^◌, ◌<◌, false, List, length, Some, Contains, slice_index, ◌⊎◌}
 use Rattle.std.specs.Int.{w64, cast_unsigned}
 use Rattle.wild_types.specs.declared.kind.Machine.TheVariants as machine
 use Rattle.wild_types.specs.declared.input.InputRelocation.{InputRelocation}
@@ -28,7 +28,9 @@ use Rattle.wild_loader.specs.declared.instruction.Deed.TheVariants.{Call, Jump}
 use Rattle.wild_loader.specs.InstructionX86_64.{effect_x86_64}
 use Rattle.wild_meaning.specs.Sequence.{Instruction}
 use Rattle.wild_meaning.specs.Template.{reads, IsTemplate, DoesDemanded}
-use Rattle.wild_types.specs.Item.{Item, item_of}
+use Rattle.wild_types.specs.Item.{Item}
+use Rattle.wild_meaning.specs.Item.{stood_item}
+use Rattle.wild_meaning.specs.Strings.{NamesStrings, IsString}
 use Rattle.wild_meaning.specs.Reference.{IsAsked, IsLinkedAlone}
 use Rattle.wild_meaning.specs.Linked.{IsLinked}
 use Rattle.wild_laws.specs.FirstTypes.{IsLoadedSection, IsRelocated, address_types, HasFirstTypes, address_at, InNoField, IsBranch, IsBranchField, IsSlotBranch, IsThreadCall}
@@ -37,10 +39,18 @@ use Rattle.wild_laws.specs.FirstTypes.{IsLoadedSection, IsRelocated, address_typ
 abbrev pub past_field : InputRelocation → ℕ → ℕ
 past_field r a = (a + cast_unsigned w64 r.addend + 4) % 2 ^ 64
 
+-- a is S of a reference: what stands for its symbol, or where that stands for merged strings what with A makes the place of a byte of one
+abbrev pub IsNamed : Layout → World → Memory → InputRelocation → ℕ → Type 0
+IsNamed l w m r a = (NamesStrings l r × IsString l w r a) ⊎ ((NamesStrings l r → ⊥) × IsTarget l w m r.symbol a)
+
+-- code that goes to a goes to what stands for the symbol, or to a string
+abbrev pub IsBranchedTo : Layout → World → Memory → InputRelocation → ℕ → Type 0
+IsBranchedTo l w m r a = IsTarget l w m r.symbol a ⊎ (NamesStrings l r × IsString l w r a)
+
 -- the five loaded bytes call, or go to, what stands for the symbol, with what the addend has past the field
 pub record BranchReaches (l : Layout) (w : World) (m : Memory) (s : Item) (r : InputRelocation) (k : ℕ) (deed : Deed) : Type 0 where
   pub target : ℕ
-  pub stands : IsTarget l w m r.symbol target
+  pub stands : IsBranchedTo l w m r target
   pub bytes : List ℕ
   pub five : length bytes ≡ 5
   pub held : Holds m (address_at w s k) bytes
@@ -75,7 +85,7 @@ pub record HasFormula (l : Layout) (w : World) (m : Memory) (s : Item) (r : Inpu
   pub formula : Formula
   pub known : x86_64_formula r.number ≡ Some formula
   pub target : ℕ
-  pub denoted : IsTarget l w m r.symbol target
+  pub denoted : IsNamed l w m r target
   pub value : ℕ
   pub demanded : Demands formula.value target r.addend (address_at w s r.offset) value
   pub field : HasField m formula.form (address_at w s r.offset) value
@@ -121,7 +131,7 @@ pub record HoldsByFields (l : Layout) (w : World) (m : Memory) (s : Item) : Type
 
 -- an image that meets the meaning of all layouts in a world, at whatever base, meets this one
 abbrev pub MeaningGivesFields : Type 0
-MeaningGivesFields = (l : Layout) (w : World) (image : List ℕ) → l.machine ≡ machine.X86_64 → (linked : IsLinked l w image) → (s : InputSection) (k : IsLoadedSection l s) → HoldsByFields l w linked.memory (item_of l k.file s)
+MeaningGivesFields = (l : Layout) (w : World) (image : List ℕ) → l.machine ≡ machine.X86_64 → (linked : IsLinked l w image) → (s : InputSection) (k : IsLoadedSection l s) → HoldsByFields l w linked.memory (stood_item l k.file s)
 
 -- ---- symbols
 

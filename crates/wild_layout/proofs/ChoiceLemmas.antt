@@ -38,15 +38,18 @@ use Rattle.wild_relax.specs.First.{checked}
 use Rattle.wild_relax.specs.RowSequences.{form_by, call_form, is_call_number, is_partner_at, has_its_sequence}
 use Rattle.wild_relax.specs.Rows.{rows_x86_64, applies, unknown_sequence, standing_x86_64, chosen_x86_64}
 use Rattle.wild_relax.specs.RowSequences as rows
-use Rattle.wild_relax.specs.RewriteX86_64.{rewrite_of}
+use Rattle.wild_relax.specs.declared.row.Written.TheVariants as written
+use Rattle.wild_relax.specs.RewriteX86_64.{rewrite_of, info_by}
 use Rattle.wild_relax.specs.Linked.{pattern_of, pattern_size, keeps_bytes, fits_in, template_of}
 use Rattle.wild_relax.specs.RowsAArch64.{rows_aarch64, has_its_words, standing_aarch64, chosen_aarch64}
+use Rattle.wild_relax.specs.Relaxation.{chosen_of}
+use Rattle.wild_layout.specs.Merged.{names_merged}
 use Rattle.wild_relax.specs.SequenceAArch64.{words_before}
 use Rattle.wild_relax.proofs.TemplateLemmas as template-lemmas
 use Rattle.wild_relax.proofs.SectionLemmas.{chosen_at, changing_fits}
 use Rattle.wild_relax.proofs.RoomLemmas.{applied, partner_asked, standing_first, standing_first_aarch64, chosen_is}
 use Rattle.wild_relax.proofs.TogetherLemmas.{chosen_stand}
-use Rattle.wild_layout.specs.Choice.{info_of, nameless, question_of, choice_by, choice_of, info_at, infos_from, first_of, question_around, choice_around_by, choice_around, choice_on, choice_at, choice, takes_next, is_partner}
+use Rattle.wild_layout.specs.Choice.{info_of, nameless, question_of, choice_by, choice_of, info_at, infos_from, first_of, question_around, choice_around_by, choice_around, choice_on, choice_at, choice, takes_next, is_partner, is_thread_type, choice_merged}
 
 -- ---- the row that is chosen
 
@@ -56,19 +59,30 @@ pub record IsChosen (l : Layout) (s : Item) (r : InputRelocation) (next : Option
   pub machine : l.machine ≡ machine.X86_64
   pub symbol : ℕ
   pub named : r.symbol ≡ Some symbol
+  pub plain : names_merged l r.symbol ≡ false
   pub other : (r.number == abi.r_x86_64_pc32) ≡ false
   pub chosen : chosen_x86_64 (question_of l s r symbol next) ≡ Ok (Some row)
   pub number : r.number ≡ row.number
   pub before : field_of (pattern_of row) ≤ r.offset
   pub inside : r.offset - field_of (pattern_of row) + pattern_size row ≤ length s.bytes
 
+-- a symbol of merged strings has no row
+nothing_merged : (r : InputRelocation) (row : Row) → choice_merged r ≡ Ok (Some row) → ⊥
+nothing_merged r row h = by_type (is_thread_type r.number) (record { number = r.number; written = info_by written.Nothing }) h
+  where
+    by_type : (b : Bool) (e : UnknownSequence) → (if b then Err e else Ok None) ≡ Ok (Some row) → ⊥
+    by_type true e h = cc
+    by_type false e h = cc
+
 pub choice_row : (l : Layout) (s : Item) (r : InputRelocation) (next : Option InputRelocation) (row : Row) → l.machine ≡ machine.X86_64 → choice_of l s r next ≡ Ok (Some row) → IsChosen l s r next row
 unfolding choice_by
 choice_row l s r next row x86 h = by_symbol l s r next row r.symbol x86 h refl h
   where
-    by_number : (l : Layout) (s : Item) (r : InputRelocation) (next : Option InputRelocation) (row : Row) (i : ℕ) (b : Bool) → l.machine ≡ machine.X86_64 → choice_of l s r next ≡ Ok (Some row) → r.symbol ≡ Some i → (r.number == abi.r_x86_64_pc32) ≡ b → (if b then Ok None else chosen_x86_64 (question_of l s r i next)) ≡ Ok (Some row) → IsChosen l s r next row
-    by_number l s r next row i true x86 all named is e = cc
-    by_number l s r next row i false x86 all named is e =
+    by_number : (l : Layout) (s : Item) (r : InputRelocation) (next : Option InputRelocation) (row : Row) (i : ℕ) (b m : Bool) → l.machine ≡ machine.X86_64 → choice_of l s r next ≡ Ok (Some row) → r.symbol ≡ Some i → (r.number == abi.r_x86_64_pc32) ≡ b → names_merged l (Some i) ≡ m
+        → (if b then Ok None else if m then choice_merged r else chosen_x86_64 (question_of l s r i next)) ≡ Ok (Some row) → IsChosen l s r next row
+    by_number l s r next row i true m x86 all named is plain e = cc
+    by_number l s r next row i false true x86 all named is plain e = absurd (nothing_merged r row e)
+    by_number l s r next row i false false x86 all named is plain e =
         let t = chosen_is (question_of l s r i next) row e in
         let at = chosen_at (question_of l s r i next) row e in
         record {
@@ -76,6 +90,7 @@ choice_row l s r next row x86 h = by_symbol l s r next row r.symbol x86 h refl h
           machine = x86;
           symbol = i;
           named = named;
+          plain = ap (names_merged l) named ∙ plain;
           other = is;
           chosen = e;
           number = (applied (question_of l s r i next) row t.here).number;
@@ -85,7 +100,7 @@ choice_row l s r next row x86 h = by_symbol l s r next row r.symbol x86 h refl h
 
     by_symbol : (l : Layout) (s : Item) (r : InputRelocation) (next : Option InputRelocation) (row : Row) (o : Option ℕ) → l.machine ≡ machine.X86_64 → choice_of l s r next ≡ Ok (Some row) → r.symbol ≡ o → choice_by l s r next o ≡ Ok (Some row) → IsChosen l s r next row
     by_symbol l s r next row None x86 all named e = cc
-    by_symbol l s r next row (Some i) x86 all named e = by_number l s r next row i (r.number == abi.r_x86_64_pc32) x86 all named refl e
+    by_symbol l s r next row (Some i) x86 all named e = by_number l s r next row i (r.number == abi.r_x86_64_pc32) (names_merged l (Some i)) x86 all named refl refl e
 
 -- on x86-64 it is the choice of the relocation and the one behind it
 pub choice_is : (l : Layout) (s : Item) (i : ℕ) (r : InputRelocation) → l.machine ≡ machine.X86_64 → slice_get s.relocations i ≡ Some r → choice l s i ≡ choice_of l s r (slice_get s.relocations (i + 1))
@@ -97,6 +112,7 @@ pub record IsChosenAArch64 (l : Layout) (s : Item) (i : ℕ) (r : InputRelocatio
   pub machine : l.machine ≡ machine.AArch64
   pub symbol : ℕ
   pub named : r.symbol ≡ Some symbol
+  pub plain : names_merged l r.symbol ≡ false
   pub chosen : chosen_aarch64 (question_around l s i r symbol) ≡ Ok (Some row)
   pub listed : Contains rows_aarch64 row
   pub here : applies (question_around l s i r symbol) row ≡ true
@@ -138,9 +154,9 @@ pub choice_row_aarch64 : (l : Layout) (s : Item) (i : ℕ) (r : InputRelocation)
 unfolding choice_around_by
 choice_row_aarch64 l s i r row on at h = by_symbol r.symbol refl h
   where
-    by_symbol : (o : Option ℕ) → r.symbol ≡ o → choice_around_by l s i r o ≡ Ok (Some row) → IsChosenAArch64 l s i r row
-    by_symbol None named e = cc
-    by_symbol (Some symbol) named e =
+    by_merged : (symbol : ℕ) (b : Bool) → r.symbol ≡ Some symbol → names_merged l (Some symbol) ≡ b → (if b then Ok None else chosen_of machine.AArch64 (question_around l s i r symbol)) ≡ Ok (Some row) → IsChosenAArch64 l s i r row
+    by_merged symbol true named plain e = cc
+    by_merged symbol false named plain e =
         let q = question_around l s i r symbol in
         let t = chosen_stand q row e in
         let same = relocation_around l s i r symbol at in
@@ -150,6 +166,7 @@ choice_row_aarch64 l s i r row on at h = by_symbol r.symbol refl h
           machine = on;
           symbol = symbol;
           named = named;
+          plain = ap (names_merged l) named ∙ plain;
           chosen = e;
           listed = t.listed;
           here = (and_parts _ _ t.here).0;
@@ -158,6 +175,10 @@ choice_row_aarch64 l s i r row on at h = by_symbol r.symbol refl h
           inside = omega (arith, inside, offset);
           fits = t.fits;
         }
+
+    by_symbol : (o : Option ℕ) → r.symbol ≡ o → choice_around_by l s i r o ≡ Ok (Some row) → IsChosenAArch64 l s i r row
+    by_symbol None named e = cc
+    by_symbol (Some symbol) named e = by_merged symbol (names_merged l (Some symbol)) named refl e
 
 -- what each row of the table has
 pub is_listed : (l : Layout) (s : Item) (r : InputRelocation) (next : Option InputRelocation) (row : Row) → IsChosen l s r next row → Contains rows_x86_64 row
@@ -365,6 +386,36 @@ none_chosen q none = by_standing (standing_aarch64 q) refl
 none_around : (q : Question) → loads_at (aarch64_row (relocation_of q).number) ≡ true → chosen_aarch64 q ≡ Ok None
 none_around q h = none_chosen q (λ row listed number. not_both _ (listed_passes (λ (x : Row). not (loads_at (aarch64_row x.number))) rows_aarch64 row each_word_stays listed) (subst (λ (n : ℕ). loads_at (aarch64_row n) ≡ true) number h))
 
+pub none_by : (b : Bool) (c : Result (Option Row) UnknownSequence) → c ≡ Ok None → (if b then Ok None else c) ≡ Ok None
+none_by true c h = refl
+none_by false c h = h
+
+none_of_two : (b m : Bool) (c d : Result (Option Row) UnknownSequence) → c ≡ Ok None → d ≡ Ok None → (if b then Ok None else if m then c else d) ≡ Ok None
+none_of_two true m c d h k = refl
+none_of_two false true c d h k = h
+none_of_two false false c d h k = k
+
+-- nor a reason to refuse it, but of a type of thread-local storage
+pub merged_none : (r : InputRelocation) → is_thread_type r.number ≡ false → choice_merged r ≡ Ok None
+merged_none r h = rw h refl
+
+no_thread : (n k : ℕ) → loads_at (x86_64_row n) ≡ true → loads_at (x86_64_row k) ≡ false → (n == k) ≡ false
+no_thread n k loads none =
+    elim (cases_Bool (n == k)) [
+      | inr f ↦ f
+      | inl t ↦ (let same : n ≡ k = eqb-true n k t in let both : true ≡ false = sym loads ∙ ap (λ (x : ℕ). loads_at (x86_64_row x)) same ∙ none in cc)
+    ]
+
+loads_no_thread : (n : ℕ) → loads_at (x86_64_row n) ≡ true → is_thread_type n ≡ false
+unfolding x86_64_row
+loads_no_thread n loads =
+    let a = no_thread n abi.r_x86_64_tlsgd loads refl in
+    let b = no_thread n abi.r_x86_64_tlsld loads refl in
+    let c = no_thread n abi.r_x86_64_gotpc32_tlsdesc loads refl in
+    let d = no_thread n abi.r_x86_64_code_4_gotpc32_tlsdesc loads refl in
+    let e = no_thread n abi.r_x86_64_tlsdesc_call loads refl in
+    rw (a, b, c, d, e) refl
+
 pub no_row : (l : Layout) (s : Item) (i : ℕ) (r : InputRelocation) (row : RelocationKindInfo) → slice_get s.relocations i ≡ Some r → row_of l.machine r.number ≡ Some row → loads row.kind ≡ true → choice_on l.machine l s i r ≡ Ok None
 unfolding choice_by choice_around_by
 no_row l s i r row listed known h = by_machine l.machine known
@@ -372,15 +423,12 @@ no_row l s i r row listed known h = by_machine l.machine known
     by_x86_64 : (next : Option InputRelocation) (o : Option ℕ) → loads_at (x86_64_row r.number) ≡ true → choice_by l s r next o ≡ Ok None
     by_x86_64 next None loads = refl
     by_x86_64 next (Some n) loads =
-        elim (cases_Bool (r.number == abi.r_x86_64_pc32)) [
-          | inl t ↦ rw t refl
-          | inr f ↦ rw f (none_stands (question_of l s r n next) loads)
-        ]
+        none_of_two (r.number == abi.r_x86_64_pc32) (names_merged l (Some n)) (choice_merged r) (chosen_x86_64 (question_of l s r n next)) (merged_none r (loads_no_thread r.number loads)) (none_stands (question_of l s r n next) loads)
 
     by_aarch64 : (o : Option ℕ) → loads_at (aarch64_row r.number) ≡ true → choice_around_by l s i r o ≡ Ok None
     by_aarch64 None loads = refl
     by_aarch64 (Some n) loads =
-        none_around (question_around l s i r n) (subst (λ (x : RelocationInfo). loads_at (aarch64_row x.number) ≡ true) (sym (relocation_around l s i r n listed)) loads)
+        none_by (names_merged l (Some n)) (chosen_of machine.AArch64 (question_around l s i r n)) (none_around (question_around l s i r n) (subst (λ (x : RelocationInfo). loads_at (aarch64_row x.number) ≡ true) (sym (relocation_around l s i r n listed)) loads))
 
     by_machine : (m : Machine) → row_of m r.number ≡ Some row → choice_on m l s i r ≡ Ok None
     by_machine machine.X86_64 is = by_x86_64 (slice_get s.relocations (i + 1)) r.symbol (loads_here machine.X86_64 r.number row refl is h)

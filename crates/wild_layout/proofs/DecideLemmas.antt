@@ -32,7 +32,8 @@ use Rattle.wild_reloc.specs.Expression.{expression_of}
 use Rattle.wild_layout.specs.declared.decision.Decision.{Decision}
 use Rattle.wild_layout.specs.declared.decision.Decision.TheVariants.{Nothing, Field, Moved, Left}
 use Rattle.wild_layout.specs.SymbolValues.{sum, symbol_size}
-use Rattle.wild_layout.specs.SlotValues.{address_of, index_of, decided_address}
+use Rattle.wild_layout.specs.SlotValues.{index_of, decided_address}
+use Rattle.wild_layout.specs.Merged.{address_for}
 use Rattle.wild_layout.specs.Values.{value_less, value_by, value_in, term_at}
 use Rattle.wild_layout.specs.SectionPlaces.{FieldLies}
 use Rattle.wild_layout.specs.Decide.{field_for, moved_to, added, left_to, sized_to, chosen_to, decide_by, decided}
@@ -87,7 +88,7 @@ pub record IsMoved (l : Layout) (s : Item) (r : InputRelocation) (v : ℕ) (pack
   pub treated : treatment l s.flags r ≡ treatments.BaseRelative
   pub by : IsMovedBy l s.flags r.symbol row
   pub address : ℕ
-  pub given : address_of l r.symbol ≡ Ok address
+  pub given : address_for l r ≡ Ok address
   pub value : sum address r.addend ≡ v
   pub packs : packs l (place_of s.address r) ≡ packed
 
@@ -153,7 +154,7 @@ moved_is_no_field l s r z v (Ok a) h = cc
 treated_field : (l : Layout) (s : Item) (r : InputRelocation) (t : Treatment) (z : RelocationSize) (v : ℕ) → treatment l s.flags r ≡ t → decide_by l s r t ≡ Ok (Field z v) → IsField l s r z v
 treated_field l s r treatments.Nothing z v is h = cc
 treated_field l s r (treatments.Value row) z v is h = let k = known_value l s.flags r row is in field_from l s r row z v (term_at l r row (place_of s.address r)) k.0 is k.1 refl h
-treated_field l s r treatments.BaseRelative z v is h = absurd (moved_is_no_field l s r z v (address_of l r.symbol) h)
+treated_field l s r treatments.BaseRelative z v is h = absurd (moved_is_no_field l s r z v (address_for l r) h)
 treated_field l s r (treatments.Symbolic i) z v is h = absurd (left_alone (Field z v) (ByteSize Eight) (type_of l.machine Absolute) r i (index_of l i) h)
 treated_field l s r (treatments.Indirect i) z v is h = absurd (chosen_alone (Field z v) l r (decided_address l i) h)
 treated_field l s r (treatments.Extent row i) z v is h = absurd (left_alone (Field z v) row.size r.number r i (index_of l i) (sized_left l r row i (Field z v) h))
@@ -168,7 +169,7 @@ value_is_not_moved : (l : Layout) (s : Item) (r : InputRelocation) (row : Reloca
 value_is_not_moved l s r row v packed (Err f) h = cc
 value_is_not_moved l s r row v packed (Ok a) h = let e = (reached_by l s r row (value_in l row a r.addend (place_of s.address r)) (Moved v packed) h).is in cc
 
-moved_from : (l : Layout) (s : Item) (r : InputRelocation) (v : ℕ) (packed : Bool) (a : Result ℕ Fault) → treatment l s.flags r ≡ treatments.BaseRelative → address_of l r.symbol ≡ a → moved_to l s r a ≡ Ok (Moved v packed) → IsMoved l s r v packed
+moved_from : (l : Layout) (s : Item) (r : InputRelocation) (v : ℕ) (packed : Bool) (a : Result ℕ Fault) → treatment l s.flags r ≡ treatments.BaseRelative → address_for l r ≡ a → moved_to l s r a ≡ Ok (Moved v packed) → IsMoved l s r v packed
 moved_from l s r v packed (Err f) treated is h = cc
 moved_from l s r v packed (Ok a) treated is h =
     let k = known_moved l s.flags r treated in
@@ -179,7 +180,7 @@ moved_from l s r v packed (Ok a) treated is h =
 treated_moved : (l : Layout) (s : Item) (r : InputRelocation) (t : Treatment) (v : ℕ) (packed : Bool) → treatment l s.flags r ≡ t → decide_by l s r t ≡ Ok (Moved v packed) → IsMoved l s r v packed
 treated_moved l s r treatments.Nothing v packed is h = cc
 treated_moved l s r (treatments.Value row) v packed is h = absurd (value_is_not_moved l s r row v packed (term_at l r row (place_of s.address r)) h)
-treated_moved l s r treatments.BaseRelative v packed is h = moved_from l s r v packed (address_of l r.symbol) is refl h
+treated_moved l s r treatments.BaseRelative v packed is h = moved_from l s r v packed (address_for l r) is refl h
 treated_moved l s r (treatments.Symbolic i) v packed is h = absurd (left_alone (Moved v packed) (ByteSize Eight) (type_of l.machine Absolute) r i (index_of l i) h)
 treated_moved l s r (treatments.Indirect i) v packed is h = absurd (chosen_alone (Moved v packed) l r (decided_address l i) h)
 treated_moved l s r (treatments.Extent row i) v packed is h = absurd (left_alone (Moved v packed) row.size r.number r i (index_of l i) (sized_left l r row i (Moved v packed) h))
@@ -237,7 +238,7 @@ moved_is_some l s r (Ok a) h = cc
 treated_nothing : (l : Layout) (s : Item) (r : InputRelocation) (t : Treatment) → treatment l s.flags r ≡ t → decide_by l s r t ≡ Ok Nothing → IsNothing l r
 treated_nothing l s r treatments.Nothing is h = let k = known_nothing l s.flags r is in record { row = k.0; known = k.1; kind = k.2 }
 treated_nothing l s r (treatments.Value row) is h = absurd (value_is_some l s r row (term_at l r row (place_of s.address r)) h)
-treated_nothing l s r treatments.BaseRelative is h = absurd (moved_is_some l s r (address_of l r.symbol) h)
+treated_nothing l s r treatments.BaseRelative is h = absurd (moved_is_some l s r (address_for l r) h)
 treated_nothing l s r (treatments.Symbolic i) is h = absurd (left_alone Nothing (ByteSize Eight) (type_of l.machine Absolute) r i (index_of l i) h)
 treated_nothing l s r (treatments.Indirect i) is h = absurd (chosen_alone Nothing l r (decided_address l i) h)
 treated_nothing l s r (treatments.Extent row i) is h = absurd (left_alone Nothing row.size r.number r i (index_of l i) (sized_left l r row i Nothing h))
@@ -305,7 +306,7 @@ moved_is_not_left l s r z n symbol addend (Ok a) h = cc
 treated_left : (l : Layout) (s : Item) (r : InputRelocation) (t : Treatment) (z : RelocationSize) (n symbol addend : ℕ) → treatment l s.flags r ≡ t → decide_by l s r t ≡ Ok (Left z n symbol addend) → IsLeft l s r z n symbol addend
 treated_left l s r treatments.Nothing z n symbol addend is h = cc
 treated_left l s r (treatments.Value row) z n symbol addend is h = absurd (value_is_not_left l s r row z n symbol addend (term_at l r row (place_of s.address r)) h)
-treated_left l s r treatments.BaseRelative z n symbol addend is h = absurd (moved_is_not_left l s r z n symbol addend (address_of l r.symbol) h)
+treated_left l s r treatments.BaseRelative z n symbol addend is h = absurd (moved_is_not_left l s r z n symbol addend (address_for l r) h)
 treated_left l s r (treatments.Symbolic i) z n symbol addend is h =
     let k = known_symbolic l s.flags r i is in
     let p = left_parts (ByteSize Eight) z (type_of l.machine Absolute) n symbol addend r i (index_of l i) h in

@@ -19,7 +19,7 @@ use Rattle.std.specs.List.{list_all, filter}
 use Rattle.std.proofs.lemmas.Bool.{cases_Bool, not-true, eqb-true, and_parts}
 use Rattle.wild_words.proofs.Basics.{not_both, implied, listed_passes}
 use Rattle.wild_records.specs.Abi.Relocation as abi
-use Rattle.wild_reloc.specs.Expression.{taken_of}
+use Rattle.wild_reloc.specs.Expression.{taken_of, expression_of}
 use Rattle.wild_reloc.specs.Field.{allows}
 use Rattle.wild_reloc.specs.Table.{plain}
 use Rattle.wild_reloc.specs.TableX86_64.{x86_64_row}
@@ -72,14 +72,16 @@ use Rattle.wild_relax.specs.Linked.{keeps_bytes}
 use Rattle.wild_layout.specs.declared.decision.Decision.{Decision}
 use Rattle.wild_layout.specs.declared.decision.Decision.TheVariants.{Nothing, Field, Moved, Left, Rewritten, Partner}
 use Rattle.wild_types.specs.Lookups.{place_of}
-use Rattle.wild_layout.specs.SlotValues.{address_of, index_of, decided_address}
-use Rattle.wild_layout.specs.Values.{term_of, value_by, value_less, value_in, term_at}
+use Rattle.wild_layout.specs.SlotValues.{index_of, decided_address}
+use Rattle.wild_layout.specs.Merged.{names_merged, address_for}
+use Rattle.wild_layout.specs.Values.{term_of, value_by, value_less, value_in, is_own_place, term_by, term_at}
 use Rattle.wild_layout.specs.Choice.{choice_of, choice_on, takes_next, is_partner}
 use Rattle.wild_layout.specs.Decide.{field_for, reached, moved_to, added, left_to, chosen_to, decide_by, decided, field_at, place_to, value_to, term_to, rewritten_to, refused_with, decide_with, decide_at, decide}
 use Rattle.wild_slot.proofs.TreatmentLemmas.{HasValue, known_moved, known_symbolic, known_indirect, known_extent}
 use Rattle.wild_layout.proofs.ChoiceLemmas.{IsChosen, choice_row, IsChosenAArch64, choice_row_aarch64, is_listed, kept_listed, of_two, IsSequence, partner_is_taken, no_partner_aarch64, partner_number, loads, no_row, no_partner}
 use Rattle.wild_layout.proofs.ReachedLemmas.{ComesTo, IsReached, reached_by, comes_alone}
 use Rattle.wild_layout.proofs.DecideLemmas.{HasField, sized_left}
+use Rattle.wild_layout.proofs.MergedLemmas.{term_plain}
 
 -- ---- which decisions come from where
 
@@ -120,7 +122,7 @@ chosen_keeps l r (Ok resolver) d h =
 treated_keeps : (l : Layout) (s : Item) (r : InputRelocation) (t : Treatment) (d : Decision) → decide_by l s r t ≡ Ok d → KeepsInstruction d
 treated_keeps l s r treatments.Nothing d h = let same : Nothing ≡ d = cc in subst KeepsInstruction same tt
 treated_keeps l s r (treatments.Value row) d h = value_keeps l s r row (term_at l r row (place_of s.address r)) d h
-treated_keeps l s r treatments.BaseRelative d h = moved_keeps l s r (address_of l r.symbol) d h
+treated_keeps l s r treatments.BaseRelative d h = moved_keeps l s r (address_for l r) d h
 treated_keeps l s r (treatments.Symbolic i) d h = left_keeps (ByteSize Eight) (type_of l.machine Absolute) r i (index_of l i) d h
 treated_keeps l s r (treatments.Indirect i) d h = chosen_keeps l r (decided_address l i) d h
 treated_keeps l s r (treatments.Extent row i) d h = left_keeps row.size r.number r i (index_of l i) d (sized_left l r row i d h)
@@ -175,8 +177,19 @@ record IsMade (l : Layout) (s : Item) (r : InputRelocation) (row : Row) (d : Dec
   is : (if keeps_bytes row then Field by.info.size value else Rewritten row value) ≡ d
 
 -- on x86-64 no place stands for a symbol
-not_placed : (l : Layout) (r : InputRelocation) (info : RelocationKindInfo) (p : ℕ) → l.machine ≡ machine.X86_64 → term_to l r info p ≡ term_alone l r info
-not_placed l r info p is = rw is refl
+no_place : (m : Machine) (l : Layout) (r : InputRelocation) (info : RelocationKindInfo) → m ≡ machine.X86_64 → is_own_place m l r info ≡ false
+no_place machine.X86_64 l r info is = refl
+no_place machine.AArch64 l r info is = cc
+
+placed_at : (l : Layout) (r : InputRelocation) (info : RelocationKindInfo) (p : ℕ) → l.machine ≡ machine.X86_64 → term_at l r info p ≡ term_by l r (expression_of info.kind).term
+placed_at l r info p is = rw (no_place l.machine l r info is) refl
+
+abbrev is_silent : RelocationKind → Bool
+is_silent kinds.None = true
+is_silent other = false
+
+not_placed : (l : Layout) (r : InputRelocation) (info : RelocationKindInfo) (p : ℕ) → l.machine ≡ machine.X86_64 → names_merged l r.symbol ≡ false → term_to l r info p ≡ term_alone l r info
+not_placed l r info p is unmerged = ap (λ (t : Result ℕ Fault). if is_silent info.kind then Ok 0 else t) (placed_at l r info p is ∙ term_plain l r (expression_of info.kind).term unmerged)
 
 -- and what is written counts no pages
 unmasked : (w : Written) → is_aarch64 w ≡ false → (info_by w).mask ≡ None
@@ -212,8 +225,8 @@ unfolding row_of
 known_on machine.AArch64 row is type = cc
 known_on machine.X86_64 row is type = written_row row.written type
 
-row_makes : (l : Layout) (s : Item) (r : InputRelocation) (row : Row) (d : Decision) → l.machine ≡ machine.X86_64 → is_aarch64 row.written ≡ false → rewritten_to l s r row ≡ Ok d → IsMade l s r row d
-row_makes l s r row d x86 type h = by_term (term_to l r (info_written row) (place_to s r row)) refl h
+row_makes : (l : Layout) (s : Item) (r : InputRelocation) (row : Row) (d : Decision) → l.machine ≡ machine.X86_64 → names_merged l r.symbol ≡ false → is_aarch64 row.written ≡ false → rewritten_to l s r row ≡ Ok d → IsMade l s r row d
+row_makes l s r row d x86 unmerged type h = by_term (term_to l r (info_written row) (place_to s r row)) refl h
   where
     made_of : (a v : ℕ) → term_to l r (info_written row) (place_to s r row) ≡ Ok a → value_in l (info_written row) a ((rewrite_of row).addend r.addend) (place_to s r row) ≡ v → allows (info_written row) v ≡ true
         → (if keeps_bytes row then Field (info_written row).size v else Rewritten row v) ≡ d → IsMade l s r row d
@@ -223,7 +236,7 @@ row_makes l s r row d x86 type h = by_term (term_to l r (info_written row) (plac
         info = info_written row;
         known = known_on l.machine row x86 type;
         term = a;
-        given = sym (not_placed l r (info_written row) (place_to s r row) x86) ∙ given;
+        given = sym (not_placed l r (info_written row) (place_to s r row) x86 unmerged) ∙ given;
         value = sym (whole_value l (info_written row) a ((rewrite_of row).addend r.addend) (place_to s r row) (unmasked row.written type)) ∙ value;
         allowed = allowed;
       };
@@ -412,7 +425,7 @@ unfolding decide
 decide_cases {P} l s i r d listed h own made there taken = by_partner (is_partner l s i) refl h
   where
     by_machine : (m : Machine) (row : Row) → l.machine ≡ m → choice_on m l s i r ≡ Ok (Some row) → rewritten_to l s r row ≡ Ok d → P
-    by_machine machine.X86_64 row on is e = (let c = choice_row l s r (slice_get s.relocations (i + 1)) row on is in made row c (row_makes l s r row d on (listed_type row (is_listed l s r (slice_get s.relocations (i + 1)) row c)) e))
+    by_machine machine.X86_64 row on is e = (let c = choice_row l s r (slice_get s.relocations (i + 1)) row on is in made row c (row_makes l s r row d on c.plain (listed_type row (is_listed l s r (slice_get s.relocations (i + 1)) row c)) e))
     by_machine machine.AArch64 row on is e = (let c = choice_row_aarch64 l s i r row on listed is in there row c (made_there l s i r row d c e))
 
     by_choice : (c : Result (Option Row) UnknownSequence) → is_partner l s i ≡ false → choice_on l.machine l s i r ≡ c → decide_with l s r c ≡ Ok d → P

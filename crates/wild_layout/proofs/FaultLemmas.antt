@@ -6,6 +6,7 @@ use Rattle.std.proofs.lemmas.List.Elements.{All-nil, All-cons}
 use Rattle.wild_words.proofs.Basics.{All-from_nothing}
 use Rattle.wild_types.specs.declared.fault.At.{At}
 use Rattle.wild_types.specs.declared.fault.Clause.{Clause}
+use Rattle.wild_types.specs.declared.fault.Error.{Error}
 use Rattle.wild_types.specs.declared.fault.Fault.{Fault}
 use Rattle.wild_slot.specs.declared.slot.SlotFault.{SlotFault}
 use Rattle.wild_types.specs.declared.symbol.Symbol.{Symbol}
@@ -17,10 +18,11 @@ use Rattle.wild_types.specs.FileSymbols.{copies_of, own_symbols}
 use Rattle.wild_types.specs.FileThunks.{thunks_of}
 use Rattle.wild_slot.specs.SymbolWords.{slots_of}
 use Rattle.wild_clauses.specs.WellFormed.{first_clause}
+use Rattle.wild_laid.specs.Laid.{file_frames, frames_at, behind, of_last_file}
 use Rattle.wild_layout.specs.SymbolValues.{raw_address}
 use Rattle.wild_layout.specs.SlotValues.{index_of}
 use Rattle.wild_layout.specs.Thunks.{thunk_fault}
-use Rattle.wild_layout.specs.Faults.{flat_map_from, clause_errors, overlap_errors, section_errors, at_file, slot_refusal, symbol_errors, slot_errors, copy_fault, fault_errors, copy_errors, thunk_error, thunk_errors, entry_errors, file_errors, listed_errors, table_errors, group_errors, errors, part_errors}
+use Rattle.wild_layout.specs.Faults.{flat_map_from, clause_errors, overlap_errors, sections_errors, sorted_errors, first_errors, files_errors, at_file, slot_refusal, symbol_errors, slot_errors, copy_fault, fault_errors, copy_errors, thunk_error, thunk_errors, entry_errors, file_errors, listed_errors, table_errors, group_errors, errors, part_errors}
 use Rattle.wild_layout.specs.Geometry.{IsLaidOut, LayoutsAreLaidOut}
 
 pub clause_holds : (r : Result (Unit {0}) Clause) → clause_errors r ≡ [] → r ≡ Ok tt
@@ -56,35 +58,57 @@ no_refusal : (at : At) (i : ℕ) (o : Option SlotFault) → slot_refusal at i o 
 no_refusal at i None h = refl
 no_refusal at i (Some f) h = cc
 
--- the faults of a file's sections, those of its copies and slots, and those of its thunks
-pub sections_of_file : (l : Layout) (g k : ℕ) (f : File) → file_errors l g k f ≡ [] → flat_map_from (section_errors l g k f) 0 f.sections ≡ []
+-- the faults of a file's sections, those of the sorted ones, of its copies and slots, of its thunks, and of the search table
+abbrev sorted_of : Layout → File → List Error
+sorted_of l f = of_last_file f (flat_map (sorted_errors l) l.sorted)
+
+pub sections_of_file : (l : Layout) (g at k : ℕ) (f : File) → file_errors l g at k f ≡ [] → sections_errors l g k f at 0 f.sections ≡ []
 unfolding file_errors
-sections_of_file l g k f h = first_empty (flat_map_from (section_errors l g k f) 0 f.sections) (entry_errors l g k f ++ thunk_errors l g k f) h
+sections_of_file l g at k f h = first_empty (sections_errors l g k f at 0 f.sections) (sorted_of l f ++ (entry_errors l g k f ++ (thunk_errors l g k f ++ first_errors l g k f))) h
 
-behind_sections : (l : Layout) (g k : ℕ) (f : File) → file_errors l g k f ≡ [] → entry_errors l g k f ++ thunk_errors l g k f ≡ []
+behind_sections : (l : Layout) (g at k : ℕ) (f : File) → file_errors l g at k f ≡ [] → sorted_of l f ++ (entry_errors l g k f ++ (thunk_errors l g k f ++ first_errors l g k f)) ≡ []
 unfolding file_errors
-behind_sections l g k f h = rest_empty (flat_map_from (section_errors l g k f) 0 f.sections) (entry_errors l g k f ++ thunk_errors l g k f) h
+behind_sections l g at k f h = rest_empty (sections_errors l g k f at 0 f.sections) (sorted_of l f ++ (entry_errors l g k f ++ (thunk_errors l g k f ++ first_errors l g k f))) h
 
-entries_of_file : (l : Layout) (g k : ℕ) (f : File) → file_errors l g k f ≡ [] → entry_errors l g k f ≡ []
-entries_of_file l g k f h = first_empty (entry_errors l g k f) (thunk_errors l g k f) (behind_sections l g k f h)
+pub sorted_of_file : (l : Layout) (g at k : ℕ) (f : File) → file_errors l g at k f ≡ [] → of_last_file f (flat_map (sorted_errors l) l.sorted) ≡ []
+sorted_of_file l g at k f h = first_empty (sorted_of l f) (entry_errors l g k f ++ (thunk_errors l g k f ++ first_errors l g k f)) (behind_sections l g at k f h)
 
-pub slots_of_file : (l : Layout) (g k : ℕ) (f : File) → file_errors l g k f ≡ [] → All (HasWholeSlots l) (own_symbols l f)
+behind_sorted : (l : Layout) (g at k : ℕ) (f : File) → file_errors l g at k f ≡ [] → entry_errors l g k f ++ (thunk_errors l g k f ++ first_errors l g k f) ≡ []
+behind_sorted l g at k f h = rest_empty (sorted_of l f) (entry_errors l g k f ++ (thunk_errors l g k f ++ first_errors l g k f)) (behind_sections l g at k f h)
+
+entries_of_file : (l : Layout) (g at k : ℕ) (f : File) → file_errors l g at k f ≡ [] → entry_errors l g k f ≡ []
+entries_of_file l g at k f h = first_empty (entry_errors l g k f) (thunk_errors l g k f ++ first_errors l g k f) (behind_sorted l g at k f h)
+
+behind_entries : (l : Layout) (g at k : ℕ) (f : File) → file_errors l g at k f ≡ [] → thunk_errors l g k f ++ first_errors l g k f ≡ []
+behind_entries l g at k f h = rest_empty (entry_errors l g k f) (thunk_errors l g k f ++ first_errors l g k f) (behind_sorted l g at k f h)
+
+pub first_of_file : (l : Layout) (g at k : ℕ) (f : File) → file_errors l g at k f ≡ [] → first_errors l g k f ≡ []
+first_of_file l g at k f h = rest_empty (thunk_errors l g k f) (first_errors l g k f) (behind_entries l g at k f h)
+
+pub slots_of_file : (l : Layout) (g at k : ℕ) (f : File) → file_errors l g at k f ≡ [] → All (HasWholeSlots l) (own_symbols l f)
 unfolding slot_errors
-slots_of_file l g k f h =
-    All-from_none (HasWholeSlots l) (symbol_errors l g k) f.first_symbol (own_symbols l f) (λ i s e. no_refusal (at_file g k) i (slots_of l s).fault e) (rest_empty (flat_map (copy_errors l g k) (copies_of f)) (slot_errors l g k f) (entries_of_file l g k f h))
+slots_of_file l g at k f h =
+    All-from_none (HasWholeSlots l) (symbol_errors l g k) f.first_symbol (own_symbols l f) (λ i s e. no_refusal (at_file g k) i (slots_of l s).fault e) (rest_empty (flat_map (copy_errors l g k) (copies_of f)) (slot_errors l g k f) (entries_of_file l g at k f h))
 
 -- the faults of the files of a group
-pub files_of_group : (l : Layout) (i : ℕ) (g : Group) → group_errors l i g ≡ [] → flat_map_from (file_errors l i) 0 g.files ≡ []
+pub files_of_group : (l : Layout) (i : ℕ) (g : Group) → group_errors l i g ≡ [] → files_errors l i (frames_at l g) 0 g.files ≡ []
 unfolding group_errors
-files_of_group l i g h = first_empty (flat_map_from (file_errors l i) 0 g.files) (flat_map_from (listed_errors l i) 0 g.files ++ flat_map_from (table_errors l i) 0 g.files) h
+files_of_group l i g h = first_empty (files_errors l i (frames_at l g) 0 g.files) (flat_map_from (listed_errors l i) 0 g.files ++ flat_map_from (table_errors l i) 0 g.files) h
+
+-- what holds of each file without faults, where its frames begin so, holds of all that follow one another
+pub All-files : (l : Layout) (P : File → Type 0) (i at k : ℕ) (fs : List File) → ((at k : ℕ) (f : File) → file_errors l i at k f ≡ [] → P f) → files_errors l i at k fs ≡ [] → All P fs
+All-files l P i at k [] each h = All-nil P
+All-files l P i at k (f ∷ fs) each h =
+    All-cons P f fs (each at k f (first_empty (file_errors l i at k f) (files_errors l i (behind at (file_frames l f)) (k + 1) fs) h))
+    (All-files l P i (behind at (file_frames l f)) (k + 1) fs each (rest_empty (file_errors l i at k f) (files_errors l i (behind at (file_frames l f)) (k + 1) fs) h))
 
 -- where no group has a fault, what holds of each file without faults holds of all files
-pub of_files : (l : Layout) (P : File → Type 0) → ((i k : ℕ) (f : File) → file_errors l i k f ≡ [] → P f) → flat_map_from (group_errors l) 0 l.groups ≡ [] → All (λ (g : Group). All P g.files) l.groups
-of_files l P each h = All-from_none (λ (g : Group). All P g.files) (group_errors l) 0 l.groups (λ i g e. All-from_none P (file_errors l i) 0 g.files (λ k f n. each i k f n) (files_of_group l i g e)) h
+pub of_files : (l : Layout) (P : File → Type 0) → ((i at k : ℕ) (f : File) → file_errors l i at k f ≡ [] → P f) → flat_map_from (group_errors l) 0 l.groups ≡ [] → All (λ (g : Group). All P g.files) l.groups
+of_files l P each h = All-from_none (λ (g : Group). All P g.files) (group_errors l) 0 l.groups (λ i g e. All-files l P i (frames_at l g) 0 g.files (λ at k f n. each i at k f n) (files_of_group l i g e)) h
 
 -- each file writes all of its symbols' slots
 pub slots_of_groups : (l : Layout) → flat_map_from (group_errors l) 0 l.groups ≡ [] → All (λ (g : Group). All (λ (f : File). All (HasWholeSlots l) (own_symbols l f)) g.files) l.groups
-slots_of_groups l h = of_files l (λ (f : File). All (HasWholeSlots l) (own_symbols l f)) (λ i k f n. slots_of_file l i k f n) h
+slots_of_groups l h = of_files l (λ (f : File). All (HasWholeSlots l) (own_symbols l f)) (λ i at k f n. slots_of_file l i at k f n) h
 
 -- ---- copies
 
@@ -96,12 +120,12 @@ pub no_fault : (at : At) (o : Option Fault) → fault_errors at o ≡ [] → o �
 no_fault at None h = refl
 no_fault at (Some f) h = cc
 
-pub copies_of_file : (l : Layout) (g k : ℕ) (f : File) → file_errors l g k f ≡ [] → All (CanBeCopied l) (copies_of f)
-copies_of_file l g k f h =
-    All-from_nothing (CanBeCopied l) (copy_errors l g k) (copies_of f) (λ i e. no_fault (at_file g k) (copy_fault i (index_of l i) (raw_address l (Some i))) e) (first_empty (flat_map (copy_errors l g k) (copies_of f)) (slot_errors l g k f) (entries_of_file l g k f h))
+pub copies_of_file : (l : Layout) (g at k : ℕ) (f : File) → file_errors l g at k f ≡ [] → All (CanBeCopied l) (copies_of f)
+copies_of_file l g at k f h =
+    All-from_nothing (CanBeCopied l) (copy_errors l g k) (copies_of f) (λ i e. no_fault (at_file g k) (copy_fault i (index_of l i) (raw_address l (Some i))) e) (first_empty (flat_map (copy_errors l g k) (copies_of f)) (slot_errors l g k f) (entries_of_file l g at k f h))
 
 pub copies_of_groups : (l : Layout) → flat_map_from (group_errors l) 0 l.groups ≡ [] → All (λ (g : Group). All (λ (f : File). All (CanBeCopied l) (copies_of f)) g.files) l.groups
-copies_of_groups l h = of_files l (λ (f : File). All (CanBeCopied l) (copies_of f)) (λ i k f n. copies_of_file l i k f n) h
+copies_of_groups l h = of_files l (λ (f : File). All (CanBeCopied l) (copies_of f)) (λ i at k f n. copies_of_file l i at k f n) h
 
 -- ---- thunks
 
@@ -109,13 +133,13 @@ copies_of_groups l h = of_files l (λ (f : File). All (CanBeCopied l) (copies_of
 abbrev pub CanGoOn : Layout → Thunk → Type 0
 CanGoOn l t = thunk_fault l t ≡ None
 
-pub thunks_of_file : (l : Layout) (g k : ℕ) (f : File) → file_errors l g k f ≡ [] → All (CanGoOn l) (thunks_of l f)
+pub thunks_of_file : (l : Layout) (g at k : ℕ) (f : File) → file_errors l g at k f ≡ [] → All (CanGoOn l) (thunks_of l f)
 unfolding thunk_errors
-thunks_of_file l g k f h =
-    All-from_nothing (CanGoOn l) (thunk_error l (at_file g k)) (thunks_of l f) (λ t e. no_fault (at_file g k) (thunk_fault l t) e) (rest_empty (entry_errors l g k f) (thunk_errors l g k f) (behind_sections l g k f h))
+thunks_of_file l g at k f h =
+    All-from_nothing (CanGoOn l) (thunk_error l (at_file g k)) (thunks_of l f) (λ t e. no_fault (at_file g k) (thunk_fault l t) e) (first_empty (thunk_errors l g k f) (first_errors l g k f) (behind_entries l g at k f h))
 
 pub thunks_of_groups : (l : Layout) → flat_map_from (group_errors l) 0 l.groups ≡ [] → All (λ (g : Group). All (λ (f : File). All (CanGoOn l) (thunks_of l f)) g.files) l.groups
-thunks_of_groups l h = of_files l (λ (f : File). All (CanGoOn l) (thunks_of l f)) (λ i k f n. thunks_of_file l i k f n) h
+thunks_of_groups l h = of_files l (λ (f : File). All (CanGoOn l) (thunks_of l f)) (λ i at k f n. thunks_of_file l i at k f n) h
 
 -- no group has an error where the layout has none
 pub no_group_errors : (l : Layout) → errors l ≡ [] → flat_map_from (group_errors l) 0 l.groups ≡ []

@@ -1,4 +1,5 @@
 pub mod FaultLemmas
+pub mod MergedLemmas
 pub mod ChoiceLemmas
 pub mod AskedLemmas
 pub mod ReachedLemmas
@@ -6,5 +7,6 @@ pub mod DecideLemmas
 pub mod DecisionLemmas
 pub mod SitesApart
 pub mod SiteLemmas
+pub mod MovedSites
 pub mod LayoutLemmas
 pub mod ThunkLemmas

@@ -20,7 +20,7 @@ use Rattle.wild_layout.specs.declared.decision.Decision.TheVariants.{Nothing, Fi
 use Rattle.wild_relax.specs.declared.row.Row.{Row}
 use Rattle.wild_relax.specs.Linked.{pattern_size, keeps_bytes}
 use Rattle.wild_layout.specs.Decide.{decide}
-use Rattle.wild_layout.specs.Sites.{Written, written_by, field_site, template_start, template_site, site_by, site_for, site_of, site_at, site, sites, shared_byte}
+use Rattle.wild_layout.specs.Sites.{Written, written_by, field_site, template_start, template_site, site_by, site_for, site_of, site_at, site, sites, shared_byte, MovesApart}
 use Rattle.wild_layout.specs.SectionPlaces.{FieldLies}
 use Rattle.wild_layout.proofs.DecideLemmas.{HasField, decided_field, decided_moved, decided_left, field_has, moved_has, left_has, field_has_bytes, field_ends}
 use Rattle.wild_layout.proofs.ChoiceLemmas.{LiesInItsPattern, chosen_lies, chosen_lies_aarch64, length-template}
@@ -176,6 +176,6 @@ site_is_field l s i lies =
         All-same P _ _ x.is (All-one P (template_site s x.relocation x.row x.value) (template_lies s x.relocation x.row x.value (window_in l s i x.relocation x.row x.value x.rewritten)))
 
 -- the sites of an item lie in its bytes, each apart from the others
-pub sites_apart : (l : Layout) (s : Item) → All (FieldLies l.machine (length s.bytes)) s.relocations → shared_byte l s ≡ None → AreApart (length s.bytes) (sites l s)
-sites_apart l s lies none =
-    fields_apart (sites l s) (length s.bytes) (All-flat_map (IsFieldIn (length s.bytes)) (site l s) (range_with_len 0 (length s.relocations)) (λ k d m. site_is_field l s (get_or (range_with_len 0 (length s.relocations)) k d) lies)) none
+pub sites_apart : (l : Layout) (s : Item) (origins : List InputRelocation) → All (FieldLies l.machine (length s.bytes)) s.relocations → MovesApart l s origins → shared_byte l s origins ≡ None → AreApart (length s.bytes) (sites l s)
+sites_apart l s origins lies moves none =
+    fields_apart (sites l s) (length s.bytes) (All-flat_map (IsFieldIn (length s.bytes)) (site l s) (range_with_len 0 (length s.relocations)) (λ k d m. site_is_field l s (get_or (range_with_len 0 (length s.relocations)) k d) lies)) (moves.apart none)

@@ -9,8 +9,8 @@
 --   is_partner l s i       relocation i is the call of the sequence before it, which is rewritten as a whole
 --   may_take_next n        rows of that relocation type write a whole sequence
 --   may_be_partner rs i    the relocation before is of such a type
-use Rattle.std.specs.Prelude.{ℕ, zero, suc, ◌+◌, ◌-◌, ◌==◌, Bool, true, false, ◌||◌, if◌then◌else◌, List, [], ◌∷◌, ◌++◌, Option, Some, None, option_to_list, option_map, unwrap_or, Result, Ok, slice_get}
-use Rattle.wild_records.specs.Abi.Relocation.{r_x86_64_pc32, r_x86_64_tlsgd, r_x86_64_tlsld}
+use Rattle.std.specs.Prelude.{ℕ, zero, suc, ◌+◌, ◌-◌, ◌==◌, Bool, true, false, ◌||◌, if◌then◌else◌, List, [], ◌∷◌, ◌++◌, Option, Some, None, option_to_list, option_map, unwrap_or, Result, Ok, Err, slice_get}
+use Rattle.wild_records.specs.Abi.Relocation.{r_x86_64_pc32, r_x86_64_tlsgd, r_x86_64_tlsld, r_x86_64_gotpc32_tlsdesc, r_x86_64_code_4_gotpc32_tlsdesc, r_x86_64_tlsdesc_call}
 use Rattle.wild_types.specs.declared.kind.Machine.{Machine}
 use Rattle.wild_types.specs.declared.kind.Machine.TheVariants as machine
 use Rattle.wild_types.specs.declared.input.InputRelocation.{InputRelocation}
@@ -23,11 +23,13 @@ use Rattle.wild_relax.specs.declared.reference.UnknownSequence.{UnknownSequence}
 use Rattle.wild_relax.specs.declared.row.Row.{Row}
 use Rattle.wild_relax.specs.Question.{Question, no_relocation}
 use Rattle.wild_relax.specs.Rewrite.{is_skip}
-use Rattle.wild_relax.specs.RewriteX86_64.{rewrite_of}
+use Rattle.wild_relax.specs.declared.row.Written.TheVariants as written
+use Rattle.wild_relax.specs.RewriteX86_64.{rewrite_of, info_by}
 use Rattle.wild_relax.specs.Rows.{chosen_x86_64}
 use Rattle.wild_relax.specs.SequenceAArch64.{words_before}
 use Rattle.wild_relax.specs.Relaxation.{chosen_of}
 use Rattle.wild_types.specs.Addresses.{raw_value}
+use Rattle.wild_layout.specs.Merged.{names_merged}
 
 -- `__tls_get_addr` ("ELF Handling For Thread-Local Storage", "Run-Time Handling of TLS")
 abbrev pub getter_name : List ℕ
@@ -73,11 +75,24 @@ infos_of l r next = option_to_list (option_map (info_of l) r) ++ option_to_list 
 abbrev pub question_of : Layout → Item → InputRelocation → ℕ → Option InputRelocation → Question
 question_of l s r i next = asked_of l s i (infos_of l (Some r) next) 0
 
+-- references to thread-local storage that are rewritten in each executable
+abbrev pub is_thread_type : ℕ → Bool
+is_thread_type n = n == r_x86_64_tlsgd || (n == r_x86_64_tlsld || (n == r_x86_64_gotpc32_tlsdesc || (n == r_x86_64_code_4_gotpc32_tlsdesc || n == r_x86_64_tlsdesc_call)))
+
+-- no row would find a merged string by another addend, and none is thread-local storage
+abbrev pub choice_merged : InputRelocation → Result (Option Row) UnknownSequence
+choice_merged r = if is_thread_type r.number then Err (record { number = r.number; written = info_by written.Nothing }) else Ok None
+
+-- by the machine
+abbrev pub merged_on : Machine → InputRelocation → Result (Option Row) UnknownSequence
+merged_on machine.X86_64 r = choice_merged r
+merged_on machine.AArch64 r = Ok None
+
 -- the row that stands, or why it is refused. S of an IFUNC is its stub in any case, so the row that says so for R_X86_64_PC32 has
 -- nothing to do here
 unfoldable pub choice_by : Layout → Item → InputRelocation → Option InputRelocation → Option ℕ → Result (Option Row) UnknownSequence
 choice_by l s r next None = Ok None
-choice_by l s r next (Some i) = if r.number == r_x86_64_pc32 then Ok None else chosen_x86_64 (question_of l s r i next)
+choice_by l s r next (Some i) = if r.number == r_x86_64_pc32 then Ok None else if names_merged l (Some i) then choice_merged r else chosen_x86_64 (question_of l s r i next)
 
 abbrev pub choice_of : Layout → Item → InputRelocation → Option InputRelocation → Result (Option Row) UnknownSequence
 choice_of l s r next = choice_by l s r next r.symbol
@@ -101,7 +116,7 @@ question_around l s i r symbol = asked_of l s symbol (infos_from s.relocations (
 
 unfoldable pub choice_around_by : Layout → Item → ℕ → InputRelocation → Option ℕ → Result (Option Row) UnknownSequence
 choice_around_by l s i r None = Ok None
-choice_around_by l s i r (Some symbol) = chosen_of machine.AArch64 (question_around l s i r symbol)
+choice_around_by l s i r (Some symbol) = if names_merged l (Some symbol) then Ok None else chosen_of machine.AArch64 (question_around l s i r symbol)
 
 abbrev pub choice_around : Layout → Item → ℕ → InputRelocation → Result (Option Row) UnknownSequence
 choice_around l s i r = choice_around_by l s i r r.symbol

@@ -3,7 +3,7 @@
 --   own_bytes l r f   what a file gives to a part that a loader reads
 --   content l r g     the bytes that a group gives to a part of that role: the headers and the names are the
 --                     prelude's; the input sections of a raw part stand by themselves
-use Rattle.std.specs.Prelude.{ℕ, ◌-◌, ◌*◌, Bool, true, false, ◌&&◌, List, [], ◌++◌, length, map, if◌then◌else◌, Option, Some, None, slice_get}
+use Rattle.std.specs.Prelude.{ℕ, ◌-◌, ◌*◌, Bool, true, false, ◌&&◌, List, [], ◌∷◌, ◌++◌, length, map, if◌then◌else◌, Option, Some, None, slice_get}
 use Rattle.std.specs.List.{flat_map, list_any}
 use Rattle.wild_types.specs.declared.part.Role.{Role}
 use Rattle.wild_types.specs.declared.part.Role.TheVariants as role
@@ -15,6 +15,8 @@ use Rattle.wild_types.specs.declared.layout.Layout.{Layout}
 use Rattle.wild_records.specs.Dynamic.{dynamic_entry_size}
 use Rattle.wild_needs.specs.DynamicStrings.{file_strings, needed_entries}
 use Rattle.wild_needs.specs.DynamicSymbols.{first_listed}
+use Rattle.wild_needs.specs.Entries.{sorted_words}
+use Rattle.wild_needs.specs.Needs.{has_last}
 use Rattle.wild_types.specs.Kinds.{needs_dynsym}
 use Rattle.wild_needs.specs.TableSymbols.{has_long, table_strings}
 use Rattle.wild_hashes.specs.Tables.{sysv_hash_of, gnu_hash_of, gnu_header, gnu_table, sysv_table}
@@ -31,6 +33,13 @@ use Rattle.wild_tables.specs.Entries.{rela_bytes}
 use Rattle.wild_tables.specs.Dynamic.{entries_bytes, dynamic_bytes}
 use Rattle.wild_layout.specs.Moved.{file_entries, file_words}
 use Rattle.wild_layout.specs.Left.{file_generals}
+use Rattle.wild_types.specs.declared.input.InputSection.{InputSection}
+use Rattle.wild_types.specs.Item.{item_of}
+use Rattle.wild_types.specs.Lookups.{is_frame}
+use Rattle.wild_laid.specs.Laid.{laid_files, of_last_file}
+use Rattle.wild_layout.specs.Sites.{item_bytes}
+use Rattle.wild_layout.specs.Notes.{build_id_note, property_note}
+use Rattle.wild_layout.specs.SearchTable.{search_table}
 use Rattle.wild_layout.specs.SlotBytes.{slot_bytes, header_bytes, block_bytes}
 use Rattle.wild_headers.specs.Headers.{file_header_bytes, program_header_bytes, section_header_bytes, names_of}
 
@@ -40,6 +49,8 @@ whole_bytes l role.FileHeader = file_header_bytes l
 whole_bytes l role.ProgramHeaders = program_header_bytes l
 whole_bytes l role.SectionHeaders = section_header_bytes l
 whole_bytes l role.Shstrtab = names_of l
+whole_bytes l role.EhFrameHdr = search_table l
+whole_bytes l role.Interp = l.interp
 whole_bytes l other = []
 
 -- ---- what a loader reads
@@ -69,9 +80,21 @@ of_last l f bytes = if needs_dynsym l.kind && is_epilogue f.role then bytes else
 abbrev pub indexes_of : Layout → Role → Bool → File → List ℕ
 indexes_of l r local f = if has_long l r then index_bytes (long_indexes local (file_table l f)) else []
 
+-- the frames of a section that stands as it does, with their fields
+unfoldable pub frame_bytes_of : Layout → File → InputSection → List ℕ
+frame_bytes_of l f s = if is_frame s.slot then item_bytes l (item_of l f s) else []
+
+-- a length of zero, which ends the frames of the output (LSB, "The .eh_frame section")
+abbrev pub end_of_frames : Layout → List ℕ
+end_of_frames l = if l.options.terminator then 0 ∷ 0 ∷ 0 ∷ 0 ∷ [] else []
+
+-- the frames of a file whose sections are as they stand, and behind those of the last file what ends them
+unfoldable pub frames_bytes : Layout → File → List ℕ
+frames_bytes l f = flat_map (frame_bytes_of l f) f.sections ++ of_last_file f (end_of_frames l)
+
 -- entries with addends and words of packed relocations; strings, each with a zero behind it; versions of symbols, and those that
 -- the output defines; hash tables; longer section indexes (gABI, "Relocation", "Relative Relocation Table", "String Table", "Hash
--- Table", "Symbol Table"; LSB, "Symbol Versioning")
+-- Table", "Symbol Table"; LSB, "Symbol Versioning"); frames; notes
 abbrev pub own_bytes : Layout → Role → File → List ℕ
 own_bytes l role.RelaDynRelative f = rela_bytes (file_entries l f)
 own_bytes l role.RelaDynGeneral f = rela_bytes (file_generals l f)
@@ -84,6 +107,9 @@ own_bytes l role.GnuHash f = of_last l f (gnu_bytes l l.gnu_hash)
 own_bytes l role.SymtabShndxLocal f = indexes_of l role.SymtabShndxLocal true f
 own_bytes l role.SymtabShndxGlobal f = indexes_of l role.SymtabShndxGlobal false f
 own_bytes l role.Strtab f = string_bytes (table_strings l f)
+own_bytes l role.EhFrame f = frames_bytes l f
+own_bytes l role.BuildId f = of_last_file f (build_id_note l.build_id)
+own_bytes l role.Property f = of_last_file f (property_note l.properties)
 own_bytes l other f = []
 
 -- the bytes that a file gives to a part of that role
@@ -95,9 +121,14 @@ file_content l r f = (if is_prelude f.role then whole_bytes l r ++ header_bytes 
 abbrev pub dynamic_of : Layout → Group → List ℕ
 dynamic_of l g = entries_bytes (needed_entries l g) ++ (if list_any (λ (f : File). is_epilogue f.role) g.files then dynamic_bytes l (dynamic_room l) else [])
 
+-- the words of the sorted sections, which are the last file's, stand behind those of the block of its group
+abbrev pub last_words : Layout → Group → List ℕ
+last_words l g = if has_last g then word_bytes (sorted_words l) else []
+
 -- what is told of the files of a group together: the words that pack its block of slots, its symbols of the two tables, the versions
 -- that are needed of its libraries, and its entries of the dynamic section
 abbrev pub group_bytes : Layout → Role → Group → List ℕ
+group_bytes l role.RelrDyn g = block_bytes l role.RelrDyn g ++ last_words l g
 group_bytes l role.Dynsym g = symbol_bytes (group_symbols l g)
 group_bytes l role.GnuVersionR g = group_needs l g
 group_bytes l role.Dynamic g = dynamic_of l g
@@ -105,6 +136,7 @@ group_bytes l role.SymtabLocal g = symbol_bytes (table_entries l true g)
 group_bytes l role.SymtabGlobal g = symbol_bytes (table_entries l false g)
 group_bytes l r g = block_bytes l r g
 
--- the bytes that a group gives to a part of that role: those of its files, and then those of all together
+-- the bytes that a group gives to a part of that role: those of its files, with their sections as they stand, and then those of all
+-- together
 abbrev pub content : Layout → Role → Group → List ℕ
-content l r g = flat_map (file_content l r) g.files ++ group_bytes l r g
+content l r g = flat_map (file_content l r) (laid_files l g) ++ group_bytes l r g

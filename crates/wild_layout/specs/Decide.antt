@@ -41,7 +41,8 @@ use Rattle.wild_relax.specs.RewriteX86_64.{rewrite_of, info_written}
 use Rattle.wild_relax.specs.Linked.{keeps_bytes}
 use Rattle.wild_layout.specs.Choice.{choice_on, is_partner}
 use Rattle.wild_layout.specs.SymbolValues.{sum, less, symbol_size}
-use Rattle.wild_layout.specs.SlotValues.{address_of, index_of, decided_address}
+use Rattle.wild_layout.specs.SlotValues.{index_of, decided_address}
+use Rattle.wild_layout.specs.Merged.{address_for}
 use Rattle.wild_layout.specs.Values.{value_in, term_at}
 use Rattle.wild_layout.specs.Thunks.{thunk_for}
 
@@ -97,7 +98,7 @@ chosen_to l r (Ok resolver) = if added r == 0 then Ok (Left (ByteSize Eight) (ty
 abbrev pub decide_by : Layout → Item → InputRelocation → Treatment → Result Decision Fault
 decide_by l s r treatments.Nothing = Ok Nothing
 decide_by l s r (treatments.Value row) = field_for l s r row (term_at l r row (place_of s.address r))
-decide_by l s r treatments.BaseRelative = moved_to l s r (address_of l r.symbol)
+decide_by l s r treatments.BaseRelative = moved_to l s r (address_for l r)
 decide_by l s r (treatments.Symbolic i) = left_to (ByteSize Eight) (type_of l.machine Absolute) r i (index_of l i)
 decide_by l s r (treatments.Indirect i) = chosen_to l r (decided_address l i)
 decide_by l s r (treatments.Extent row i) = sized_to l r row i (left_to row.size r.number r i (index_of l i))

@@ -17,6 +17,7 @@ use Rattle.wild_slot.specs.declared.treatment.Treatment.{Treatment}
 use Rattle.wild_slot.specs.declared.treatment.Treatment.TheVariants.{Symbolic, Indirect, Extent}
 use Rattle.wild_types.specs.Lookups.{place_of}
 use Rattle.wild_needs.specs.Entries.{left_relocations}
+use Rattle.wild_laid.specs.Laid.{processed}
 use Rattle.wild_types.specs.FileSymbols.{copies_of}
 use Rattle.wild_slot.specs.SlotParts.{type_of}
 use Rattle.wild_slot.specs.Treatment.{treatment}
@@ -51,6 +52,6 @@ section_generals l s = map (left_entry l s.address s.flags) (left_relocations l 
 abbrev pub copy_entry : Layout → ℕ → Rela
 copy_entry l i = entry_for (or_zero (raw_address l (Some i))) (type_of l.machine Copy) (index_or_zero l i) 0
 
--- those of a file
+-- those of a file whose sections are as they stand
 unfoldable pub file_generals : Layout → File → List Rela
-file_generals l f = map (copy_entry l) (copies_of f) ++ flat_map (section_generals l) f.sections
+file_generals l f = map (copy_entry l) (copies_of f) ++ flat_map (section_generals l) (processed l f)

@@ -13,7 +13,8 @@ use Rattle.wild_types.specs.declared.layout.Layout.{Layout}
 use Rattle.wild_needs.specs.Entries.{moved_of, listed_place, words_of}
 use Rattle.wild_tables.specs.Tables.{relative_entry}
 use Rattle.wild_layout.specs.SymbolValues.{sum}
-use Rattle.wild_layout.specs.SlotValues.{address_of}
+use Rattle.wild_layout.specs.Merged.{address_for}
+use Rattle.wild_laid.specs.Laid.{processed}
 
 abbrev pub or_zero : Result ℕ Fault → ℕ
 or_zero (Ok a) = a
@@ -21,7 +22,7 @@ or_zero (Err f) = 0
 
 -- S + A, as the layout has it
 abbrev pub moved_value : Layout → InputRelocation → ℕ
-moved_value l r = sum (or_zero (address_of l r.symbol)) r.addend
+moved_value l r = sum (or_zero (address_for l r)) r.addend
 
 -- the entry of a relocation whose address is listed (x86-64 psABI, "Relocation Types", R_X86_64_RELATIVE)
 abbrev pub listed_entry : Layout → InputSection → InputRelocation → Option Rela
@@ -31,10 +32,10 @@ listed_entry l s r = option_map (λ place. relative_entry l place (moved_value l
 unfoldable pub section_entries : Layout → InputSection → List Rela
 section_entries l s = moved_of l s (listed_entry l s)
 
--- those of a file
+-- those of a file whose sections are as they stand
 abbrev pub file_entries : Layout → File → List Rela
-file_entries l f = flat_map (section_entries l) f.sections
+file_entries l f = flat_map (section_entries l) (processed l f)
 
--- the words of a file; each input section's are a run of their own
+-- the words of such a file; each input section's are a run of their own
 abbrev pub file_words : Layout → File → List ℕ
 file_words l f = flat_map (words_of l) f.sections

@@ -1,7 +1,9 @@
 -- Where input sections and parts lie.
 --   SectionLies l s  an input section's bytes and fields lie in its part, and that in the image
+--   HasWords m s     a section whose words are reversed has whole words, and a relocation for none or one of them each
+--   FrontLies l k bs bytes at the front of part k lie in it
 --   PartLies l i p   the groups' shares are the part's size; one that is not raw lies in the image
-use Rattle.std.specs.Prelude.{◌≡◌, ℕ, ◌+◌, ◌^◌, ◌<◌, ◌≤◌, true, ◌⊎◌, length, All, slice_get, false, Some}
+use Rattle.std.specs.Prelude.{◌≡◌, ℕ, ◌+◌, ◌%◌, ◌^◌, ◌<◌, ◌≤◌, true, ◌⊎◌, List, length, All, slice_get, false, Some}
 use Rattle.wild_types.specs.declared.kind.Machine.{Machine}
 use Rattle.wild_types.specs.declared.part.Part.{Part}
 use Rattle.wild_types.specs.declared.part.Role.TheVariants as role
@@ -49,6 +51,27 @@ pub record SectionLies (l : Layout) (s : InputSection) : Type 0 where
   pub fields : All (FieldLies l.machine s.size) s.relocations
   pub owner : is_filled l s ≡ true → OwnerLies l s
   pub part : s.part < length l.parts
+
+-- the relocation has a word of 8 bytes, of n
+pub record IsWord (m : Machine) (n : ℕ) (r : InputRelocation) : Type 0 where
+  pub begins : r.offset % 8 ≡ 0
+  pub wide : field_bytes m r.number ≡ 8
+  pub within : r.offset + 8 ≤ n
+
+-- words of 8 bytes, in which each relocation has one
+pub record HasWords (m : Machine) (s : InputSection) : Type 0 where
+  pub whole : s.size % 8 ≡ 0
+  pub bytes : length s.bytes ≡ s.size
+  pub fields : All (IsWord m s.size) s.relocations
+
+-- bytes at the front of a raw part lie in it, and in the image
+pub record FrontLies (l : Layout) (k : ℕ) (bs : List ℕ) : Type 0 where
+  pub part : Part
+  pub listed : slice_get l.parts k ≡ Some part
+  pub raw : part.role ≡ role.Raw
+  pub takes : 1 ≤ length bs → takes_file_bytes l part.section ≡ true
+  pub within : length bs ≤ part.size
+  pub ends : 1 ≤ length bs → part.offset + length bs ≤ image_size l
 
 -- the groups' shares of a part are its size; of one that is not raw each share is what the group gives to it, and
 -- the part lies in the image

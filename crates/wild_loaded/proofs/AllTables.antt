@@ -1,4 +1,6 @@
 -- What the tables of a layout fill is known and lies beside each other.
+use Rattle.wild_geometry.proofs.StoodSections.{all_sections, input_of, each_at}
+use Rattle.wild_loaded.proofs.SectionsAside.{section_apart}
 use Rattle.std.proofs.Common.{◌≡◌, ℕ, ◌+◌, ◌^◌, ◌<◌, ◌≤◌, true, List, [], ◌++◌, get_or, refl, sym, arith, subst}
 use Rattle.std.specs.Prelude.{All, AllPairs, Contains, ◌≢◌, IsPermutation}
 use Rattle.std.specs.List.{flat_map}
@@ -25,7 +27,6 @@ use Rattle.wild_loader.specs.Places.{places}
 use Rattle.wild_loader.specs.declared.memory.Memory.{Memory}
 use Rattle.wild_loader.specs.declared.world.World.{World}
 use Rattle.wild_meaning.specs.World.{IsLoadable, IsLegal, IsBehind}
-use Rattle.wild_geometry.proofs.JudgedLemmas.{each_at}
 use Rattle.wild_slots.specs.Order.{end_of}
 use Rattle.wild_slots.specs.Ascend.{Ascend, PlacesAscend}
 use Rattle.wild_slots.specs.Blocks.{BlocksAreWhole}
@@ -39,16 +40,16 @@ use Rattle.wild_loaded.specs.FilledLaws.{TablesAreMade}
 use Rattle.wild_loaded.proofs.Fillings.{Table, PackedTable, RelativeTable, GeneralTable, JumpTable, Filling, Misses, AreBeside, IsKnown, Makes, packed_in}
 use Rattle.wild_loaded.proofs.FilledTables.{ChangeLaws, AreSorted, tables_made, patches_apart, All-made}
 use Rattle.wild_loaded.proofs.Homes.{HomesApart, homes_back, beside_across, behind_misses}
-use Rattle.wild_loaded.proofs.SectionsApart.{all_sections, section_home, stored_home}
+use Rattle.wild_loaded.proofs.SectionsApart.{section_home, stored_home}
 use Rattle.wild_loaded.proofs.PlacesApart.{HavePlaces, places_beside}
 use Rattle.wild_loaded.proofs.SectionFillings.{section_fillings}
-use Rattle.wild_loaded.proofs.FilledSections.{input_of, have_places}
+use Rattle.wild_loaded.proofs.FilledSections.{have_places}
 use Rattle.wild_loaded.proofs.SectionsKnown.{SectionLaws, sections_known}
 use Rattle.wild_loaded.proofs.SlotFillings.{pair_sites, got_sites, words_by_sites}
 use Rattle.wild_loaded.proofs.SlotsSpaced.{all_spaced}
 use Rattle.wild_loaded.proofs.SlotsKnown.{SlotLaws, IsFilledSlots, SiteIsKnown, AreFilled, sites_known, sites_filled, blocks_known, blocks_placed, blocks_wide, blocks_ascend}
 use Rattle.wild_loaded.proofs.GotPlaces.{got_ascends}
-use Rattle.wild_loaded.proofs.TableHomes.{role_home, role_there, roles_apart, section_apart, table_ends, InTable, in_table}
+use Rattle.wild_loaded.proofs.TableHomes.{role_home, role_there, roles_apart, table_ends, InTable, in_table}
 use Rattle.wild_loaded.proofs.CopyFillings.{CopyLaws, HasCopies, copies_filled, LiesBehind, copies_behind, copies_known, copies_beside}
 use Rattle.wild_loaded.proofs.TableLists.{sections_filled, slots_filled, blocks_filled, stored_fillings, all_fillings, all_packed, entries_sorted, jumps_sorted}
 use Rattle.wild_loaded.proofs.PackedTables.{AreWhole, packed_sorted}
@@ -121,13 +122,13 @@ tables_beside l kind laid t =
 pub lies_of : (l : Layout) (s : InputSection) → IsLaidOut l → Contains (all_sections l) s → SectionLies l s
 lies_of l s laid c = each_at (SectionLies l) l s laid.inputs (input_of l s c)
 
-sections_beside : (l : Layout) (r : Role) (xs : List Filling) → is_loaded_role r ≡ true → IsLoadable l.kind → IsLaidOut l → HavePlaces l (section_fillings l) → InTable l r xs → All (λ (x : Filling). All (AreBeside x) xs) (sections_filled l)
-sections_beside l r xs loaded kind laid h t =
+sections_beside : (l : Layout) (r : Role) (xs : List Filling) → is_loaded_role r ≡ true → (r ≡ role.EhFrame → ⊥) → IsLoadable l.kind → IsLaidOut l → HavePlaces l (section_fillings l) → InTable l r xs → All (λ (x : Filling). All (AreBeside x) xs) (sections_filled l)
+sections_beside l r xs loaded other kind laid h t =
     All-flat_map (λ (x : Filling). All (AreBeside x) xs) (section_fillings l) (all_sections l) (λ i d m. (λ k e n. (λ p f q.
     let s = get_or (all_sections l) i d in
     let stored = h.stored i d m (not_empty _ k n) in
     let c : Contains (all_sections l) s = (i, m, get_or_default (all_sections l) i s d m) in
-    beside_across l (section_home l s) (role_home l r) (get_or (section_fillings l s) k e) (get_or xs p f) laid (stored_home l s stored) (role_there l r loaded kind laid) (homes_back (role_home l r) (section_home l s) (section_apart l r s loaded laid (lies_of l s laid c) stored)) (h.within i d m k e n) (t.within p f q))))
+    beside_across l (section_home l s) (role_home l r) (get_or (section_fillings l s) k e) (get_or xs p f) laid (stored_home l s stored) (role_there l r loaded kind laid) (homes_back (role_home l r) (section_home l s) (section_apart l r s loaded other laid c stored)) (h.within i d m k e n) (t.within p f q))))
 
 both_beside : (xs ys zs : List Filling) → All (λ (x : Filling). All (AreBeside x) ys) xs → All (λ (x : Filling). All (AreBeside x) zs) xs → All (λ (x : Filling). All (AreBeside x) (ys ++ zs)) xs
 both_beside xs ys zs h k = λ i d m. All-append (AreBeside (get_or xs i d)) ys zs (h i d m) (k i d m)
@@ -138,7 +139,7 @@ stored_beside l kind laid h t =
     AllPairs-append AreBeside (sections_filled l) (slots_filled l ++ blocks_filled l)
     (places_beside l (section_fillings l) laid h)
     (tables_beside l kind laid t)
-    (both_beside (sections_filled l) (slots_filled l) (blocks_filled l) (sections_beside l role.Got (slots_filled l) refl kind laid h t.got) (sections_beside l role.GotRelr (blocks_filled l) refl kind laid h t.block))
+    (both_beside (sections_filled l) (slots_filled l) (blocks_filled l) (sections_beside l role.Got (slots_filled l) refl (λ e. cc) kind laid h t.got) (sections_beside l role.GotRelr (blocks_filled l) refl (λ e. cc) kind laid h t.block))
 
 -- ---- copies
 
@@ -161,7 +162,7 @@ stored_misses l kind laid h t =
 
 pub all_beside : (l : Layout) (w : World) → FilledLaws → IsFilledWell l w → AllPairs AreBeside (all_fillings l w)
 all_beside l w laws h =
-    let have = have_places l laws.carried h.laid h.decided in
+    let have = have_places l laws.carried h.kind h.laid h.decided in
     let t = slot_tables l w laws h in
     let c = copies_of_well l w h in
     let misses = stored_misses l h.kind h.laid have t in
@@ -178,7 +179,7 @@ all_known l w laws h =
     let sites = sites_known l w laws.slots s in
     All-append P (stored_fillings l) (copies_filled l w)
     (All-append P (sections_filled l) (slots_filled l ++ blocks_filled l)
-    (sections_known l w laws.sections h.numbers h.legal h.laid h.decided)
+    (sections_known l w laws.sections h.kind h.numbers h.legal h.laid h.decided)
     (All-append P (slots_filled l) (blocks_filled l) (got_filled l w laws h).known (blocks_known l w (all_sites l) (All-append-right (SiteIsKnown l w) (pair_sites l) (all_sites l) sites))))
     (copies_known l w laws.copies (copies_of_well l w h))
 
@@ -238,7 +239,7 @@ packed_there l w laws h beside known =
     let same = all_packed l w in
     let low = subst (All (λ (a : ℕ). a < 2 ^ 64)) same (All-made (IsKnown w m) (λ (a : ℕ). a < 2 ^ 64) packed_in xs (λ x k. place_low w m x k) known) in
     let differ = subst (AllPairs (λ (a b : ℕ). a ≢ b)) same (places_differ w m xs known beside) in
-    subst (λ (ps : List ℕ). IsPermutation ps (places (tables_of l).words)) (sym same) (packed_sorted l laws.flat laws.found laws.changes.order (blocks_whole l laws.blocks h.laid h.whole) low differ)
+    subst (λ (ps : List ℕ). IsPermutation ps (places (tables_of l).words)) (sym same) (packed_sorted l h.laid laws.flat laws.found laws.changes.order (blocks_whole l laws.blocks h.laid h.whole) low differ)
 
 -- ---- the tables
 

@@ -1,19 +1,25 @@
 -- Input sections without data, in sections that have bytes in the file: their bytes are zeros, and stay so.
+use Rattle.std.specs.List.{flat_map}
+use Rattle.wild_laid.specs.Laid.{as_loaded}
+use Rattle.wild_geometry.specs.Laid.{IsLaid}
+use Rattle.wild_geometry.proofs.StoodSections.{listed_section}
+use Rattle.wild_geometry.proofs.KeptItems.{input_stands, turned_fields}
 use Rattle.std.proofs.Common.{◌≡◌, ℕ, zero, suc, ◌+◌, ◌<◌, ◌≤◌, ◌==◌, Bool, true, false, not, ◌&&◌, List, [], length, get_or, replicate, refl, sym, ap, ◌∙◌, arith, subst}
-use Rattle.std.specs.Prelude.{Option, Some, All, slice_get, slice_index, if◌then◌else◌}
+use Rattle.std.specs.Prelude.{Option, Some, All, slice_get, slice_index, if◌then◌else◌, option_to_list}
 use Rattle.std.proofs.lemmas.Bool.{ne_eqb}
 use Rattle.std.proofs.lemmas.List.{length-replicate, get_or-replicate}
 use Rattle.std.proofs.lemmas.List.Elements.{All-nil}
 use Rattle.wild_words.specs.Words.{Stands}
 use Rattle.wild_types.specs.declared.part.Part.{Part}
 use Rattle.wild_types.specs.declared.section.Section.{Section}
+use Rattle.wild_types.specs.declared.input.Slot.TheVariants as slot
+use Rattle.wild_types.specs.declared.input.InputRelocation.{InputRelocation}
 use Rattle.wild_types.specs.declared.input.InputSection.{InputSection}
 use Rattle.wild_types.specs.declared.file.File.{File}
 use Rattle.wild_types.specs.declared.layout.Layout.{Layout}
-use Rattle.wild_types.specs.Lookups.{without_data, section_of, section_of_part, takes_file_bytes, is_loaded, is_filled, is_read}
+use Rattle.wild_types.specs.Lookups.{without_data, section_of, section_of_part, takes_file_bytes, is_loaded, is_filled, is_read, allocated, has_relocations}
 use Rattle.wild_layout.specs.Sites.{sites, section_bytes}
 use Rattle.wild_layout.specs.Image.{bytes, offset_in}
-use Rattle.wild_layout.specs.Loadable.{IsMapped}
 use Rattle.wild_layout.specs.Geometry.{IsLaidOut}
 use Rattle.wild_loader.specs.declared.memory.Memory.{Memory}
 use Rattle.wild_loader.specs.declared.world.World.{World}
@@ -21,17 +27,14 @@ use Rattle.wild_loader.specs.Memory.{byte_in}
 use Rattle.wild_loader.specs.SegmentLaws.{BytesAreLoaded}
 use Rattle.wild_meaning.specs.Section.{HasFileBytes}
 use Rattle.wild_meaning.specs.Linked.{IsBlank}
-use Rattle.wild_meaning.proofs.BitLemmas.{alloc_bit, loaded_is}
-use Rattle.wild_loaded.specs.Memory.{IsStored, image_memory}
+use Rattle.wild_meaning.proofs.BitLemmas.{alloc_bit}
+use Rattle.wild_loaded.specs.Memory.{IsStored, image_memory, Filled}
 use Rattle.wild_loaded.specs.Laws.{BlanksAreStored}
-use Rattle.wild_loaded.proofs.Carried.{each_at, section_listed, byte_held}
+use Rattle.wild_loaded.proofs.Carried.{kept_carried, filled_held}
 use Rattle.wild_loaded.proofs.Fillings.{Misses}
-use Rattle.wild_loaded.proofs.Loads.{piece_stands}
 use Rattle.wild_loaded.proofs.MadeChanges.{IsMovedImage, kept_at}
 use Rattle.wild_loaded.proofs.OutsideTables.{section_misses}
-use Rattle.wild_loaded.proofs.PartsHeld.{byte_stands}
-use Rattle.wild_loaded.proofs.SectionFillings.{section_fillings}
-use Rattle.wild_loaded.proofs.SectionsMoved.{listed_section}
+use Rattle.wild_loaded.proofs.SectionFillings.{section_fillings, section_filling}
 
 -- the section owns bytes of the image
 takes : (l : Layout) (n : ℕ) → HasFileBytes l n → takes_file_bytes l (section_of l n) ≡ true
@@ -40,11 +43,36 @@ takes l n h =
     let none = ne_eqb _ _ h.filled in
     subst (λ (k : ℕ). takes_file_bytes l k ≡ true) (sym at) (subst (λ (o : Option Section). not (without_data o) ≡ true) (sym h.found) (ap not none))
 
-blank_filled : (l : Layout) (s : InputSection) → IsBlank l s → HasFileBytes l s.part → 1 ≤ s.size → is_filled l s ≡ true
-blank_filled l s b f some =
-    let loaded = loaded_is s.slot b.loaded in
+-- the section as it stands
+pub record StandsBlank (l : Layout) (s : InputSection) : Type 0 where
+  pub section : InputSection
+  pub input : IsLaid l section
+  pub loaded : section.slot ≡ slot.Loaded
+  pub blank : section.nobits ≡ true
+  pub part : section.part ≡ s.part
+  pub address : section.address ≡ s.address
+  pub size : section.size ≡ s.size
+  pub flags : section.flags ≡ s.flags
+
+blank_stands : (l : Layout) (s : InputSection) → IsLaidOut l → IsBlank l s → StandsBlank l s
+blank_stands l s laid b =
+    let t = input_stands l s laid b.input b.loaded in
+    let e = t.is in
+    let same = turned_fields (as_loaded s) in
+    record {
+      section = t.section;
+      input = t.input;
+      loaded = ap (λ (x : InputSection). x.slot) e ∙ same.slot;
+      blank = ap (λ (x : InputSection). x.nobits) e ∙ same.nobits ∙ b.blank;
+      part = ap (λ (x : InputSection). x.part) e ∙ same.part;
+      address = ap (λ (x : InputSection). x.address) e ∙ same.address;
+      size = ap (λ (x : InputSection). x.size) e ∙ same.size;
+      flags = ap (λ (x : InputSection). x.flags) e ∙ same.flags;
+    }
+
+blank_filled : (l : Layout) (s : InputSection) → s.slot ≡ slot.Loaded → s.nobits ≡ true → HasFileBytes l s.part → 1 ≤ s.size → is_filled l s ≡ true
+blank_filled l s loaded blank f some =
     let size : (s.size == 0) ≡ false = ne_eqb s.size 0 (λ e. omega (arith, e, some)) in
-    let blank = b.blank in
     let there = takes l s.part f in
     rw (loaded, blank, size, there) refl
 
@@ -56,37 +84,40 @@ zero_bytes : (l : Layout) (f : File) (s : InputSection) → s.nobits ≡ true �
 unfolding section_bytes
 zero_bytes l f s e = rw e refl
 
-blank_stored : (l : Layout) (s : InputSection) → IsLaidOut l → IsBlank l s → HasFileBytes l s.part → 1 ≤ s.size → IsStored l s
-blank_stored l s laid b f some =
-    let filled = blank_filled l s b f some in
-    record {
-      filled = filled;
-      full = λ f. ap (λ (bs : List ℕ). length bs) (zero_bytes l f s b.blank) ∙ length-replicate s.size 0;
-      carried = each_at (IsMapped l) l s laid.mapped b.input filled (alloc_bit s.flags b.room);
-    }
+blank_stored : (l : Layout) (s : InputSection) → IsLaidOut l → IsLaid l s → allocated s.flags ≡ true → is_filled l s ≡ true → 1 ≤ s.size → IsStored l s
+blank_stored l s laid input room filled some = record { some = some; place = Filled filled; carried = kept_carried l s laid input room filled }
 
 pub blanks_stored : BytesAreLoaded → BlanksAreStored
 blanks_stored law = λ l w s k legal laid b f lt.
-    let stored = blank_stored l s laid b f (omega (arith, lt)) in
-    let at = offset_in (slice_get l.parts s.part) s.address in
-    let owner = b.input.file in
-    let st : Stands (bytes l) at (section_bytes l owner s) = piece_stands l (record { at = at; bytes = section_bytes l owner s }) laid (section_listed l s b.input stored.filled) in
-    let n : length (zeros s) ≡ s.size = length-replicate s.size 0 in
-    let owned = subst (λ (bs : List ℕ). Stands (bytes l) at bs) (zero_bytes l owner s b.blank) st in
-    let c = stored.carried k lt in
-    let held = byte_held l w s k c.0 (zeros s) law legal laid c.1 (byte_stands (bytes l) at k (zeros s) (omega (arith, lt, n)) owned) in
-    let e : w.base + s.address + k ≡ w.base + (s.address + k) = omega arith in
-    subst (λ (a : ℕ). byte_in (image_memory l w) a ≡ Some 0) e (held ∙ ap Some (get_or-replicate s.size k 0 0 lt))
+    let t = blank_stands l s laid b in
+    let size = t.size in
+    let address = t.address in
+    let filled = blank_filled l t.section t.loaded t.blank (subst (HasFileBytes l) (sym t.part) f) (omega (arith, size, lt)) in
+    let room = subst (λ (n : ℕ). allocated n ≡ true) (sym t.flags) (alloc_bit s.flags b.room) in
+    let long : length (zeros t.section) ≡ t.section.size = length-replicate t.section.size 0 in
+    let held = filled_held l w t.section law legal laid t.input room filled (zeros t.section) (zero_bytes l t.input.owner t.section t.blank) long k (omega (arith, long, size, lt)) in
+    let e : w.base + t.section.address + k ≡ w.base + (s.address + k) = omega (arith, address) in
+    subst (λ (a : ℕ). byte_in (image_memory l w) a ≡ Some 0) e (held ∙ ap Some (get_or-replicate t.section.size k 0 0 (omega (arith, size, lt))))
 
 -- no entry fills any
-unfilled : (l : Layout) (s : InputSection) (a : ℕ) → IsBlank l s → All (Misses a) (section_fillings l s)
-unfilled l s a b =
-    let loaded = loaded_is s.slot b.loaded in
-    let blank = b.blank in
-    let none : section_fillings l s ≡ [] = rw (loaded, blank) refl in
+unfilled : (l : Layout) (s : InputSection) (a : ℕ) → s.nobits ≡ true → All (Misses a) (section_fillings l s)
+unfilled l s a blank =
+    let none : section_fillings l s ≡ [] = by_reads (has_relocations s.slot) s.nobits blank in
     subst (All (Misses a)) (sym none) (All-nil (Misses a))
+  where
+    by_reads : (b n : Bool) → n ≡ true → (if b && not n then flat_map (λ (r : InputRelocation). option_to_list (section_filling l s r)) s.relocations else []) ≡ []
+    by_reads true true e = refl
+    by_reads false true e = refl
+    by_reads b false e = cc
 
 pub blank_moved : (l : Layout) (w : World) (m : Memory) (s : InputSection) (k : ℕ) → BlanksAreStored → IsMovedImage l w m → IsBlank l s → HasFileBytes l s.part → k < s.size → byte_in m (w.base + (s.address + k)) ≡ Some 0
 blank_moved l w m s k law h b f lt =
-    let stored = blank_stored l s h.well.laid b f (omega (arith, lt)) in
-    kept_at l w m (s.address + k) h (section_misses l w m s k h (listed_section l s b.input) stored lt (unfilled l s (s.address + k) b)) ∙ law l w s k h.well.legal h.well.laid b f lt
+    let t = blank_stands l s h.well.laid b in
+    let size = t.size in
+    let address = t.address in
+    let filled = blank_filled l t.section t.loaded t.blank (subst (HasFileBytes l) (sym t.part) f) (omega (arith, size, lt)) in
+    let room = subst (λ (n : ℕ). allocated n ≡ true) (sym t.flags) (alloc_bit s.flags b.room) in
+    let stored = blank_stored l t.section h.well.laid t.input room filled (omega (arith, size, lt)) in
+    let same = kept_at l w m (t.section.address + k) h (section_misses l w m t.section k h (listed_section l t.section t.input) stored (omega (arith, size, lt)) (unfilled l t.section (t.section.address + k) t.blank)) in
+    let e : t.section.address + k ≡ s.address + k = omega (arith, address) in
+    subst (λ (a : ℕ). byte_in m (w.base + a) ≡ byte_in (image_memory l w) (w.base + a)) e same ∙ law l w s k h.well.legal h.well.laid b f lt

@@ -1,36 +1,47 @@
 -- The bytes of kept sections in the memory of an image that no entry has changed.
-use Rattle.std.proofs.Common.{◌≡◌, ℕ, zero, suc, ◌+◌, ◌-◌, ◌^◌, ◌<◌, ◌≤◌, inl, inr, Bool, true, false, List, [], ◌∷◌, length, get_or, replicate, refl, sym, arith, subst}
+use Rattle.std.specs.List.{flat_map}
+use Rattle.wild_loaded.specs.Laws.{PartsAreStored}
+use Rattle.wild_slots.specs.Stand.{StandsAt}
+use Rattle.wild_laid.specs.Laid.{laid_files, sorted_inputs, of_last_file}
+use Rattle.wild_loaded.proofs.TableHomes.{role_home, role_there}
+use Rattle.wild_loaded.proofs.FramesStand.{frames_stand, never_framed}
+use Rattle.wild_loaded.proofs.SectionsAside.{frame_inside}
+use Rattle.wild_loaded.proofs.SectionsApart.{filled_place}
+use Rattle.wild_geometry.proofs.FrameSizes.{data_bytes}
+use Rattle.wild_geometry.proofs.StoodSections.{each_at, listed_section}
+use Rattle.wild_geometry.specs.Laid.{IsOf, Own, Ordered, IsLaid, IsKeptLaid, file_place}
+use Rattle.std.proofs.Common.{◌≡◌, ℕ, zero, suc, ◌+◌, ◌-◌, ◌^◌, ◌<◌, ◌≤◌, inl, inr, Bool, true, false, List, [], ◌∷◌, length, get_or, replicate, refl, sym, arith, subst, ◌++◌}
 use Rattle.std.specs.Prelude.{All, Contains, Some, slice_get, slice_index, if◌then◌else◌, ◌==◌, not}
-use Rattle.std.proofs.lemmas.Bool.{cases_Bool, eqb-true, and_parts}
+use Rattle.std.proofs.lemmas.Bool.{cases_Bool, eqb-true, and_parts, not-true}
 use Rattle.std.proofs.lemmas.List.Elements.{All-contains, Contains-append_left, Contains-append_right}
 use Rattle.wild_records.specs.Abi.Segment.{pt_load}
 use Rattle.wild_words.specs.Words.{Stands}
 use Rattle.wild_words.specs.Overlay.{Piece, overlay, AreApart}
 use Rattle.wild_words.proofs.OverlayLemmas.{length-overlay}
 use Rattle.wild_types.specs.declared.section.Segment.{Segment}
+use Rattle.wild_types.specs.declared.part.Role.TheVariants as role
+use Rattle.wild_types.specs.declared.input.Slot.{Slot}
+use Rattle.wild_types.specs.declared.input.Slot.TheVariants as slot
 use Rattle.wild_types.specs.declared.input.InputSection.{InputSection}
 use Rattle.wild_types.specs.Item.{item_of}
 use Rattle.wild_types.specs.declared.file.File.{File}
 use Rattle.wild_types.specs.declared.file.Group.{Group}
 use Rattle.wild_types.specs.declared.layout.Layout.{Layout}
-use Rattle.wild_types.specs.Lookups.{image_size, is_filled, is_loaded, is_read}
-use Rattle.wild_layout.specs.Sites.{sites, section_bytes}
-use Rattle.wild_layout.specs.Image.{bytes, pieces, section_piece, section_pieces, thunk_pieces, file_pieces, table_pieces, owned_pieces, group_pieces, offset_in}
+use Rattle.wild_types.specs.Lookups.{is_filled, is_loaded, is_read, is_frame, has_relocations, allocated}
+use Rattle.wild_layout.specs.Sites.{sites, section_bytes, item_bytes}
+use Rattle.wild_layout.specs.Image.{bytes, pieces, section_piece, section_pieces, thunk_pieces, file_pieces, table_pieces, owned_pieces, group_pieces, offset_in, sorted_piece, of_first_file, once_pieces}
 use Rattle.wild_layout.specs.SectionPlaces.{SectionLies}
-use Rattle.wild_layout.specs.Loadable.{SegmentLoads, IsMapped, IsCarried}
+use Rattle.wild_layout.specs.Loadable.{IsMapped, IsCarried, CarriesByte}
 use Rattle.wild_layout.specs.Geometry.{IsLaidOut}
 use Rattle.wild_layout.specs.Faults.{flat_map_from}
-use Rattle.wild_meaning.specs.World.{IsLegal}
-use Rattle.wild_meaning.specs.Item.{IsKeptSection, IsInput}
+use Rattle.wild_meaning.specs.World.{IsLegal, IsLoadable}
 use Rattle.wild_loader.specs.declared.world.World.{World}
 use Rattle.wild_loader.specs.declared.memory.Memory.{Memory}
 use Rattle.wild_loader.specs.Memory.{Holds, byte_in}
 use Rattle.wild_loader.specs.SegmentLaws.{BytesAreLoaded}
-use Rattle.wild_meaning.proofs.BitLemmas.{alloc_bit, kept_is_read}
-use Rattle.wild_geometry.proofs.Rooms.{lies_size}
-use Rattle.wild_loaded.specs.Memory.{IsStored, image_memory}
+use Rattle.wild_loaded.specs.Memory.{IsStored, image_memory, Filled, Framed}
 use Rattle.wild_layout.proofs.SiteLemmas.{Contains-flat_map}
-use Rattle.wild_loaded.proofs.PartsHeld.{byte_stands, carries_section, byte_carried}
+use Rattle.wild_loaded.proofs.PartsHeld.{byte_stands, byte_carried, byte_below, IsHeldAt, stands_held}
 use Rattle.wild_loaded.proofs.Loads.{piece_stands}
 
 -- ---- sections
@@ -43,33 +54,35 @@ Contains-flat_map_from f i (z ∷ zs) x y c h = at f i z zs x y c.0 c.1 c.2 h (�
     at f i z zs x y zero l e h again = Contains-append_left (f i z) (flat_map_from f (i + 1) zs) y (rw e (h i))
     at f i z zs x y (suc k) l e h again = Contains-append_right (f i z) (flat_map_from f (i + 1) zs) y (again (k, omega (arith, l), e))
 
-pub each_at : (P : InputSection → Type 0) (l : Layout) (s : InputSection) → All (λ (g : Group). All (λ (f : File). All P f.sections) g.files) l.groups → IsInput l s → P s
-each_at P l s h k =
-    All-contains P k.file.sections s (All-contains (λ (f : File). All P f.sections) k.group.files k.file (All-contains (λ (g : Group). All (λ (f : File). All P f.sections) g.files) l.groups k.group h k.grouped) k.filed) k.listed
+-- what stands beside the sections of a file
+abbrev sorted_and_rest : Layout → File → List Piece
+sorted_and_rest l f = of_last_file f (flat_map (sorted_piece l) (sorted_inputs l)) ++ (of_first_file f (once_pieces l) ++ thunk_pieces l f)
 
-pub section_listed : (l : Layout) (s : InputSection) (k : IsInput l s) → is_filled l s ≡ true → Contains (pieces l) (record { at = offset_in (slice_get l.parts s.part) s.address; bytes = section_bytes l k.file s })
+-- a section that owns bytes is a piece of the image
+pub section_listed : (l : Layout) (s : InputSection) (k : IsLaid l s) → is_filled l s ≡ true → Contains (pieces l) (record { at = offset_in (slice_get l.parts s.part) s.address; bytes = section_bytes l k.owner s })
 unfolding pieces
 section_listed l s k filled =
-    let piece : Piece = record { at = offset_in (slice_get l.parts s.part) s.address; bytes = section_bytes l k.file s } in
-    let one : section_piece l k.file s ≡ piece ∷ [] = rw filled refl in
-    let here : Contains (section_piece l k.file s) piece = subst (λ (ps : List Piece). Contains ps piece) (sym one) (0, omega arith, refl) in
-    let in_file = Contains-flat_map (section_piece l k.file) k.file.sections s piece k.listed here in
-    let owned = Contains-append_left (section_pieces l k.file) (thunk_pieces l k.file) piece in_file in
-    let in_group = Contains-flat_map (file_pieces l) k.group.files k.file piece k.filed owned in
+    let piece : Piece = record { at = offset_in (slice_get l.parts s.part) s.address; bytes = section_bytes l k.owner s } in
+    let in_file = of_file k.file k.owner s piece k.listed (subst (λ (b : Bool). Contains (if b then piece ∷ [] else []) piece) (sym filled) (0, omega arith, refl)) in
+    let in_group = Contains-flat_map (file_pieces l) (laid_files l k.group) k.file piece k.filed in_file in
     Contains-flat_map_from (group_pieces l) 0 l.groups k.group piece k.grouped (λ n. Contains-append_right (table_pieces l n k.group) (owned_pieces l k.group) piece in_group)
-
-pub data_bytes : (l : Layout) (f : File) (s : InputSection) → s.nobits ≡ false → section_bytes l f s ≡ overlay (sites l (item_of l f s)) s.bytes
-unfolding section_bytes
-data_bytes l f s n = by_bits (s.nobits) n
   where
-    by_bits : (b : Bool) → b ≡ false → (if b then replicate s.size 0 else overlay (sites l (item_of l f s)) s.bytes) ≡ overlay (sites l (item_of l f s)) s.bytes
-    by_bits false h = refl
-    by_bits true h = cc
+    of_file : (f owner : File) (s : InputSection) (p : Piece) → IsOf l f owner s → Contains (section_piece l owner s) p → Contains (file_pieces l f) p
+    of_file f owner s p (Own e c) one =
+        let here = subst (λ (o : File). Contains (section_piece l o s) p) e one in
+        Contains-append_left (section_pieces l f) (sorted_and_rest l f) p (Contains-flat_map (section_piece l f) f.sections s p c here)
+    of_file f owner s p (Ordered last x c e i) one =
+        let here : Contains (sorted_piece l x) p = subst (λ (t : InputSection). Contains (section_piece l x.file t) p) i (subst (λ (o : File). Contains (section_piece l o s) p) e one) in
+        let all = Contains-flat_map (sorted_piece l) (sorted_inputs l) x p c here in
+        let role : Contains (of_last_file f (flat_map (sorted_piece l) (sorted_inputs l))) p = subst (λ (b : Bool). Contains (if b then flat_map (sorted_piece l) (sorted_inputs l) else []) p) (sym last) all in
+        Contains-append_right (section_pieces l f) (sorted_and_rest l f) p (Contains-append_left (of_last_file f (flat_map (sorted_piece l) (sorted_inputs l))) (of_first_file f (once_pieces l) ++ thunk_pieces l f) p role)
 
--- a section that is read and owns no bytes has none
-pub not_filled : (l : Layout) (s : InputSection) → is_read s ≡ true → s.nobits ≡ false → is_filled l s ≡ false → length s.bytes ≡ 0
-not_filled l s read n f =
-    let loaded = (and_parts (is_loaded s.slot) (not s.nobits) read).0 in
+-- a section that is read and is none of frames owns bytes, where it has some
+pub not_filled : (l : Layout) (s : InputSection) → is_read s ≡ true → is_frame s.slot ≡ false → is_filled l s ≡ false → length s.bytes ≡ 0
+not_filled l s read plain f =
+    let parts = and_parts (has_relocations s.slot) (not s.nobits) read in
+    let loaded = loaded_slot s.slot parts.0 plain in
+    let n = not-true s.nobits parts.1 in
     let e : not (length s.bytes == 0) ≡ false = simp (loaded, n) at f in
     none (length s.bytes) (length s.bytes == 0) refl e
   where
@@ -77,66 +90,86 @@ not_filled l s read n f =
     none k true e h = eqb-true k 0 e
     none k false e h = cc
 
+    loaded_slot : (k : Slot) → has_relocations k ≡ true → is_frame k ≡ false → is_loaded k ≡ true
+    loaded_slot slot.Loaded h p = refl
+    loaded_slot slot.Frame h p = cc
+    loaded_slot other h p = cc
+
 Holds-empty : (m : Memory) (a : ℕ) (bs : List ℕ) → length bs ≡ 0 → Holds m a bs
 Holds-empty m a bs h = λ k lt. absurd (omega (arith, h, lt))
 
--- a byte of a section that a segment carries
-pub byte_held : (l : Layout) (w : World) (s : InputSection) (k : ℕ) (h : Segment) (part : List ℕ) → BytesAreLoaded → IsLegal l w → IsLaidOut l → IsCarried l s k h → Stands (bytes l) (offset_in (slice_get l.parts s.part) s.address + k) (slice_index part k ∷ []) → byte_in (image_memory l w) (w.base + s.address + k) ≡ Some (slice_index part k)
-byte_held l w s k h part law legal laid c st =
-    let e : w.base + (s.address + k) ≡ w.base + s.address + k = omega arith in
-    subst (λ (a : ℕ). byte_in (image_memory l w) a ≡ Some (slice_index part k)) e (byte_carried l w h (offset_in (slice_get l.parts s.part) s.address + k) (s.address + k) (slice_index part k) law legal laid (carries_section l s k h c) st)
+-- a section with data has it
+has_data : (s : InputSection) → is_read s ≡ true → s.nobits ≡ false
+has_data s read = not-true s.nobits (and_parts (has_relocations s.slot) (not s.nobits) read).1
+
+carried_byte : (l : Layout) (s : InputSection) (k : ℕ) → is_filled l s ≡ true → (h : Segment) × IsCarried l s k h → (h : Segment) × CarriesByte l h (file_place l s + k) (s.address + k)
+carried_byte l s k filled c = (c.0, subst (λ (n : ℕ). CarriesByte l c.0 (n + k) (s.address + k)) (sym (filled_place l s filled)) (record { listed = c.1.listed; loaded = c.1.loaded; from = c.1.from; to = c.1.to; distance = c.1.distance }))
 
 -- a kept section that owns bytes has each of them carried
-pub kept_carried : (l : Layout) (s : InputSection) → IsLaidOut l → IsKeptSection l s → is_filled l s ≡ true → (k : ℕ) → k < s.size → (h : Segment) × IsCarried l s k h
-kept_carried l s laid k t = each_at (IsMapped l) l s laid.mapped k.input t (alloc_bit s.flags k.room)
+pub kept_carried : (l : Layout) (s : InputSection) → IsLaidOut l → IsLaid l s → allocated s.flags ≡ true → is_filled l s ≡ true → (k : ℕ) → k < s.size → (h : Segment) × CarriesByte l h (file_place l s + k) (s.address + k)
+kept_carried l s laid input room filled k lt = carried_byte l s k filled (each_at (IsMapped l) l s laid.mapped input filled room k lt)
+
+-- those of frames are carried with their part
+frame_carried : (l : Layout) (s : InputSection) → IsLoadable l.kind → IsLaidOut l → IsLaid l s → is_frame s.slot ≡ true → (k : ℕ) → k < s.size → (h : Segment) × CarriesByte l h (file_place l s + k) (s.address + k)
+frame_carried l s kind laid input frame k lt =
+    let h = frame_inside l s laid (listed_section l s input) frame in
+    let from = h.from in
+    let to = h.to in
+    let e = h.distance (omega (arith, lt)) in
+    let c = role_there l role.EhFrame refl kind laid (s.address + k - (role_home l role.EhFrame).address) (omega (arith, from, to, lt)) in
+    let place : (role_home l role.EhFrame).offset + (s.address + k - (role_home l role.EhFrame).address) ≡ file_place l s + k = omega (arith, e, from) in
+    let at : (role_home l role.EhFrame).address + (s.address + k - (role_home l role.EhFrame).address) ≡ s.address + k = omega (arith, from) in
+    (c.0, subst (λ (n : ℕ). CarriesByte l c.0 n (s.address + k)) place (subst (λ (n : ℕ). CarriesByte l c.0 ((role_home l role.EhFrame).offset + (s.address + k - (role_home l role.EhFrame).address)) n) at c.1))
 
 -- and has them in the file
-pub stored_kept : (l : Layout) (s : InputSection) → IsLaidOut l → IsKeptSection l s → 1 ≤ length s.bytes → IsStored l s
-stored_kept l s laid kept some =
-    let read = kept_is_read l s kept in
-    let filled : is_filled l s ≡ true = elim (cases_Bool (is_filled l s)) [
-      | inl t ↦ t
-      | inr f ↦ (let none = not_filled l s read kept.has_data f in absurd (omega (arith, none, some)))
-    ] in
-    record {
-      filled = filled;
-      full = lies_size l s (each_at (SectionLies l) l s laid.inputs kept.input) filled;
-      carried = kept_carried l s laid kept filled;
-    }
+pub stored_kept : (l : Layout) (s : InputSection) → IsLoadable l.kind → IsLaidOut l → IsKeptLaid l s → 1 ≤ length s.bytes → IsStored l s
+stored_kept l s kind laid kept some =
+    let full = (each_at (SectionLies l) l s laid.inputs kept.input).bytes kept.reads in
+    elim (cases_Bool (is_frame s.slot)) [
+      | inl frame ↦ record { some = omega (arith, full, some); place = Framed frame; carried = frame_carried l s kind laid kept.input frame }
+      | inr plain ↦ elim (cases_Bool (is_filled l s)) [
+        | inl filled ↦ record { some = omega (arith, full, some); place = Filled filled; carried = kept_carried l s laid kept.input (kept.room plain) filled }
+        | inr f ↦ (let none = not_filled l s kept.reads plain f in absurd (omega (arith, none, some)))
+      ]
+    ]
+
+-- the bytes of a section that owns them are in memory at its address
+pub filled_held : (l : Layout) (w : World) (s : InputSection) → BytesAreLoaded → IsLegal l w → IsLaidOut l → (k : IsLaid l s) → allocated s.flags ≡ true → is_filled l s ≡ true → (bs : List ℕ) → section_bytes l k.owner s ≡ bs → length bs ≡ s.size → Holds (image_memory l w) (w.base + s.address) bs
+filled_held l w s law legal laid k room filled bs is long =
+    let st : Stands (bytes l) (offset_in (slice_get l.parts s.part) s.address) (section_bytes l k.owner s) = piece_stands l (record { at = offset_in (slice_get l.parts s.part) s.address; bytes = section_bytes l k.owner s }) laid (section_listed l s k filled) in
+    let st' = subst (λ (n : ℕ). Stands (bytes l) n bs) (sym (filled_place l s filled)) (subst (λ (xs : List ℕ). Stands (bytes l) (offset_in (slice_get l.parts s.part) s.address) xs) is st) in
+    λ i lt. (
+    let c = kept_carried l s laid k room filled i (omega (arith, long, lt)) in
+    let e : w.base + (s.address + i) ≡ w.base + s.address + i = omega arith in
+    subst (λ (a : ℕ). byte_in (image_memory l w) a ≡ Some (slice_index bs i)) e (byte_carried l w c.0 (file_place l s + i) (s.address + i) (slice_index bs i) law legal laid c.1 (byte_stands (bytes l) (file_place l s) i bs lt st')))
+
+-- the bytes of frames are there with the table of frames
+frame_held : (l : Layout) (w : World) (s : InputSection) → PartsAreStored → IsLoadable l.kind → IsLegal l w → IsLaidOut l → (k : IsLaid l s) → is_frame s.slot ≡ true → 1 ≤ length (item_bytes l (item_of l k.owner s)) → IsHeldAt l w s.address (item_bytes l (item_of l k.owner s))
+frame_held l w s law kind legal laid k frame some = stands_held l w role.EhFrame s.address (item_bytes l (item_of l k.owner s)) law refl kind legal laid some (of_file k.file k.owner k.filed k.listed)
+  where
+    of_file : (f owner : File) → Contains (laid_files l k.group) f → IsOf l f owner s → StandsAt l role.EhFrame s.address (item_bytes l (item_of l owner s))
+    of_file f owner c (Own e own) = subst (λ (o : File). StandsAt l role.EhFrame s.address (item_bytes l (item_of l o s))) (sym e) (frames_stand l k.group f s laid k.grouped c own frame)
+    of_file f owner c (Ordered last x cx e i) = absurd (never_framed l x s cx i frame)
 
 -- the bytes of a kept section are in memory at its address
-pub section_held : (l : Layout) (w : World) (s : InputSection) → BytesAreLoaded → IsLegal l w → IsLaidOut l → (k : IsKeptSection l s) → AreApart (length s.bytes) (sites l (item_of l k.input.file s)) → (lies : SectionLies l s) → Holds (image_memory l w) (w.base + s.address) (overlay (sites l (item_of l k.input.file s)) s.bytes)
-section_held l w s law legal laid k apart lies =
-    let len = length-overlay (sites l (item_of l k.input.file s)) s.bytes apart in
-    let read = kept_is_read l s k in
-    elim (cases_Bool (is_filled l s)) [
-      | inr f ↦ (let none = not_filled l s read k.has_data f in Holds-empty (image_memory l w) (w.base + s.address) _ (omega (arith, len, none)))
-      | inl t ↦ carried l w s law legal laid k t len (lies.bytes read) (kept_carried l s laid k t)
+pub section_held : (l : Layout) (w : World) (s : InputSection) → BytesAreLoaded → PartsAreStored → IsLoadable l.kind → IsLegal l w → IsLaidOut l → (k : IsKeptLaid l s) → AreApart (length s.bytes) (sites l (item_of l k.input.owner s)) → Holds (image_memory l w) (w.base + s.address) (overlay (sites l (item_of l k.input.owner s)) s.bytes)
+section_held l w s law parts kind legal laid k apart =
+    let whole = overlay (sites l (item_of l k.input.owner s)) s.bytes in
+    let len : length whole ≡ length s.bytes = length-overlay (sites l (item_of l k.input.owner s)) s.bytes apart in
+    let full = (each_at (SectionLies l) l s laid.inputs k.input).bytes k.reads in
+    elim (cases_Bool (is_frame s.slot)) [
+      | inl frame ↦ λ i lt. (frame_held l w s parts kind legal laid k.input frame (omega (arith, lt))).held i lt
+      | inr plain ↦ elim (cases_Bool (is_filled l s)) [
+        | inl filled ↦ filled_held l w s law legal laid k.input (k.room plain) filled whole (data_bytes l k.input.owner s (has_data s k.reads)) (omega (arith, len, full))
+        | inr f ↦ (let none = not_filled l s k.reads plain f in Holds-empty (image_memory l w) (w.base + s.address) whole (omega (arith, len, none)))
+      ]
     ]
-  where
-    carried : (l : Layout) (w : World) (s : InputSection) → BytesAreLoaded → IsLegal l w → IsLaidOut l → (kept : IsKeptSection l s) → is_filled l s ≡ true → length (overlay (sites l (item_of l kept.input.file s)) s.bytes) ≡ length s.bytes → length s.bytes ≡ s.size → ((k : ℕ) → k < s.size → (h : Segment) × IsCarried l s k h) → Holds (image_memory l w) (w.base + s.address) (overlay (sites l (item_of l kept.input.file s)) s.bytes)
-    carried l w s law legal laid kept t len full c =
-        let f = kept.input.file in
-        let st : Stands (bytes l) (offset_in (slice_get l.parts s.part) s.address) (section_bytes l f s) = piece_stands l (record { at = offset_in (slice_get l.parts s.part) s.address; bytes = section_bytes l f s }) laid (section_listed l s kept.input t) in
-        let st' = subst (λ (xs : List ℕ). Stands (bytes l) (offset_in (slice_get l.parts s.part) s.address) xs) (data_bytes l f s kept.has_data) st in
-        λ k lt. (
-        let h = c k (omega (arith, len, full, lt)) in
-        byte_held l w s k h.0 (overlay (sites l (item_of l f s)) s.bytes) law legal laid h.1 (byte_stands (bytes l) (offset_in (slice_get l.parts s.part) s.address) k (overlay (sites l (item_of l f s)) s.bytes) lt st')
-        )
 
 -- and do not wrap
-pub section_ends : (l : Layout) (w : World) (s : InputSection) → IsLegal l w → IsLaidOut l → IsKeptSection l s → (lies : SectionLies l s) → 1 ≤ length s.bytes → w.base + s.address + length s.bytes ≤ 2 ^ 64
-section_ends l w s legal laid k lies some =
-    let read = kept_is_read l s k in
-    let full = lies.bytes read in
-    elim (cases_Bool (is_filled l s)) [
-      | inr f ↦ (let none = not_filled l s read k.has_data f in absurd (omega (arith, none, some)))
-      | inl t ↦ last l w s legal laid full some (kept_carried l s laid k t (s.size - 1) (omega (arith, full, some)))
-    ]
-  where
-    last : (l : Layout) (w : World) (s : InputSection) → IsLegal l w → IsLaidOut l → length s.bytes ≡ s.size → 1 ≤ length s.bytes → (h : Segment) × IsCarried l s (s.size - 1) h → w.base + s.address + length s.bytes ≤ 2 ^ 64
-    last l w s legal laid full some h =
-        let to = h.1.to in
-        let sizes = (All-contains (SegmentLoads (image_size l)) l.segments h.0 laid.loadable.each h.1.listed).sizes h.1.loaded in
-        let ends = All-contains (λ (g : Segment). g.kind ≡ pt_load → w.base + g.address + g.mem_size ≤ 2 ^ 64) l.segments h.0 legal.ends h.1.listed h.1.loaded in
-        omega (arith, full, some, to, sizes, ends)
+pub section_ends : (l : Layout) (w : World) (s : InputSection) → IsLoadable l.kind → IsLegal l w → IsLaidOut l → (k : IsKeptLaid l s) → 1 ≤ length s.bytes → w.base + s.address + length s.bytes ≤ 2 ^ 64
+section_ends l w s kind legal laid k some =
+    let full = (each_at (SectionLies l) l s laid.inputs k.input).bytes k.reads in
+    let stored = stored_kept l s kind laid k some in
+    let c = stored.carried (s.size - 1) (omega (arith, full, some)) in
+    let e = byte_below l w c.0 (file_place l s + (s.size - 1)) (s.address + (s.size - 1)) legal laid c.1 in
+    omega (arith, e, full, some)

@@ -1,4 +1,5 @@
 -- The dynamic section tells a dynamic linker what it is to do.
+use Rattle.wild_laid.specs.Laid.{laid_files}
 use Rattle.std.proofs.Common.{◌≡◌, ◌≢◌, ℕ, zero, suc, ◌+◌, ◌-◌, ◌*◌, ◌/◌, ◌<◌, ◌≤◌, inl, inr, Bool, true, false, not, ◌&&◌, List, [], ◌∷◌, ◌++◌, length, replicate, refl, sym, ap, ◌∙◌, arith, subst}
 use Rattle.std.specs.Prelude.{Option, Some, None, Ok, All, bit_or, option_map, if◌then◌else◌, ◌==◌, slice_get}
 use Rattle.std.specs.List.{flat_map}
@@ -126,7 +127,7 @@ IsRelative l r = kind_of (processor_of l.machine) r.number ≡ Some kinds.Relati
 
 all_relative : (l : Layout) → NumbersFit l → All (IsRelative l) (all_relatives l)
 all_relative l numbers =
-    All-flat_map (IsRelative l) (λ (g : Group). flat_map (relatives l) g.files) l.groups (λ k d b.
+    All-flat_map (IsRelative l) (λ (g : Group). flat_map (relatives l) (laid_files l g)) l.groups (λ k d b.
     All-flat_map (IsRelative l) (relatives l) _ (λ j e c. of_file (IsRelative l) l _ (λ place v low small. (facts_of l.machine).entries Relative) numbers.symbols))
 
 -- as many as are told

@@ -1,4 +1,7 @@
 -- What relocations have tables fill lies in kept sections, beside each other.
+use Rattle.wild_geometry.proofs.StoodSections.{all_sections, input_of}
+use Rattle.wild_meaning.specs.World.{IsLoadable}
+use Rattle.wild_geometry.specs.Laid.{IsLaid, IsKeptLaid}
 use Rattle.std.proofs.Common.{◌≡◌, ℕ, zero, suc, ◌+◌, ◌<◌, ◌≤◌, ◌⊎◌, inl, inr, Bool, true, false, not, List, [], ◌∷◌, length, get_or, refl, sym, ap, ◌∙◌, arith, subst}
 use Rattle.std.specs.Prelude.{Option, Some, None, All, AllPairs, Contains, option_to_list, if◌then◌else◌, slice_get}
 use Rattle.std.specs.List.{flat_map, range_with_len}
@@ -28,18 +31,12 @@ use Rattle.wild_loaded.specs.Memory.{IsStored, EachDecided}
 use Rattle.wild_loaded.specs.Laws.{SectionsAreCarried}
 use Rattle.wild_loaded.proofs.Fillings.{Filling, AreBeside}
 use Rattle.wild_loaded.proofs.KeptSections.{IsKeptWell, kept_well}
-use Rattle.wild_loaded.proofs.SectionsApart.{all_sections, sections_of, section_home}
+use Rattle.wild_loaded.proofs.SectionsApart.{section_home}
 use Rattle.wild_loaded.proofs.Homes.{LiesIn}
 use Rattle.wild_loaded.proofs.PlacesApart.{HavePlaces}
 use Rattle.wild_loaded.proofs.SectionFillings.{section_filling, section_fillings, IsFilledBy, filled_by, filling_decided}
 
 -- ---- the section of a filling
-
-pub input_of : (l : Layout) (s : InputSection) → Contains (all_sections l) s → IsInput l s
-input_of l s c =
-    let g = Contains-from_flat_map sections_of l.groups s c in
-    let f = Contains-from_flat_map (λ (f : File). f.sections) g.0.files s g.2 in
-    record { group = g.0; grouped = g.1; file = f.0; filed = f.1; listed = f.2 }
 
 -- a filling is that of a relocation
 pub record IsFillingOf (l : Layout) (s : InputSection) (x : Filling) : Type 0 where
@@ -69,10 +66,6 @@ filling_known l s x c = by_test (is_read s) refl c
     by_test false e c = absurd (omega (arith, c.1))
     by_test true e c = found e (Contains-from_flat_map (λ (r : InputRelocation). option_to_list (section_filling l s r)) s.relocations x c)
 
-loaded_slot : (k : Slot) → is_loaded k ≡ true → IsLoadedSlot k
-loaded_slot slot.Loaded h = tt
-loaded_slot other h = cc
-
 -- what is known of the relocation of a filling
 pub record IsFilledThere (l : Layout) (block : ℕ) (s : InputSection) (x : Filling) : Type 0 where
   pub filling : IsFillingOf l s x
@@ -81,15 +74,14 @@ pub record IsFilledThere (l : Layout) (block : ℕ) (s : InputSection) (x : Fill
   pub has : HasDecision l (item_with block s) filling.index filling.relocation by.decision
   pub ends : filling.relocation.offset + x.width ≤ length s.bytes
 
-pub filled_there : (l : Layout) (s : InputSection) (x : Filling) → IsLaidOut l → EachDecided l → (input : IsInput l s) → IsFillingOf l s x → IsFilledThere l (block_for l input.file s) s x
+pub filled_there : (l : Layout) (s : InputSection) (x : Filling) → IsLaidOut l → EachDecided l → (input : IsLaid l s) → IsFillingOf l s x → IsFilledThere l (block_for l input.owner s) s x
 filled_there l s x laid decided input k =
-    let block = block_for l input.file s in
-    let loaded = and_parts (is_loaded s.slot) (not s.nobits) k.reads in
+    let block = block_for l input.owner s in
     let d = (decided s input k.reads).each k.index k.within in
     let same = filling_decided l block s k.index k.relocation x k.listed k.given in
     let made = sym same ∙ d.1 in
     let by = filled_by l block s k.relocation x d.0 made k.given in
-    let kept : IsKeptSection l s = record { input = input; loaded = loaded_slot s.slot loaded.0; room = bit_alloc s.flags by.room; has_data = not-true s.nobits loaded.1 } in
+    let kept : IsKeptLaid l s = record { input = input; reads = k.reads; room = λ plain. by.room } in
     let well = kept_well l s laid decided kept in
     let lies = holds_at (FieldLies l.machine (length s.bytes)) s.relocations k.index k.relocation k.listed well.fields in
     let ends = field_lies l (item_with block s) k.relocation by.written.size by.field lies in
@@ -166,15 +158,15 @@ one_filling l s r = by_option (section_filling l s r)
 filling_made : (l : Layout) (s : InputSection) (x : Filling) (i : ℕ) (d : InputRelocation) → is_read s ≡ true → i < length s.relocations → Contains (option_to_list (section_filling l s (get_or s.relocations i d))) x → IsFillingOf l s x
 filling_made l s x i d reads within c = record { reads = reads; index = i; relocation = get_or s.relocations i d; within = within; listed = slice_get-get_or s.relocations i d within; given = one_given (section_filling l s (get_or s.relocations i d)) x c }
 
-both_beside : (l : Layout) (s : InputSection) (x y : Filling) (i j : ℕ) (d : InputRelocation) → IsLaidOut l → EachDecided l → IsInput l s → is_read s ≡ true → i < j → j < length s.relocations → Contains (option_to_list (section_filling l s (get_or s.relocations i d))) x → Contains (option_to_list (section_filling l s (get_or s.relocations j d))) y → AreBeside x y
+both_beside : (l : Layout) (s : InputSection) (x y : Filling) (i j : ℕ) (d : InputRelocation) → IsLaidOut l → EachDecided l → IsLaid l s → is_read s ≡ true → i < j → j < length s.relocations → Contains (option_to_list (section_filling l s (get_or s.relocations i d))) x → Contains (option_to_list (section_filling l s (get_or s.relocations j d))) y → AreBeside x y
 unfolding filling_made filled_there
 both_beside l s x y i j d laid decided input reads lt within cx cy =
     let kx = filling_made l s x i d reads (omega (arith, lt, within)) cx in
     let ky = filling_made l s y j d reads within cy in
-    beside_there l (block_for l input.file s) s x y (filled_there l s x laid decided input kx) (filled_there l s y laid decided input ky) lt
+    beside_there l (block_for l input.owner s) s x y (filled_there l s x laid decided input kx) (filled_there l s y laid decided input ky) lt
 
 -- the fillings of one section lie beside each other
-fillings_beside : (l : Layout) (s : InputSection) → IsLaidOut l → EachDecided l → IsInput l s → AllPairs AreBeside (section_fillings l s)
+fillings_beside : (l : Layout) (s : InputSection) → IsLaidOut l → EachDecided l → IsLaid l s → AllPairs AreBeside (section_fillings l s)
 fillings_beside l s laid decided input = by_test (is_read s) refl
   where
     by_test : (b : Bool) → is_read s ≡ b → AllPairs AreBeside (if b then flat_map (λ (r : InputRelocation). option_to_list (section_filling l s r)) s.relocations else [])
@@ -197,15 +189,15 @@ width_some l block s x h =
     let some = field_has_bytes l h.filling.relocation h.by.written.size h.by.field in
     omega (arith, width, some)
 
-pub stored_there : (l : Layout) (block : ℕ) (s : InputSection) (x : Filling) → SectionsAreCarried → IsLaidOut l → IsFilledThere l block s x → IsStored l s
-stored_there l block s x law laid h =
+pub stored_there : (l : Layout) (block : ℕ) (s : InputSection) (x : Filling) → SectionsAreCarried → IsLoadable l.kind → IsLaidOut l → IsFilledThere l block s x → IsStored l s
+stored_there l block s x law kind laid h =
     let ends = h.ends in
     let some = width_some l block s x h in
-    law l s laid h.well.kept (omega (arith, ends, some))
+    law l s kind laid h.well.kept (omega (arith, ends, some))
 
-pub have_places : (l : Layout) → SectionsAreCarried → IsLaidOut l → EachDecided l → HavePlaces l (section_fillings l)
-have_places l law laid decided = record {
-  stored = All-each (λ (s : InputSection). 1 ≤ length (section_fillings l s) → IsStored l s) (all_sections l) (λ s c some. (let x = first_filling (section_fillings l s) some in stored_there l (block_for l (input_of l s c).file s) s x.0 law laid (filled_there l s x.0 laid decided (input_of l s c) (filling_known l s x.0 x.1))));
-  within = All-each (λ (s : InputSection). All (LiesIn (section_home l s)) (section_fillings l s)) (all_sections l) (λ s c. All-each (LiesIn (section_home l s)) (section_fillings l s) (λ x k. lies_there l (block_for l (input_of l s c).file s) s x (filled_there l s x laid decided (input_of l s c) (filling_known l s x k))));
+pub have_places : (l : Layout) → SectionsAreCarried → IsLoadable l.kind → IsLaidOut l → EachDecided l → HavePlaces l (section_fillings l)
+have_places l law kind laid decided = record {
+  stored = All-each (λ (s : InputSection). 1 ≤ length (section_fillings l s) → IsStored l s) (all_sections l) (λ s c some. (let x = first_filling (section_fillings l s) some in stored_there l (block_for l (input_of l s c).owner s) s x.0 law kind laid (filled_there l s x.0 laid decided (input_of l s c) (filling_known l s x.0 x.1))));
+  within = All-each (λ (s : InputSection). All (LiesIn (section_home l s)) (section_fillings l s)) (all_sections l) (λ s c. All-each (LiesIn (section_home l s)) (section_fillings l s) (λ x k. lies_there l (block_for l (input_of l s c).owner s) s x (filled_there l s x laid decided (input_of l s c) (filling_known l s x k))));
   beside = All-each (λ (s : InputSection). AllPairs AreBeside (section_fillings l s)) (all_sections l) (λ s c. fillings_beside l s laid decided (input_of l s c));
 }

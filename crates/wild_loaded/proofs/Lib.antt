@@ -1,3 +1,5 @@
+pub mod Rooms
+pub mod FramesStand
 pub mod FileType
 pub mod HeadersFit
 pub mod Loads
@@ -28,6 +30,7 @@ pub mod FilledTables
 pub mod Homes
 pub mod KeptSections
 pub mod SectionsApart
+pub mod SectionsAside
 pub mod PlacesApart
 pub mod SectionFillings
 pub mod FilledSections
@@ -38,7 +41,7 @@ pub mod SlotsKnown
 pub mod TableHomes
 pub mod GotPlaces
 pub mod CopyFillings
-mod FirstFile
+pub mod FirstFile
 pub mod TableLists
 mod PackedTables
 pub mod AllTables

@@ -1,4 +1,6 @@
 -- The image of a layout is loaded: its addresses move, what is left to entries is filled, and nothing else changes.
+use Rattle.wild_geometry.proofs.KeptItems.{kept_laid}
+use Rattle.wild_geometry.specs.Laid.{KeptIsLaid}
 use Rattle.std.proofs.Common.{◌≡◌, ℕ, ◌+◌, Bool, true, false, [], length, refl, sym, ap, ◌∙◌, arith, subst}
 use Rattle.std.specs.Prelude.{Some, Ok, Contains, if◌then◌else◌}
 use Rattle.std.proofs.lemmas.List.Elements.{All-contains, Contains-append_right}
@@ -37,7 +39,7 @@ use Rattle.wild_loaded.specs.FilledLaws.{AreMade, TablesAreMade}
 use Rattle.wild_loaded.proofs.Fillings.{IsKnown, place_loaded}
 use Rattle.wild_types.specs.Item.{Item, block_for}
 use Rattle.wild_geometry.specs.Loaded.{HasItem, InMemory}
-use Rattle.wild_meaning.specs.Item.{IsKept, OfSection}
+use Rattle.wild_meaning.specs.Item.{IsKept}
 use Rattle.wild_loaded.proofs.KeptSections.{kept_well}
 use Rattle.wild_loaded.proofs.FilledSections.{have_places}
 use Rattle.wild_loaded.proofs.CopyFillings.{group_copies, all_copies, width_by, copy_width, copy_filling, copies_filled}
@@ -57,7 +59,7 @@ moved_image : (l : Layout) (w : World) (m : Memory) → MovingLaws → IsFilledW
 moved_image l w m laws h applied = record {
   laws = laws;
   well = h;
-  sections = have_places l laws.filled.carried h.laid h.decided;
+  sections = have_places l laws.filled.carried h.kind h.laid h.decided;
   slots = slot_tables l w laws.filled h;
   sorted = tables_sorted l w laws.filled h;
   applied = applied;
@@ -92,14 +94,16 @@ copy_moved l w m i raw x h c =
 
 -- ---- items
 
-item_moved : (l : Layout) (w : World) (m : Memory) (s : Item) → IsMovedImage l w m → IsKept l s → HasItem l w m s InMemory
-item_moved l w m s h (OfSection x k is) = subst (λ (i : Item). HasItem l w m i InMemory) (sym is) (section_moved l w m (block_for l k.input.file x) x h (kept_well l x h.well.laid h.well.decided k))
+item_moved : (l : Layout) (w : World) (m : Memory) (s : Item) → KeptIsLaid → IsMovedImage l w m → IsKept l s → HasItem l w m s InMemory
+item_moved l w m s law h kept =
+    let k = law l s h.well.laid kept in
+    subst (λ (i : Item). HasItem l w m i InMemory) (sym k.is) (section_moved l w m (block_for l k.kept.input.owner k.section) k.section h (kept_well l k.section h.well.laid h.well.decided k.kept))
 
 pub memory_moved : MovingLaws → MemoryIsMoved
 memory_moved laws = λ l w m kind numbers legal laid decided whole none applied.
     let h = moved_image l w m laws (record { kind = kind; numbers = numbers; legal = legal; laid = laid; decided = decided; whole = whole; none = none }) applied in
     record {
-      items = λ s kept. item_moved l w m s h kept;
+      items = λ s kept. item_moved l w m s kept_laid h kept;
       slots = slots_loaded l w m h;
       thunks = thunks_moved l w m laws.thunks h;
       zeros = λ a b free. zero_moved l w m a h b free;

@@ -1,4 +1,6 @@
 -- Bytes that no table of the image fills.
+use Rattle.wild_geometry.proofs.StoodSections.{all_sections}
+use Rattle.wild_loaded.proofs.SectionsAside.{section_apart}
 use Rattle.std.proofs.Common.{◌≡◌, ℕ, ◌+◌, ◌<◌, ◌≤◌, ◌⊎◌, inl, inr, true, List, ◌++◌, length, get_or, refl, arith}
 use Rattle.std.specs.Prelude.{All, Contains}
 use Rattle.std.proofs.lemmas.List.Elements.{All-append, All-map}
@@ -17,13 +19,13 @@ use Rattle.wild_meaning.specs.Linked.{IsNotCopied}
 use Rattle.wild_loaded.specs.Memory.{IsStored}
 use Rattle.wild_loaded.proofs.Fillings.{Filling, Misses, general_of, place_entry}
 use Rattle.wild_loaded.proofs.Homes.{Home, HasHome, HomesApart, homes_back, misses_across, behind_misses}
-use Rattle.wild_loaded.proofs.SectionsApart.{all_sections, section_home, stored_home}
+use Rattle.wild_loaded.proofs.SectionsApart.{section_home, stored_home}
 use Rattle.wild_loaded.proofs.PlacesApart.{misses_all}
 use Rattle.wild_loaded.proofs.SectionFillings.{section_fillings}
-use Rattle.wild_loaded.proofs.TableHomes.{role_home, role_there, roles_apart, section_apart, InTable}
+use Rattle.wild_loaded.proofs.TableHomes.{role_home, role_there, roles_apart, InTable}
 use Rattle.wild_loaded.proofs.CopyFillings.{all_copies, copy_filling, copies_filled, copies_behind, copy_of}
 use Rattle.wild_loaded.proofs.TableLists.{sections_filled, slots_filled, blocks_filled, stored_fillings, all_fillings}
-use Rattle.wild_loaded.proofs.AllTables.{copies_of_well, lies_of, stored_misses}
+use Rattle.wild_loaded.proofs.AllTables.{copies_of_well, stored_misses}
 use Rattle.wild_loaded.proofs.MadeChanges.{IsMovedImage}
 
 -- missed by all of them
@@ -42,17 +44,17 @@ home_misses l w m h k image there lt = λ i d b. (λ j less e.
 
 -- ---- bytes of sections
 
-section_misses_table : (l : Layout) (w : World) (m : Memory) (r : Role) (s : InputSection) (k : ℕ) (xs : List Filling) → IsMovedImage l w m → is_loaded_role r ≡ true → Contains (all_sections l) s → IsStored l s → k < s.size → InTable l r xs → All (Misses (s.address + k)) xs
-section_misses_table l w m r s k xs h loaded c stored lt t = λ i d b.
-    misses_across l (section_home l s) (role_home l r) k (get_or xs i d) h.well.laid (stored_home l s stored) (role_there l r loaded h.well.kind h.well.laid) (homes_back (role_home l r) (section_home l s) (section_apart l r s loaded h.well.laid (lies_of l s h.well.laid c) stored)) lt (t.within i d b)
+section_misses_table : (l : Layout) (w : World) (m : Memory) (r : Role) (s : InputSection) (k : ℕ) (xs : List Filling) → IsMovedImage l w m → is_loaded_role r ≡ true → (r ≡ role.EhFrame → ⊥) → Contains (all_sections l) s → IsStored l s → k < s.size → InTable l r xs → All (Misses (s.address + k)) xs
+section_misses_table l w m r s k xs h loaded other c stored lt t = λ i d b.
+    misses_across l (section_home l s) (role_home l r) k (get_or xs i d) h.well.laid (stored_home l s stored) (role_there l r loaded h.well.kind h.well.laid) (homes_back (role_home l r) (section_home l s) (section_apart l r s loaded other h.well.laid c stored)) lt (t.within i d b)
 
 -- a byte of a section that the section's own fillings miss
 pub section_misses : (l : Layout) (w : World) (m : Memory) (s : InputSection) (k : ℕ) → IsMovedImage l w m → Contains (all_sections l) s → IsStored l s → k < s.size → All (Misses (s.address + k)) (section_fillings l s) → All (Misses (s.address + k)) (all_fillings l w)
 section_misses l w m s k h c stored lt own =
     all_miss l w (s.address + k)
     (misses_all l (section_fillings l) s k h.well.laid h.sections c stored lt own)
-    (section_misses_table l w m role.Got s k (slots_filled l) h refl c stored lt h.slots.got)
-    (section_misses_table l w m role.GotRelr s k (blocks_filled l) h refl c stored lt h.slots.block)
+    (section_misses_table l w m role.Got s k (slots_filled l) h refl (λ e. cc) c stored lt h.slots.got)
+    (section_misses_table l w m role.GotRelr s k (blocks_filled l) h refl (λ e. cc) c stored lt h.slots.block)
     (home_misses l w m (section_home l s) k h (stored_home l s stored) lt)
 
 -- ---- bytes of tables
@@ -69,9 +71,9 @@ run_misses_table : (l : Layout) (w : World) (m : Memory) (r : Home) (t : Role) (
 run_misses_table l w m r t k xs h there loaded apart low table = λ i d b.
     misses_across l r (role_home l t) k (get_or xs i d) h.well.laid there (role_there l t loaded h.well.kind h.well.laid) apart low (table.within i d b)
 
-table_misses_sections : (l : Layout) (w : World) (m : Memory) (r : Role) (k : ℕ) → IsMovedImage l w m → is_loaded_role r ≡ true → k < (role_home l r).size → All (Misses ((role_home l r).address + k)) (sections_filled l)
-table_misses_sections l w m r k h loaded lt =
-    run_misses_sections l w m (role_home l r) k h (role_there l r loaded h.well.kind h.well.laid) (λ s c stored. section_apart l r s loaded h.well.laid (lies_of l s h.well.laid c) stored) lt
+table_misses_sections : (l : Layout) (w : World) (m : Memory) (r : Role) (k : ℕ) → IsMovedImage l w m → is_loaded_role r ≡ true → (r ≡ role.EhFrame → ⊥) → k < (role_home l r).size → All (Misses ((role_home l r).address + k)) (sections_filled l)
+table_misses_sections l w m r k h loaded other lt =
+    run_misses_sections l w m (role_home l r) k h (role_there l r loaded h.well.kind h.well.laid) (λ s c stored. section_apart l r s loaded other h.well.laid c stored) lt
 
 table_misses_table : (l : Layout) (w : World) (m : Memory) (r t : Role) (k : ℕ) (xs : List Filling) → IsMovedImage l w m → is_loaded_role r ≡ true → is_loaded_role t ≡ true → (r ≡ t → ⊥) → k < (role_home l r).size → InTable l t xs → All (Misses ((role_home l r).address + k)) xs
 table_misses_table l w m r t k xs h lr lt other low table =
@@ -81,7 +83,7 @@ table_misses_table l w m r t k xs h lr lt other low table =
 pub stub_misses : (l : Layout) (w : World) (m : Memory) (k : ℕ) → IsMovedImage l w m → k < (role_home l role.PltGot).size → All (Misses ((role_home l role.PltGot).address + k)) (all_fillings l w)
 stub_misses l w m k h lt =
     all_miss l w ((role_home l role.PltGot).address + k)
-    (table_misses_sections l w m role.PltGot k h refl lt)
+    (table_misses_sections l w m role.PltGot k h refl (λ e. cc) lt)
     (table_misses_table l w m role.PltGot role.Got k (slots_filled l) h refl refl (λ e. cc) lt h.slots.got)
     (table_misses_table l w m role.PltGot role.GotRelr k (blocks_filled l) h refl refl (λ e. cc) lt h.slots.block)
     (home_misses l w m (role_home l role.PltGot) k h (role_there l role.PltGot refl h.well.kind h.well.laid) lt)
@@ -99,7 +101,7 @@ run_misses l w m r k h there sections tables lt =
 pub got_misses : (l : Layout) (w : World) (m : Memory) (k : ℕ) → IsMovedImage l w m → k < (role_home l role.Got).size → All (Misses ((role_home l role.Got).address + k)) (slots_filled l) → All (Misses ((role_home l role.Got).address + k)) (all_fillings l w)
 got_misses l w m k h lt own =
     all_miss l w ((role_home l role.Got).address + k)
-    (table_misses_sections l w m role.Got k h refl lt)
+    (table_misses_sections l w m role.Got k h refl (λ e. cc) lt)
     own
     (table_misses_table l w m role.Got role.GotRelr k (blocks_filled l) h refl refl (λ e. cc) lt h.slots.block)
     (home_misses l w m (role_home l role.Got) k h (role_there l role.Got refl h.well.kind h.well.laid) lt)

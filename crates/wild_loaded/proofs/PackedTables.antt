@@ -1,13 +1,19 @@
 -- The words of packed places: a loader finds the places of addresses and of slots in them, and no others.
+use Rattle.wild_types.specs.FileRoles.{is_epilogue}
+use Rattle.wild_loaded.proofs.FramesStand.{LastAlone, groups_alone}
+use Rattle.wild_geometry.proofs.StoodSections.{all_sections, by_files, laid_same_all}
+use Rattle.wild_layout.specs.Geometry.{IsLaidOut}
+use Rattle.wild_laid.specs.Laid.{laid_file, laid_files, processed, of_last_file, sorted_sections}
+use Rattle.wild_needs.specs.Needs.{has_last}
 use Rattle.std.proofs.Common.{◌≡◌, ℕ, suc, ◌+◌, ◌%◌, ◌^◌, ◌<◌, ◌≤◌, ◌⊎◌, inl, inr, Bool, true, false, List, [], ◌∷◌, ◌++◌, get_or, map, refl, sym, ap, ◌∙◌, arith, subst, append_assoc}
-use Rattle.std.specs.Prelude.{Some, None, All, AllPairs, Contains, ◌≢◌, IsPermutation, option_to_list, if◌then◌else◌, ◌&&◌, ◌==◌}
-use Rattle.std.specs.List.{flat_map}
+use Rattle.std.specs.Prelude.{Some, None, All, AllPairs, Contains, ◌≢◌, IsPermutation, option_to_list, if◌then◌else◌, ◌&&◌, ◌==◌, ◌||◌}
+use Rattle.std.specs.List.{flat_map, list_any}
 use Rattle.std.proofs.lemmas.Bool.{cases_Bool, eqb-true}
 use Rattle.std.proofs.lemmas.List.{append-nil, get_or_default}
 use Rattle.std.proofs.lemmas.List.Concat.{flat_map-append}
 use Rattle.std.proofs.lemmas.List.Folds.{flat_map-map}
-use Rattle.std.proofs.lemmas.List.Elements.{All-nil, All-cons, All-append, All-map}
-use Rattle.std.proofs.lemmas.List.Sorted.{All-permutation, IsPermutation-sym, IsPermutation-trans, IsPermutation-append_left, IsPermutation-map}
+use Rattle.std.proofs.lemmas.List.Elements.{All-nil, All-cons, All-append, All-map, All-contains}
+use Rattle.std.proofs.lemmas.List.Sorted.{All-permutation, IsPermutation-sym, IsPermutation-trans, IsPermutation-append_left, IsPermutation-map, IsPermutation-append_right, IsPermutation-append_comm}
 use Rattle.std.proofs.lemmas.List.Kept.{AllPairs-cons}
 use Rattle.wild_words.proofs.ListLemmas.{All-flat_map, AllPairs-nil, AllPairs-head, AllPairs-tail, flat_map-same, flat_map-flat_map}
 use Rattle.wild_types.specs.declared.input.InputRelocation.{InputRelocation}
@@ -38,7 +44,6 @@ use Rattle.wild_loaded.specs.Tables.{file_packed, group_words, tables_of}
 use Rattle.wild_loaded.proofs.SlotSites.{of_site, file_sites, flat_by_sites, block_by_sites, all_by_sites, groups_by_sites, all_sites}
 use Rattle.wild_loaded.proofs.PairLemmas.{All-unmap}
 use Rattle.wild_loaded.proofs.Permuted.{flat_map-parts, nested-parts}
-use Rattle.wild_loaded.proofs.SectionsApart.{all_sections, by_files}
 use Rattle.wild_loaded.proofs.FilledTables.{runs_apart_by}
 use Rattle.wild_loaded.proofs.SlotFillings.{made_of}
 use Rattle.wild_loaded.proofs.TableLists.{packed_list}
@@ -52,8 +57,12 @@ file_runs l f = map (λ (s : InputSection). Places (packed_places l s)) f.sectio
 abbrev block_run : Block → Piece
 block_run b = relr.Block b.base b.count
 
+-- the runs of the sorted sections, of the group with the last file
+abbrev sorted_runs : Layout → Group → List Piece
+sorted_runs l g = if has_last g then map (λ (s : InputSection). Places (packed_places l s)) (sorted_sections l) else []
+
 abbrev group_runs : Layout → Group → List Piece
-group_runs l g = flat_map (file_runs l) g.files ++ block_run (block_of (group_block l g)) ∷ []
+group_runs l g = flat_map (file_runs l) (laid_files l g) ++ (block_run (block_of (group_block l g)) ∷ sorted_runs l g)
 
 abbrev all_runs : Layout → List Piece
 all_runs l = flat_map (group_runs l) l.groups
@@ -65,11 +74,17 @@ of_file_runs h l f =
     ∙ ap (λ ys. ys ++ flat_map h (map (λ (a : ℕ). Places (a ∷ [])) (flat_places_of l f))) (flat_map-map h (λ (s : InputSection). Places (packed_places l s)) f.sections)
     ∙ ap (λ ys. flat_map (λ (s : InputSection). h (Places (packed_places l s))) f.sections ++ ys) (flat_map-map h (λ (a : ℕ). Places (a ∷ [])) (flat_places_of l f))
 
-of_group_runs : {Y : Type 0} (h : Piece → List Y) (of : File → List Y) (l : Layout) (g : Group) → ((f : File) → flat_map h (file_runs l f) ≡ of f) → flat_map h (group_runs l g) ≡ flat_map of g.files ++ h (block_run (block_of (group_block l g)))
+of_group_runs : {Y : Type 0} (h : Piece → List Y) (of : File → List Y) (l : Layout) (g : Group) → ((f : File) → flat_map h (file_runs l f) ≡ of f) → flat_map h (group_runs l g) ≡ flat_map of (laid_files l g) ++ (h (block_run (block_of (group_block l g))) ++ flat_map h (sorted_runs l g))
 of_group_runs h of l g each =
-    flat_map-append h (flat_map (file_runs l) g.files) (block_run (block_of (group_block l g)) ∷ [])
-    ∙ ap (λ ys. ys ++ (h (block_run (block_of (group_block l g))) ++ [])) (flat_map-flat_map h (file_runs l) g.files ∙ flat_map-same (λ (f : File). flat_map h (file_runs l f)) of g.files each)
-    ∙ ap (λ ys. flat_map of g.files ++ ys) (append-nil (h (block_run (block_of (group_block l g)))))
+    flat_map-append h (flat_map (file_runs l) (laid_files l g)) (block_run (block_of (group_block l g)) ∷ sorted_runs l g)
+    ∙ ap (λ ys. ys ++ (h (block_run (block_of (group_block l g))) ++ flat_map h (sorted_runs l g))) (flat_map-flat_map h (file_runs l) (laid_files l g) ∙ flat_map-same (λ (f : File). flat_map h (file_runs l f)) of (laid_files l g) each)
+
+of_sorted_runs : (h : Piece → List ℕ) (of : InputSection → List ℕ) (l : Layout) (g : Group) → ((s : InputSection) → h (Places (packed_places l s)) ≡ of s) → flat_map h (sorted_runs l g) ≡ (if has_last g then flat_map of (sorted_sections l) else [])
+of_sorted_runs h of l g each = by_last (has_last g)
+  where
+    by_last : (b : Bool) → flat_map h (if b then map (λ (s : InputSection). Places (packed_places l s)) (sorted_sections l) else []) ≡ (if b then flat_map of (sorted_sections l) else [])
+    by_last false = refl
+    by_last true = flat_map-map h (λ (s : InputSection). Places (packed_places l s)) (sorted_sections l) ∙ flat_map-same (λ (s : InputSection). h (Places (packed_places l s))) of (sorted_sections l) each
 
 each_single : (h : ℕ → List ℕ) (xs : List ℕ) → ((a : ℕ) → h a ≡ a ∷ []) → flat_map h xs ≡ xs
 each_single h [] e = refl
@@ -84,7 +99,8 @@ runs_words law l =
     flat_map-flat_map words_of_piece (group_runs l) l.groups
     ∙ flat_map-same (λ (g : Group). flat_map words_of_piece (group_runs l g)) (group_words l) l.groups (λ g.
     of_group_runs words_of_piece (file_packed l) l g (λ f.
-    of_file_runs words_of_piece l f ∙ ap (λ ys. file_words l f ++ ys) (each_single (λ (a : ℕ). packed (a ∷ [])) (flat_places_of l f) (one_word law))))
+    of_file_runs words_of_piece l f ∙ ap (λ ys. file_words l f ++ ys) (each_single (λ (a : ℕ). packed (a ∷ [])) (flat_places_of l f) (one_word law)))
+    ∙ ap (λ ys. flat_map (file_packed l) (laid_files l g) ++ (words_of_piece (block_run (block_of (group_block l g))) ++ ys)) (of_sorted_runs words_of_piece (λ (s : InputSection). packed (packed_places l s)) l g (λ s. refl)))
 
 -- the places of a block are those of its group
 block_places_are : (b : Block) (ps : List ℕ) → IsWhole b ps → places_of_piece (block_run b) ≡ ps
@@ -100,8 +116,17 @@ block_places_are b (p ∷ ps) h =
     ]
 
 -- the places that are recorded, in their order
+abbrev file_places : Layout → File → List ℕ
+file_places l f = flat_map (packed_places l) f.sections ++ flat_places_of l f
+
+abbrev last_places : Layout → Group → List ℕ
+last_places l g = if has_last g then flat_map (packed_places l) (sorted_sections l) else []
+
+abbrev group_places : Layout → Group → List ℕ
+group_places l g = flat_map (file_places l) (laid_files l g) ++ (group_block l g ++ last_places l g)
+
 abbrev recorded_places : Layout → List ℕ
-recorded_places l = flat_map (λ (g : Group). flat_map (λ (f : File). flat_map (packed_places l) f.sections ++ flat_places_of l f) g.files ++ group_block l g) l.groups
+recorded_places l = flat_map (group_places l) l.groups
 
 abbrev pub AreWhole : Layout → Type 0
 AreWhole l = (g : Group) → Contains l.groups g → IsWhole (block_of (group_block l g)) (group_block l g)
@@ -115,28 +140,83 @@ flat_map-listed {X} {Y} f g (x ∷ xs) h =
 runs_places : (l : Layout) → AreWhole l → places_of_pieces (all_runs l) ≡ recorded_places l
 runs_places l whole =
     flat_map-flat_map places_of_piece (group_runs l) l.groups
-    ∙ flat_map-listed (λ (g : Group). flat_map places_of_piece (group_runs l g)) (λ (g : Group). flat_map (λ (f : File). flat_map (packed_places l) f.sections ++ flat_places_of l f) g.files ++ group_block l g) l.groups (λ g c.
-    of_group_runs places_of_piece (λ (f : File). flat_map (packed_places l) f.sections ++ flat_places_of l f) l g (λ f.
+    ∙ flat_map-listed (λ (g : Group). flat_map places_of_piece (group_runs l g)) (group_places l) l.groups (λ g c.
+    of_group_runs places_of_piece (file_places l) l g (λ f.
     of_file_runs places_of_piece l f ∙ ap (λ ys. flat_map (packed_places l) f.sections ++ ys) (each_single (λ (a : ℕ). a ∷ []) (flat_places_of l f) (λ a. refl)))
-    ∙ ap (λ ys. flat_map (λ (f : File). flat_map (packed_places l) f.sections ++ flat_places_of l f) g.files ++ ys) (block_places_are (block_of (group_block l g)) (group_block l g) (whole g c)))
+    ∙ ap (λ ys. flat_map (file_places l) (laid_files l g) ++ (ys ++ flat_map places_of_piece (sorted_runs l g))) (block_places_are (block_of (group_block l g)) (group_block l g) (whole g c))
+    ∙ ap (λ ys. flat_map (file_places l) (laid_files l g) ++ (group_block l g ++ ys)) (of_sorted_runs places_of_piece (packed_places l) l g (λ s. refl)))
 
 -- ---- the order
 
-recorded_sorted : (l : Layout) → IsPermutation (recorded_places l) (packed_list l)
-recorded_sorted l =
+flat_laid : (l : Layout) (at : ℕ) (f : File) → flat_places_of l (laid_file l at f) ≡ flat_places_of l f
+unfolding flat_places_of
+flat_laid l at f = refl
+
+-- what the last file has, of the files of a group
+of_last : {X : Type 0} (xs : List X) (fs : List File) → LastAlone fs → flat_map (λ (f : File). if is_epilogue f.role then xs else []) fs ≡ (if list_any (λ (f : File). is_epilogue f.role) fs then xs else [])
+of_last xs [] alone = refl
+of_last xs (f ∷ []) alone = by_role (is_epilogue f.role)
+  where
+    by_role : (b : Bool) → (if b then xs else []) ++ [] ≡ (if b || false then xs else [])
+    by_role true = append-nil xs
+    by_role false = refl
+of_last xs (f ∷ (g ∷ gs)) alone = (let e = alone.0 in rw e (of_last xs (g ∷ gs) alone.1))
+
+-- the places of the sorted sections
+abbrev sorted_places : Layout → File → List ℕ
+sorted_places l f = if is_epilogue f.role then flat_map (packed_places l) (sorted_sections l) else []
+
+file_parts : (l : Layout) (f : File) → flat_map (packed_places l) (processed l f) ≡ flat_map (packed_places l) f.sections ++ sorted_places l f
+file_parts l f = flat_map-append (packed_places l) f.sections (of_last_file f (sorted_sections l)) ∙ ap (λ ys. flat_map (packed_places l) f.sections ++ ys) (by_role (is_epilogue f.role))
+  where
+    by_role : (b : Bool) → flat_map (packed_places l) (if b then sorted_sections l else []) ≡ (if b then flat_map (packed_places l) (sorted_sections l) else [])
+    by_role true = refl
+    by_role false = refl
+
+-- those of all sections are those of the files' own, and then the sorted ones
+sections_parts : (l : Layout) → IsLaidOut l → IsPermutation (flat_map (packed_places l) (all_sections l)) (flat_map (λ (g : Group). flat_map (λ (f : File). flat_map (packed_places l) f.sections) (laid_files l g)) l.groups ++ flat_map (last_places l) l.groups)
+sections_parts l laid =
+    let a : File → List ℕ = λ f. flat_map (packed_places l) f.sections in
+    let aa = flat_map (λ (g : Group). flat_map a (laid_files l g)) l.groups in
+    let dd = flat_map (λ (g : Group). flat_map (sorted_places l) (laid_files l g)) l.groups in
+    let all = nested-parts (laid_files l) a (sorted_places l) l.groups in
+    let same : flat_map (λ (g : Group). flat_map (λ (f : File). a f ++ sorted_places l f) (laid_files l g)) l.groups ≡ flat_map (packed_places l) (all_sections l) =
+    flat_map-same (λ (g : Group). flat_map (λ (f : File). a f ++ sorted_places l f) (laid_files l g)) (λ (g : Group). flat_map (λ (f : File). flat_map (packed_places l) (processed l f)) (laid_files l g)) l.groups (λ g. flat_map-same (λ (f : File). a f ++ sorted_places l f) (λ (f : File). flat_map (packed_places l) (processed l f)) (laid_files l g) (λ f. sym (file_parts l f)))
+    ∙ sym (by_files (packed_places l) l) in
+    let alone = groups_alone true 0 l.groups laid.files in
+    let last : dd ≡ flat_map (last_places l) l.groups = laid_same_all (sorted_places l) l (λ at f. refl) ∙ flat_map-listed (λ (g : Group). flat_map (sorted_places l) g.files) (last_places l) l.groups (λ g c. of_last (flat_map (packed_places l) (sorted_sections l)) g.files (All-contains (λ (x : Group). LastAlone x.files) l.groups g alone c)) in
+    subst (λ (xs : List ℕ). IsPermutation xs (aa ++ flat_map (last_places l) l.groups)) same (subst (λ (xs : List ℕ). IsPermutation (flat_map (λ (g : Group). flat_map (λ (f : File). a f ++ sorted_places l f) (laid_files l g)) l.groups) (aa ++ xs)) last all)
+
+moved_up : (a b c d : List ℕ) → IsPermutation ((a ++ b) ++ (c ++ d)) ((a ++ d) ++ (b ++ c))
+moved_up a b c d =
+    let one : (a ++ b) ++ (c ++ d) ≡ a ++ ((b ++ c) ++ d) = append_assoc a b (c ++ d) ∙ ap (λ (xs : List ℕ). a ++ xs) (sym (append_assoc b c d)) in
+    let two = IsPermutation-append_right a ((b ++ c) ++ d) (d ++ (b ++ c)) (IsPermutation-append_comm (b ++ c) d) in
+    let three : a ++ (d ++ (b ++ c)) ≡ (a ++ d) ++ (b ++ c) = sym (append_assoc a d (b ++ c)) in
+    subst (λ (xs : List ℕ). IsPermutation xs ((a ++ d) ++ (b ++ c))) (sym one) (subst (λ (xs : List ℕ). IsPermutation (a ++ ((b ++ c) ++ d)) xs) three two)
+
+recorded_sorted : (l : Layout) → IsLaidOut l → IsPermutation (recorded_places l) (packed_list l)
+recorded_sorted l laid =
     let a : File → List ℕ = λ f. flat_map (packed_places l) f.sections in
     let b : File → List ℕ = flat_places_of l in
     let c : Group → List ℕ = group_block l in
-    let aa = flat_map (λ (g : Group). flat_map a g.files) l.groups in
-    let bb = flat_map (λ (g : Group). flat_map b g.files) l.groups in
+    let d : Group → List ℕ = last_places l in
+    let aa = flat_map (λ (g : Group). flat_map a (laid_files l g)) l.groups in
+    let bb = flat_map (λ (g : Group). flat_map b (laid_files l g)) l.groups in
     let cc' = flat_map c l.groups in
-    let outer = flat_map-parts (λ (g : Group). flat_map (λ (f : File). a f ++ b f) g.files) c l.groups in
-    let inner = IsPermutation-append_left cc' (flat_map (λ (g : Group). flat_map (λ (f : File). a f ++ b f) g.files) l.groups) (aa ++ bb) (nested-parts (λ (g : Group). g.files) a b l.groups) in
-    let whole = IsPermutation-trans (recorded_places l) (flat_map (λ (g : Group). flat_map (λ (f : File). a f ++ b f) g.files) l.groups ++ cc') ((aa ++ bb) ++ cc') outer inner in
-    let sections : aa ≡ flat_map (packed_places l) (all_sections l) = sym (by_files (packed_places l) l) in
-    let flats : bb ≡ made_of (flat_place l.options.relr) (all_sites l) = all_by_sites (of_site (flat_place l.options.relr)) b l (flat_by_sites l) in
+    let dd = flat_map d l.groups in
+    let ff = flat_map (λ (g : Group). flat_map (file_places l) (laid_files l g)) l.groups in
+    let ee = flat_map (λ (g : Group). c g ++ d g) l.groups in
+    let outer = flat_map-parts (λ (g : Group). flat_map (file_places l) (laid_files l g)) (λ (g : Group). c g ++ d g) l.groups in
+    let files = nested-parts (laid_files l) a b l.groups in
+    let ends = flat_map-parts c d l.groups in
+    let two = IsPermutation-trans (ff ++ ee) ((aa ++ bb) ++ ee) ((aa ++ bb) ++ (cc' ++ dd)) (IsPermutation-append_left ee ff (aa ++ bb) files) (IsPermutation-append_right (aa ++ bb) ee (cc' ++ dd) ends) in
+    let three = IsPermutation-trans (ff ++ ee) ((aa ++ bb) ++ (cc' ++ dd)) ((aa ++ dd) ++ (bb ++ cc')) two (moved_up aa bb cc' dd) in
+    let sections = IsPermutation-sym (flat_map (packed_places l) (all_sections l)) (aa ++ dd) (sections_parts l laid) in
+    let four = IsPermutation-trans (ff ++ ee) ((aa ++ dd) ++ (bb ++ cc')) (flat_map (packed_places l) (all_sections l) ++ (bb ++ cc')) three (IsPermutation-append_left (bb ++ cc') (aa ++ dd) (flat_map (packed_places l) (all_sections l)) sections) in
+    let whole = IsPermutation-trans (recorded_places l) (ff ++ ee) (flat_map (packed_places l) (all_sections l) ++ (bb ++ cc')) outer four in
+    let flats : bb ≡ made_of (flat_place l.options.relr) (all_sites l) = laid_same_all b l (flat_laid l) ∙ all_by_sites (of_site (flat_place l.options.relr)) b l (flat_by_sites l) in
     let blocks : cc' ≡ made_of block_place (all_sites l) = groups_by_sites (of_site block_place) c l (block_by_sites l) in
-    let same : (aa ++ bb) ++ cc' ≡ packed_list l = append_assoc aa bb cc' ∙ ap (λ (xs : List ℕ). xs ++ (bb ++ cc')) sections ∙ ap (λ (xs : List ℕ). flat_map (packed_places l) (all_sections l) ++ (xs ++ cc')) flats ∙ ap (λ (xs : List ℕ). flat_map (packed_places l) (all_sections l) ++ (made_of (flat_place l.options.relr) (all_sites l) ++ xs)) blocks in
+    let same : flat_map (packed_places l) (all_sections l) ++ (bb ++ cc') ≡ packed_list l = ap (λ (xs : List ℕ). flat_map (packed_places l) (all_sections l) ++ (xs ++ cc')) flats ∙ ap (λ (xs : List ℕ). flat_map (packed_places l) (all_sections l) ++ (made_of (flat_place l.options.relr) (all_sites l) ++ xs)) blocks in
     subst (λ (xs : List ℕ). IsPermutation (recorded_places l) xs) same whole
 
 -- ---- even places
@@ -186,6 +266,13 @@ flat_even l f = subst (All EvenPlace) (sym (flat_by_sites l f)) (All-flat_map Ev
     one at (General e) = All-nil EvenPlace
     one at (Plt e) = All-nil EvenPlace
 
+sorted_even : (l : Layout) (g : Group) → All IsEven (sorted_runs l g)
+sorted_even l g = by_last (has_last g)
+  where
+    by_last : (b : Bool) → All IsEven (if b then map (λ (s : InputSection). Places (packed_places l s)) (sorted_sections l) else [])
+    by_last false = All-nil IsEven
+    by_last true = All-map IsEven (λ (s : InputSection). Places (packed_places l s)) (sorted_sections l) (λ k d b. section_even l (get_or (sorted_sections l) k d))
+
 runs_even : (l : Layout) → AreWhole l → All IsEven (all_runs l)
 runs_even l whole =
     All-flat_map IsEven (group_runs l) l.groups (λ k d b. of_group (get_or l.groups k d) (whole (get_or l.groups k d) (k, b, get_or_default l.groups k (get_or l.groups k d) d b)))
@@ -198,9 +285,9 @@ runs_even l whole =
 
     of_group : (g : Group) → IsWhole (block_of (group_block l g)) (group_block l g) → All IsEven (group_runs l g)
     of_group g h =
-        All-append IsEven (flat_map (file_runs l) g.files) (block_run (block_of (group_block l g)) ∷ [])
-        (All-flat_map IsEven (file_runs l) g.files (λ k d b. of_file (get_or g.files k d)))
-        (All-cons IsEven (block_run (block_of (group_block l g))) [] h.even (All-nil IsEven))
+        All-append IsEven (flat_map (file_runs l) (laid_files l g)) (block_run (block_of (group_block l g)) ∷ sorted_runs l g)
+        (All-flat_map IsEven (file_runs l) (laid_files l g) (λ k d b. of_file (get_or (laid_files l g) k d)))
+        (All-cons IsEven (block_run (block_of (group_block l g))) (sorted_runs l g) h.even (sorted_even l g))
 
 -- ---- what a loader finds
 
@@ -232,9 +319,9 @@ differ-order law xs ys moved h = back ys (law (map byte_run xs) (map byte_run ys
         let first = All-unmap (IsApart (byte_run y)) byte_run ys (AllPairs-head IsApart (byte_run y) (map byte_run ys) h) in
         AllPairs-cons Differ y ys (λ k d m. differ y (get_or ys k d) (first k d m)) (back ys (AllPairs-tail IsApart (byte_run y) (map byte_run ys) h))
 
-pub packed_sorted : (l : Layout) → FlatIsARun → PlacesAreLoaded → OrderIsFree → AreWhole l → All (λ (a : ℕ). a < 2 ^ 64) (packed_list l) → AllPairs Differ (packed_list l) → IsPermutation (packed_list l) (places (tables_of l).words)
-packed_sorted l flat law order whole low differ =
-    let moved = recorded_sorted l in
+pub packed_sorted : (l : Layout) → IsLaidOut l → FlatIsARun → PlacesAreLoaded → OrderIsFree → AreWhole l → All (λ (a : ℕ). a < 2 ^ 64) (packed_list l) → AllPairs Differ (packed_list l) → IsPermutation (packed_list l) (places (tables_of l).words)
+packed_sorted l laid flat law order whole low differ =
+    let moved = recorded_sorted l laid in
     let back = IsPermutation-sym (recorded_places l) (packed_list l) moved in
     let same = sym (runs_places l whole) in
     let P : List ℕ → Type 0 = λ xs. All (λ (a : ℕ). a < 2 ^ 64) xs in

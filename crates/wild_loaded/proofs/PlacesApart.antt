@@ -1,20 +1,20 @@
 -- Places of eight bytes in kept sections lie beside each other in memory.
+use Rattle.wild_loaded.proofs.SectionsAside.{AreAside, sections_aside}
+use Rattle.wild_geometry.proofs.StoodSections.{all_sections}
 use Rattle.std.proofs.Common.{◌≡◌, ℕ, ◌+◌, ◌<◌, ◌≤◌, ◌⊎◌, inl, inr, List, length, get_or, sym, ap, ◌∙◌, arith, subst}
 use Rattle.std.specs.Prelude.{All, AllPairs, Contains}
 use Rattle.std.specs.List.{flat_map}
 use Rattle.std.proofs.lemmas.Bool.{cases_lt}
 use Rattle.std.proofs.lemmas.List.{get_or_default}
-use Rattle.wild_words.specs.Overlay.{Piece, Apart}
 use Rattle.wild_words.proofs.Basics.{not_empty}
-use Rattle.wild_words.proofs.ListLemmas.{All-flat_map, at_places, Between, AllPairs-flat_map}
+use Rattle.wild_words.proofs.ListLemmas.{All-flat_map, at_places, AllPairs-flat_map}
 use Rattle.wild_types.specs.declared.input.InputSection.{InputSection}
 use Rattle.wild_types.specs.declared.layout.Layout.{Layout}
-use Rattle.wild_geometry.proofs.Rooms.{section_room}
 use Rattle.wild_layout.specs.Geometry.{IsLaidOut}
 use Rattle.wild_loaded.proofs.Fillings.{Filling, Misses, AreBeside}
 use Rattle.wild_loaded.specs.Memory.{IsStored}
-use Rattle.wild_loaded.proofs.Homes.{LiesIn, beside_across, misses_across}
-use Rattle.wild_loaded.proofs.SectionsApart.{all_sections, section_home, stored_home, sections_apart, section_rooms_apart}
+use Rattle.wild_loaded.proofs.Homes.{LiesIn, beside_across, misses_across, homes_back}
+use Rattle.wild_loaded.proofs.SectionsApart.{section_home, stored_home}
 
 -- places in sections that are stored, beside each other in each
 pub record HavePlaces (l : Layout) (of : InputSection → List Filling) : Type 0 where
@@ -22,12 +22,8 @@ pub record HavePlaces (l : Layout) (of : InputSection → List Filling) : Type 0
   pub within : All (λ (s : InputSection). All (LiesIn (section_home l s)) (of s)) (all_sections l)
   pub beside : All (λ (s : InputSection). AllPairs AreBeside (of s)) (all_sections l)
 
-across_back : (l : Layout) (s t : InputSection) → Between Apart (section_room l) s t → Between Apart (section_room l) t s
-across_back l s t a = λ k d m i e n. back (get_or (section_room l s) i e) (get_or (section_room l t) k d) (a i e n k d m)
-  where
-    back : (p q : Piece) → Apart p q → Apart q p
-    back p q (inl h) = inr h
-    back p q (inr h) = inl h
+across_back : (l : Layout) (s t : InputSection) → AreAside l s t → AreAside l t s
+across_back l s t a = λ x y. homes_back (section_home l s) (section_home l t) (a y x)
 
 -- ---- all sections
 
@@ -38,7 +34,7 @@ all_places l of = flat_map of (all_sections l)
 -- all places lie beside each other
 pub places_beside : (l : Layout) (of : InputSection → List Filling) → IsLaidOut l → HavePlaces l of → AllPairs AreBeside (flat_map of (all_sections l))
 places_beside l of laid h =
-    let apart = section_rooms_apart l laid in
+    let apart = sections_aside l laid in
     AllPairs-flat_map AreBeside of (all_sections l) h.beside
     (λ i j d lt m. (λ k e n p f q.
     both (get_or (all_sections l) i d) (get_or (all_sections l) j d) (get_or (of (get_or (all_sections l) i d)) k e) (get_or (of (get_or (all_sections l) j d)) p f)
@@ -48,8 +44,8 @@ places_beside l of laid h =
     (h.within i d (omega (arith, lt, m)) k e n)
     (h.within j d m p f q)))
   where
-    both : (s t : InputSection) (a b : Filling) → IsStored l s → IsStored l t → Between Apart (section_room l) s t → LiesIn (section_home l s) a → LiesIn (section_home l t) b → AreBeside a b
-    both s t a b x y across la lb = beside_across l (section_home l s) (section_home l t) a b laid (stored_home l s x) (stored_home l t y) (sections_apart l s t x y across) la lb
+    both : (s t : InputSection) (a b : Filling) → IsStored l s → IsStored l t → AreAside l s t → LiesIn (section_home l s) a → LiesIn (section_home l t) b → AreBeside a b
+    both s t a b x y across la lb = beside_across l (section_home l s) (section_home l t) a b laid (stored_home l s x) (stored_home l t y) (across x y) la lb
 
 -- a byte outside the places of its own section is outside all places
 pub misses_all : (l : Layout) (of : InputSection → List Filling) (s : InputSection) (k : ℕ) → IsLaidOut l → HavePlaces l of → Contains (all_sections l) s → IsStored l s → k < s.size → All (Misses (s.address + k)) (of s) → All (Misses (s.address + k)) (flat_map of (all_sections l))
@@ -72,7 +68,7 @@ misses_all l of s k laid h c stored below own =
 
     there : (l : Layout) (of : InputSection → List Filling) (s : InputSection) (k : ℕ) → IsLaidOut l → HavePlaces l of → (c : Contains (all_sections l) s) → IsStored l s → k < s.size → (j : ℕ) (d : InputSection) → j < length (all_sections l) → (j ≡ c.0 → ⊥) → All (Misses (s.address + k)) (of (get_or (all_sections l) j d))
     there l of s k laid h c stored below j d m other =
-        let pair = at_places (Between Apart (section_room l)) (all_sections l) (across_back l) (section_rooms_apart l laid) c.0 j d (λ e. other (sym e)) c.1 m in
+        let pair = at_places (AreAside l) (all_sections l) (across_back l) (sections_aside l laid) c.0 j d (λ e. other (sym e)) c.1 m in
         let here : get_or (all_sections l) c.0 d ≡ s = get_or_default (all_sections l) c.0 d s c.1 ∙ c.2 in
-        let across = subst (λ (t : InputSection). Between Apart (section_room l) t (get_or (all_sections l) j d)) here pair in
-        λ p f q. (let other = h.stored j d m (not_empty _ p q) in misses_across l (section_home l s) (section_home l (get_or (all_sections l) j d)) k (get_or (of (get_or (all_sections l) j d)) p f) laid (stored_home l s stored) (stored_home l (get_or (all_sections l) j d) other) (sections_apart l s (get_or (all_sections l) j d) stored other across) below (h.within j d m p f q))
+        let across = subst (λ (t : InputSection). AreAside l t (get_or (all_sections l) j d)) here pair in
+        λ p f q. (let other = h.stored j d m (not_empty _ p q) in misses_across l (section_home l s) (section_home l (get_or (all_sections l) j d)) k (get_or (of (get_or (all_sections l) j d)) p f) laid (stored_home l s stored) (stored_home l (get_or (all_sections l) j d) other) (across stored other) below (h.within j d m p f q))

@@ -1,4 +1,5 @@
 -- What relocations have tables fill: addresses that move with the base, and fields that are left to entries.
+use Rattle.wild_layout.specs.Merged.{address_for}
 use Rattle.std.proofs.Common.{◌≡◌, ℕ, inl, inr, Bool, true, false, not, List, [], ◌∷◌, map, refl, sym, ap, ◌∙◌}
 use Rattle.std.specs.Prelude.{Option, Some, None, Result, Ok, Err, option_to_list, option_map, if◌then◌else◌, ◌&&◌, ◌==◌, slice_get}
 use Rattle.std.specs.List.{flat_map, filter}
@@ -28,7 +29,7 @@ use Rattle.wild_reloc.specs.declared.info.Width.TheVariants.{Eight}
 use Rattle.wild_layout.specs.declared.decision.Decision.{Decision}
 use Rattle.wild_layout.specs.declared.decision.Decision.TheVariants.{Moved, Left}
 use Rattle.wild_layout.specs.SymbolValues.{sum}
-use Rattle.wild_layout.specs.SlotValues.{decided_address, address_of, index_of}
+use Rattle.wild_layout.specs.SlotValues.{decided_address, index_of}
 use Rattle.wild_layout.specs.Decide.{added, moved_to, left_to, chosen_to, decide_by, decided, decide}
 use Rattle.wild_layout.specs.Left.{entry_for, left_by, left_entry, section_generals}
 use Rattle.wild_layout.specs.Moved.{moved_value, listed_entry, section_entries}
@@ -295,7 +296,7 @@ treated_filling : (l : Layout) (block : ℕ) (s : InputSection) (r : InputReloca
 treated_filling l block s r x d treatments.Nothing is made by e = cc
 treated_filling l block s r x d (treatments.Value row) is made by e = cc
 treated_filling l block s r x d treatments.BaseRelative is made by e =
-    let m = moved_is l (item_with block s) r d (address_of l r.symbol) by in
+    let m = moved_is l (item_with block s) r d (address_for l r) by in
     let same : moved_filling l s r (packs l (place_of s.address r)) ≡ x = cc in
     moved_there l block s r x m.0 (packs l (place_of s.address r)) (made ∙ ap (λ (y : Decision). Ok y) m.1) (sym same)
 treated_filling l block s r x d (treatments.Symbolic i) is made by e = by_left l block s r x d (treatments.Symbolic i) (ByteSize Eight) is made e (left_is l s r d (ByteSize Eight) (type_of l.machine Absolute) i (index_of l i) by)

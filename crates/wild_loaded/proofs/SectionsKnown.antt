@@ -1,4 +1,5 @@
 -- The bytes that tables fill in kept sections, before any entry is applied.
+use Rattle.wild_geometry.proofs.StoodSections.{all_sections, input_of}
 use Rattle.std.proofs.Common.{◌≡◌, ℕ, ◌+◌, ◌%◌, ◌^◌, ◌<◌, ◌≤◌, Bool, true, false, length, replicate, refl, sym, ap, ◌∙◌, arith, subst, List}
 use Rattle.std.specs.Prelude.{Some, Ok, All}
 use Rattle.std.proofs.lemmas.List.{length-replicate}
@@ -22,7 +23,7 @@ use Rattle.wild_layout.specs.Decide.{decided}
 use Rattle.wild_layout.specs.Left.{entry_for}
 use Rattle.wild_layout.specs.Moved.{moved_value}
 use Rattle.wild_layout.proofs.DecideLemmas.{IsMoved}
-use Rattle.wild_meaning.specs.World.{IsLegal}
+use Rattle.wild_meaning.specs.World.{IsLegal, IsLoadable}
 use Rattle.wild_tables.specs.Tables.{relative_entry}
 use Rattle.wild_geometry.proofs.MachineLemmas.{facts_of}
 use Rattle.wild_meaning.specs.Linked.{processor_of}
@@ -41,11 +42,10 @@ use Rattle.wild_loaded.specs.Memory.{image_memory, EachDecided}
 use Rattle.wild_loaded.specs.Stored.{FillsField}
 use Rattle.wild_loaded.specs.Laws.{SectionsAreStored, EntriesHaveChanges}
 use Rattle.wild_loaded.proofs.Fillings.{Filling, general_of, HasChange, HasWord, IsKnown, place_loaded}
-use Rattle.wild_loaded.proofs.SectionsApart.{all_sections}
 use Rattle.wild_loaded.proofs.PlacesApart.{all_places}
 use Rattle.wild_loaded.proofs.SectionFillings.{moved_filling, section_fillings, Fills}
 use Rattle.wild_loaded.proofs.KeptSections.{IsKeptWell}
-use Rattle.wild_loaded.proofs.FilledSections.{input_of, IsFilledThere, width_some, filling_known, filled_there, place_sum}
+use Rattle.wild_loaded.proofs.FilledSections.{IsFilledThere, width_some, filling_known, filled_there, place_sum}
 use Rattle.wild_loader.specs.declared.memory.Machine.{Machine as Processor}
 use Rattle.std.proofs.lemmas.Int.{of_z-to_z}
 use Rattle.std.specs.Int.{w64}
@@ -118,11 +118,11 @@ pub record SectionLaws : Type 0 where
   pub changes : EntriesHaveChanges
   pub relative : RelativeLaws
 
-pub before : (l : Layout) (w : World) (block : ℕ) (s : InputSection) → SectionsAreStored → IsLegal l w → IsLaidOut l → IsKeptWell l block s → HasItem l w (image_memory l w) (item_with block s) InFile
-before l w block s law legal laid well =
+pub before : (l : Layout) (w : World) (block : ℕ) (s : InputSection) → SectionsAreStored → IsLoadable l.kind → IsLegal l w → IsLaidOut l → IsKeptWell l block s → HasItem l w (image_memory l w) (item_with block s) InFile
+before l w block s law kind legal laid well =
     let own = well.own in
     let decisions = subst (λ (k : ℕ). IsDecided l (item_with k s)) own well.decisions in
-    subst (λ (k : ℕ). HasItem l w (image_memory l w) (item_with k s) InFile) (sym own) (law l w s legal laid well.kept decisions)
+    subst (λ (k : ℕ). HasItem l w (image_memory l w) (item_with k s) InFile) (sym own) (law l w s kind legal laid well.kept decisions)
 
 pub value_low : (l : Layout) (block : ℕ) (s : InputSection) (r : InputRelocation) (v : ℕ) (packed : Bool) → IsMoved l (item_with block s) r v packed → v < 2 ^ 64
 value_low l block s r v packed a = subst (λ (n : ℕ). n < 2 ^ 64) a.value (omega arith)
@@ -131,15 +131,15 @@ number_low : (w : World) (b : Bool) (n : ℕ) → n < 2 ^ 64 → number_at InFil
 number_low w true n h = h
 number_low w false n h = omega arith
 
-filling_there : (l : Layout) (w : World) (block : ℕ) (s : InputSection) (x : Filling) → SectionLaws → NumbersFit l → IsLegal l w → IsLaidOut l → IsFilledThere l block s x → IsKnown w (image_memory l w) x
-filling_there l w block s x laws numbers legal laid h = by_decision h.by.decision h.by.made h.has h.by.fills
+filling_there : (l : Layout) (w : World) (block : ℕ) (s : InputSection) (x : Filling) → SectionLaws → IsLoadable l.kind → NumbersFit l → IsLegal l w → IsLaidOut l → IsFilledThere l block s x → IsKnown w (image_memory l w) x
+filling_there l w block s x laws kind numbers legal laid h = by_decision h.by.decision h.by.made h.has h.by.fills
   where
     low : 1 ≤ x.width → w.base + x.entry.offset + x.width ≤ 2 ^ 64
     low some =
         let ends = h.ends in
         let sum = place_sum l block s x h in
         let full = h.well.full in
-        let room = (before l w block s laws.stored legal laid h.well).ends (omega (arith, ends, some)) in
+        let room = (before l w block s laws.stored kind legal laid h.well).ends (omega (arith, ends, some)) in
         omega (arith, ends, sum, full, room)
 
     place_is : 1 ≤ x.width → w.base + s.address + h.filling.relocation.offset ≡ loaded_at w x.entry.offset
@@ -152,13 +152,13 @@ filling_there l w block s x laws numbers legal laid h = by_decision h.by.decisio
     moved v true has e f =
         let low_v = value_low l block s h.filling.relocation v true f in
         let eight : x.width ≡ 8 = ap (λ (y : Filling). y.width) e in
-        let held = subst (λ (a : ℕ). Holds (image_memory l w) a (word 8 v)) (place_is (omega (arith, eight))) ((before l w block s laws.stored legal laid h.well).addresses h.filling.index h.filling.relocation v true has) in
+        let held = subst (λ (a : ℕ). Holds (image_memory l w) a (word 8 v)) (place_is (omega (arith, eight))) ((before l w block s laws.stored kind legal laid h.well).addresses h.filling.index h.filling.relocation v true has) in
         let word_held : HasWord w (image_memory l w) x.entry.offset = record { value = v; fits = low_v; held = held } in
         let P : Filling → Type 0 = λ y. (1 ≤ y.width → w.base + y.entry.offset + y.width ≤ 2 ^ 64) → HasWord w (image_memory l w) y.entry.offset → IsKnown w (image_memory l w) y in
         subst P (sym e) (λ below there. record { low = below; old = word 8 there.value; wide = length-word 8 there.value; held = there.held; makes = (refl, there) }) low word_held
     moved v false has e f =
         let eight : x.width ≡ 8 = ap (λ (y : Filling). y.width) e in
-        let held = subst (λ (a : ℕ). Holds (image_memory l w) a (word 8 0)) (place_is (omega (arith, eight))) ((before l w block s laws.stored legal laid h.well).addresses h.filling.index h.filling.relocation v false has) in
+        let held = subst (λ (a : ℕ). Holds (image_memory l w) a (word 8 0)) (place_is (omega (arith, eight))) ((before l w block s laws.stored kind legal laid h.well).addresses h.filling.index h.filling.relocation v false has) in
         let small : moved_value l h.filling.relocation < 2 ^ 64 = omega arith in
         let made' = relative_makes l w (place_of s.address h.filling.relocation) (moved_value l h.filling.relocation) laws.relative small in
         let change : HasChange (image_memory l w).machine w (relative_entry l (place_of s.address h.filling.relocation) (moved_value l h.filling.relocation)) 8 = has_change l w _ _ 8 made' refl in
@@ -168,7 +168,7 @@ filling_there l w block s x laws numbers legal laid h = by_decision h.by.decisio
     left : (z : RelocationSize) (n symbol addend : ℕ) → decided l (item_with block s) h.filling.relocation ≡ Ok (Left z n symbol addend) → HasDecision l (item_with block s) h.filling.index h.filling.relocation (Left z n symbol addend) → x ≡ general_of (entry_for (place_of s.address h.filling.relocation) n symbol addend) (size_width z) → IsKnown w (image_memory l w) x
     left z n symbol addend made has e =
         let some = width_some l block s x h in
-        let b = (before l w block s laws.stored legal laid h.well).left h.filling.index h.filling.relocation z n symbol addend has in
+        let b = (before l w block s laws.stored kind legal laid h.well).left h.filling.index h.filling.relocation z n symbol addend has in
         let width : x.width ≡ size_width z = ap (λ (y : Filling). y.width) e in
         let zeros = subst (λ (bs : List ℕ). Holds (image_memory l w) (w.base + s.address + h.filling.relocation.offset) bs) b.2 b.1 in
         let held = subst (λ (a : ℕ). Holds (image_memory l w) a (replicate (size_width z) 0)) (place_is some) zeros in
@@ -186,7 +186,7 @@ filling_there l w block s x laws numbers legal laid h = by_decision h.by.decisio
     by_decision Partner made has f = absurd f
 
 -- so it is with all of them
-pub sections_known : (l : Layout) (w : World) → SectionLaws → NumbersFit l → IsLegal l w → IsLaidOut l → EachDecided l → All (IsKnown w (image_memory l w)) (all_places l (section_fillings l))
-sections_known l w laws numbers legal laid decided =
+pub sections_known : (l : Layout) (w : World) → SectionLaws → IsLoadable l.kind → NumbersFit l → IsLegal l w → IsLaidOut l → EachDecided l → All (IsKnown w (image_memory l w)) (all_places l (section_fillings l))
+sections_known l w laws kind numbers legal laid decided =
     All-flat_map (IsKnown w (image_memory l w)) (section_fillings l) (all_sections l)
-    (All-each (λ (s : InputSection). All (IsKnown w (image_memory l w)) (section_fillings l s)) (all_sections l) (λ s c. All-each (IsKnown w (image_memory l w)) (section_fillings l s) (λ x cx. filling_there l w (block_for l (input_of l s c).file s) s x laws numbers legal laid (filled_there l s x laid decided (input_of l s c) (filling_known l s x cx)))))
+    (All-each (λ (s : InputSection). All (IsKnown w (image_memory l w)) (section_fillings l s)) (all_sections l) (λ s c. All-each (IsKnown w (image_memory l w)) (section_fillings l s) (λ x cx. filling_there l w (block_for l (input_of l s c).owner s) s x laws kind numbers legal laid (filled_there l s x laid decided (input_of l s c) (filling_known l s x cx)))))

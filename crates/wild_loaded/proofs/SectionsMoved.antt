@@ -1,4 +1,5 @@
 -- A kept section after a loader applied the tables of an image.
+use Rattle.wild_geometry.proofs.StoodSections.{all_sections, listed_section}
 use Rattle.std.proofs.Common.{◌≡◌, ℕ, ◌+◌, ◌%◌, ◌^◌, ◌<◌, ◌≤◌, ◌⊎◌, inl, inr, Bool, true, false, List, [], ◌∷◌, ◌++◌, length, get_or, refl, sym, ap, ◌∙◌, arith, subst}
 use Rattle.std.specs.Prelude.{Option, Some, Ok, Result, All, Contains, option_to_list, if◌then◌else◌, slice_index}
 use Rattle.std.specs.List.{flat_map, range_with_len}
@@ -34,7 +35,6 @@ use Rattle.wild_layout.specs.SectionPlaces.{FieldLies}
 use Rattle.wild_layout.proofs.DecideLemmas.{HasField, IsMoved, moved_has, decided_moved, decided_left, field_has_bytes}
 use Rattle.wild_layout.proofs.DecisionLemmas.{decide_moved, decide_left, IsOfRow}
 use Rattle.wild_layout.proofs.SiteLemmas.{Contains-flat_map, site_written, site_rewritten, field_lies}
-use Rattle.wild_meaning.specs.Item.{IsInput}
 use Rattle.wild_tables.specs.Tables.{relative_entry}
 use Rattle.wild_loader.specs.declared.change.Change.{Change}
 use Rattle.wild_loader.specs.declared.change.Change.TheVariants as changes
@@ -43,11 +43,9 @@ use Rattle.wild_loader.specs.declared.world.World.{World}
 use Rattle.wild_loader.specs.Changes.{bytes_after}
 use Rattle.wild_loader.specs.Memory.{Holds, byte_in}
 use Rattle.wild_loader.specs.Relocate.{loaded_at}
-use Rattle.wild_meaning.proofs.BitLemmas.{kept_is_read}
 use Rattle.wild_geometry.specs.Loaded.{InNoSite, InMemory, HasDecision, ReadsLeft, stored_bytes, HasItem}
 use Rattle.wild_loaded.specs.Memory.{image_memory}
 use Rattle.wild_loaded.proofs.Fillings.{Filling, Misses, IsKnown, packed_at, relative_of, general_of, place_loaded}
-use Rattle.wild_loaded.proofs.SectionsApart.{all_sections, sections_of}
 use Rattle.wild_loaded.proofs.KeptSections.{IsKeptWell}
 use Rattle.wild_loaded.proofs.SectionFillings.{section_filling, section_fillings, Fills, moved_given, left_given}
 use Rattle.wild_loaded.proofs.FilledSections.{IsFilledThere, filling_known, filled_there, filled_site, site_width, site_there, sites_apart_at, place_sum}
@@ -60,16 +58,13 @@ use Rattle.wild_meaning.specs.Linked.{processor_of}
 
 -- ---- bytes that no entry touches
 
-pub listed_section : (l : Layout) (s : InputSection) → IsInput l s → Contains (all_sections l) s
-listed_section l s k = Contains-flat_map sections_of l.groups k.group s k.grouped (Contains-flat_map (λ (f : File). f.sections) k.group.files k.file s k.filed k.listed)
-
 -- a byte that the section's own fillings miss is as before
 kept_there : (l : Layout) (w : World) (m : Memory) (block : ℕ) (s : InputSection) (k : ℕ) → IsMovedImage l w m → IsKeptWell l block s → k < length s.bytes → ((x : Filling) → IsFilledThere l block s x → Misses (s.address + k) x) → byte_in m (w.base + (s.address + k)) ≡ byte_in (image_memory l w) (w.base + (s.address + k))
 kept_there l w m block s k h well lt out =
     let c = listed_section l s well.kept.input in
     let full = well.full in
     let same = well.own in
-    let stored = h.laws.filled.carried l s h.well.laid well.kept (omega (arith, lt)) in
+    let stored = h.laws.filled.carried l s h.well.kind h.well.laid well.kept (omega (arith, lt)) in
     let own = All-each (Misses (s.address + k)) (section_fillings l s) (λ x cx. out x (subst (λ (k : ℕ). IsFilledThere l k s x) (sym same) (filled_there l s x h.well.laid h.well.decided well.kept.input (filling_known l s x cx)))) in
     kept_at l w m (s.address + k) h (section_misses l w m s k h c stored (omega (arith, lt, full)) own)
 
@@ -100,7 +95,7 @@ other_there l w m block s k h well lt out =
     let same = kept_there l w m block s k h well lt (λ x there. outside_site l block s k x out there) in
     let at : w.base + (s.address + k) ≡ w.base + s.address + k = omega arith in
     let same' = subst (λ (a : ℕ). byte_in m a ≡ byte_in (image_memory l w) a) at same in
-    same' ∙ (before l w block s h.laws.filled.sections.stored h.well.legal h.well.laid well).others k lt out
+    same' ∙ (before l w block s h.laws.filled.sections.stored h.well.kind h.well.legal h.well.laid well).others k lt out
 
 -- ---- values, and what is rewritten
 
@@ -161,12 +156,12 @@ still_there l w m block s i p h well c held = λ k lt.
 value_there : (l : Layout) (w : World) (m : Memory) (block : ℕ) (s : InputSection) (i : ℕ) (r : InputRelocation) (z : RelocationSize) (v : ℕ) → IsMovedImage l w m → IsKeptWell l block s → HasDecision l (item_with block s) i r (Field z v) → Holds m (w.base + s.address + r.offset) (field_site (item_with block s) r.offset z v).bytes
 value_there l w m block s i r z v h well has =
     let still : IsStillSite l block s i (field_site (item_with block s) r.offset z v) = record { relocation = r; decision = Field z v; has = has; still = tt; is = site_written l (item_with block s) i r (Field z v) (record { size = z; value = v }) has.listed has.decided refl } in
-    still_there l w m block s i (field_site (item_with block s) r.offset z v) h well still ((before l w block s h.laws.filled.sections.stored h.well.legal h.well.laid well).values i r z v has)
+    still_there l w m block s i (field_site (item_with block s) r.offset z v) h well still ((before l w block s h.laws.filled.sections.stored h.well.kind h.well.legal h.well.laid well).values i r z v has)
 
 rewritten_there : (l : Layout) (w : World) (m : Memory) (block : ℕ) (s : InputSection) (i : ℕ) (r : InputRelocation) (row : Row) (v : ℕ) → IsMovedImage l w m → IsKeptWell l block s → HasDecision l (item_with block s) i r (Rewritten row v) → Holds m (w.base + s.address + (template_site (item_with block s) r row v).at) (template_site (item_with block s) r row v).bytes
 rewritten_there l w m block s i r row v h well has =
     let still : IsStillSite l block s i (template_site (item_with block s) r row v) = record { relocation = r; decision = Rewritten row v; has = has; still = tt; is = site_rewritten l (item_with block s) i r row v has.listed has.decided } in
-    still_there l w m block s i (template_site (item_with block s) r row v) h well still ((before l w block s h.laws.filled.sections.stored h.well.legal h.well.laid well).rewritten i r row v has)
+    still_there l w m block s i (template_site (item_with block s) r row v) h well still ((before l w block s h.laws.filled.sections.stored h.well.kind h.well.legal h.well.laid well).rewritten i r row v has)
 
 -- ---- fillings
 
@@ -175,7 +170,7 @@ filling_listed : (l : Layout) (w : World) (block : ℕ) (s : InputSection) (r : 
 filling_listed l w block s r x well c given =
     let one : Contains (option_to_list (section_filling l s r)) x = subst (λ (o : Option Filling). Contains (option_to_list o) x) (sym given) (0, omega arith, refl) in
     let among = Contains-flat_map (λ (q : InputRelocation). option_to_list (section_filling l s q)) s.relocations r x c one in
-    let here : Contains (section_fillings l s) x = subst (λ (b : Bool). Contains (if b then flat_map (λ (q : InputRelocation). option_to_list (section_filling l s q)) s.relocations else []) x) (sym (kept_is_read l s well.kept)) among in
+    let here : Contains (section_fillings l s) x = subst (λ (b : Bool). Contains (if b then flat_map (λ (q : InputRelocation). option_to_list (section_filling l s q)) s.relocations else []) x) (sym well.kept.reads) among in
     let sections = Contains-flat_map (section_fillings l) (all_sections l) s x (listed_section l s well.kept.input) here in
     (here, Contains-append_left (stored_fillings l) (copies_filled l w) x (Contains-append_left (sections_filled l) (slots_filled l ++ blocks_filled l) x sections))
 
@@ -209,7 +204,7 @@ address_moved l w m block s i r v packed h well has = by_packed packed has (deci
     by_packed true there f =
         let given = moved_given l block s r v true f in
         let at = place_is l w m block s r (packed_at (place_of s.address r)) h well c given refl (omega arith) (ends_of l block s r (ByteSize Eight) well c (moved_has l (item_with block s) r v true f)) in
-        let held = (before l w block s h.laws.filled.sections.stored h.well.legal h.well.laid well).addresses i r v true there in
+        let held = (before l w block s h.laws.filled.sections.stored h.well.kind h.well.legal h.well.laid well).addresses i r v true there in
         let listed = (filling_listed l w block s r (packed_at (place_of s.address r)) well c given).1 in
         let now = packed_made l w m (place_of s.address r) v h listed (value_low l block s r v true f) (subst (λ (a : ℕ). Holds (image_memory l w) a (word 8 v)) (sym at) held) in
         subst (λ (a : ℕ). Holds m a (word 8 ((v + w.base) % 2 ^ 64))) at now
@@ -255,7 +250,7 @@ left_filled l w m block s i r z n symbol addend h well has =
 
 pub section_moved : (l : Layout) (w : World) (m : Memory) (block : ℕ) (s : InputSection) → IsMovedImage l w m → IsKeptWell l block s → HasItem l w m (item_with block s) InMemory
 section_moved l w m block s h well = record {
-  ends = (before l w block s h.laws.filled.sections.stored h.well.legal h.well.laid well).ends;
+  ends = (before l w block s h.laws.filled.sections.stored h.well.kind h.well.legal h.well.laid well).ends;
   values = λ i r z v has. value_there l w m block s i r z v h well has;
   addresses = λ i r v packed has. address_moved l w m block s i r v packed h well has;
   left = λ i r z n symbol addend has. left_filled l w m block s i r z n symbol addend h well has;

@@ -1,6 +1,8 @@
 -- The tables of an output at its own addresses: nothing moves, and its sections have all entries.
-use Rattle.std.proofs.Common.{◌≡◌, ℕ, zero, suc, ◌+◌, ◌<◌, ◌≤◌, inl, inr, false, List, [], ◌∷◌, ◌++◌, length, get_or, refl, sym, ap, ◌∙◌, arith, subst}
-use Rattle.std.specs.Prelude.{AllPairs, IsPermutation, slice_index}
+use Rattle.wild_needs.specs.Needs.{has_last}
+use Rattle.wild_laid.specs.Laid.{laid_files, processed, sorted_sections}
+use Rattle.std.proofs.Common.{◌≡◌, ℕ, zero, suc, ◌+◌, ◌<◌, ◌≤◌, inl, inr, false, List, [], ◌∷◌, ◌++◌, length, get_or, refl, sym, ap, ◌∙◌, arith, subst, Bool, true}
+use Rattle.std.specs.Prelude.{AllPairs, IsPermutation, slice_index, if◌then◌else◌}
 use Rattle.std.specs.List.{flat_map}
 use Rattle.std.proofs.lemmas.Bool.{cases_lt}
 use Rattle.std.proofs.lemmas.List.{length-append, get_or_append_left}
@@ -24,7 +26,7 @@ use Rattle.wild_types.specs.declared.section.Section.{Section}
 use Rattle.wild_slot.specs.declared.slot_parts.EntryPart.TheVariants as entries
 use Rattle.wild_types.specs.declared.file.Group.{Group}
 use Rattle.wild_types.specs.declared.layout.Layout.{Layout}
-use Rattle.wild_needs.specs.Entries.{packed_place, packed_places, words_of}
+use Rattle.wild_needs.specs.Entries.{packed_place, packed_places, words_of, sorted_words}
 use Rattle.wild_types.specs.Kinds.{is_position_independent}
 use Rattle.wild_types.proofs.LookupLemmas.{plain_still}
 use Rattle.wild_needs.specs.SlotShares.{group_block, block_of, words_of_block, block_words}
@@ -40,7 +42,7 @@ use Rattle.wild_loader.specs.Laws.{IsStatic, section_relas}
 use Rattle.wild_tables.specs.Laws.{LengthsOfEntries, EntriesAreRead}
 use Rattle.wild_slots.specs.Entries.{MovesNothing, FixedOutputsMoveNothing}
 use Rattle.wild_slots.specs.Stand.{PairStands}
-use Rattle.wild_loaded.specs.Tables.{file_packed, group_words, relatives, tables_of}
+use Rattle.wild_loaded.specs.Tables.{file_packed, group_words, relatives, tables_of, words_of_last}
 use Rattle.wild_loaded.specs.Laws.{SectionTablesAreFound}
 use Rattle.wild_loaded.proofs.FileType.{plain_fixed}
 use Rattle.wild_loaded.proofs.Loads.{segment_static}
@@ -66,13 +68,18 @@ no_block l g h = ap (λ (ps : List ℕ). words_of_block (block_of ps)) h
 words_none : (l : Layout) → MovesNothing l → is_position_independent l.kind ≡ false → (tables_of l).words ≡ []
 words_none l h still =
     flat_map-none (group_words l) l.groups (λ g.
-    ap (λ (ws : List ℕ). ws ++ block_words l g) (flat_map-none (file_packed l) g.files (λ f. ap (λ (ws : List ℕ). ws ++ flat_places_of l f) (flat_map-none (words_of l) f.sections (λ s. no_words l s still)) ∙ h.flat f))
-    ∙ no_block l g (h.groups g))
+    ap (λ (ws : List ℕ). ws ++ (block_words l g ++ words_of_last l g)) (flat_map-none (file_packed l) (laid_files l g) (λ f. ap (λ (ws : List ℕ). ws ++ flat_places_of l f) (flat_map-none (words_of l) f.sections (λ s. no_words l s still)) ∙ h.flat f))
+    ∙ ap (λ (ws : List ℕ). ws ++ words_of_last l g) (no_block l g (h.groups g))
+    ∙ by_last (has_last g))
+  where
+    by_last : (b : Bool) → (if b then sorted_words l else []) ≡ []
+    by_last false = refl
+    by_last true = flat_map-none (words_of l) (sorted_sections l) (λ s. no_words l s still)
 
 relatives_none : (l : Layout) → MovesNothing l → is_position_independent l.kind ≡ false → all_relatives l ≡ []
 relatives_none l h still =
-    flat_map-none (λ (g : Group). flat_map (relatives l) g.files) l.groups (λ g.
-    flat_map-none (relatives l) g.files (λ f. ap (λ (es : List Rela). es ++ slot_entries_of entries.Relative l f) (flat_map-none (section_entries l) f.sections (λ s. no_entries l s still)) ∙ h.relative f))
+    flat_map-none (λ (g : Group). flat_map (relatives l) (laid_files l g)) l.groups (λ g.
+    flat_map-none (relatives l) (laid_files l g) (λ f. ap (λ (es : List Rela). es ++ slot_entries_of entries.Relative l f) (flat_map-none (section_entries l) (processed l f) (λ s. no_entries l s still)) ∙ h.relative f))
 
 -- ---- where the section headers stand
 

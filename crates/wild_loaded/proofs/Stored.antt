@@ -19,7 +19,6 @@ use Rattle.wild_layout.specs.declared.decision.Decision.{Decision}
 use Rattle.wild_layout.specs.declared.decision.Decision.TheVariants.{Field, Moved, Left}
 use Rattle.wild_layout.specs.Sites.{Written, written_by, field_site, template_site, site, sites}
 use Rattle.wild_layout.specs.Image.{bytes}
-use Rattle.wild_layout.specs.SectionPlaces.{SectionLies}
 use Rattle.wild_layout.proofs.DecisionLemmas.{decide_left}
 use Rattle.wild_layout.proofs.SiteLemmas.{Contains-flat_map, site_written, site_rewritten}
 use Rattle.wild_loader.specs.Headers.{machine_of}
@@ -27,10 +26,10 @@ use Rattle.wild_loader.specs.Memory.{byte_in}
 use Rattle.wild_loader.specs.SegmentLaws.{BytesAreLoaded, ZerosAreLoaded}
 use Rattle.wild_geometry.specs.Loaded.{HasDecision}
 use Rattle.wild_loaded.specs.Memory.{image_memory, headers_of}
-use Rattle.wild_loaded.specs.Laws.{SectionsAreStored, ZerosAreStored}
+use Rattle.wild_loaded.specs.Laws.{SectionsAreStored, ZerosAreStored, PartsAreStored}
 use Rattle.wild_loaded.proofs.LeftFields.{left_zeroed}
 use Rattle.wild_loaded.proofs.PartsHeld.{Holds-inner}
-use Rattle.wild_loaded.proofs.Carried.{each_at, section_held, section_ends}
+use Rattle.wild_loaded.proofs.Carried.{section_held, section_ends}
 use Rattle.wild_loaded.proofs.Loads.{are_loadable, kind_is}
 
 -- ---- fields
@@ -46,15 +45,14 @@ site_stands l s i r p apart listed is =
 field_stands : (l : Layout) (s : Item) (i : ℕ) (r : InputRelocation) (d : Decision) (x : Written) → AreApart (length s.bytes) (sites l s) → HasDecision l s i r d → written_by d ≡ Some x → Stands (overlay (sites l s) s.bytes) r.offset (field_site s r.offset x.size x.value).bytes
 field_stands l s i r d x apart h by = site_stands l s i r (field_site s r.offset x.size x.value) apart h.listed (site_written l s i r d x h.listed h.decided by)
 
-pub sections_stored : BytesAreLoaded → SectionsAreStored
-sections_stored law = λ l w s legal laid k decisions.
-    let lies = each_at (SectionLies l) l s laid.inputs k.input in
-    let item = item_of l k.input.file s in
-    let held = section_held l w s law legal laid k decisions.apart lies in
+pub sections_stored : BytesAreLoaded → PartsAreStored → SectionsAreStored
+sections_stored law parts = λ l w s kind legal laid k decisions.
+    let item = item_of l k.input.owner s in
+    let held = section_held l w s law parts kind legal laid k decisions.apart in
     let whole = overlay (sites l item) s.bytes in
     let len = length-overlay (sites l item) s.bytes decisions.apart in
     record {
-      ends = section_ends l w s legal laid k lies;
+      ends = section_ends l w s kind legal laid k;
       values = λ i r z v h. Holds-inner (image_memory l w) (w.base + s.address) r.offset whole (field_site item r.offset z v).bytes held (field_stands l item i r (Field z v) (record { size = z; value = v }) decisions.apart h refl);
       addresses = λ i r v packed h. Holds-inner (image_memory l w) (w.base + s.address) r.offset whole (word 8 (if packed then v else 0)) held (field_stands l item i r (Moved v packed) (record { size = ByteSize Eight; value = if packed then v else 0 }) decisions.apart h refl);
       left = λ i r z number symbol addend h. (

@@ -1,4 +1,7 @@
 -- The bytes of the tables that fill addresses and slots, and where a loader finds them.
+use Rattle.wild_needs.specs.Entries.{sorted_words}
+use Rattle.wild_needs.specs.Needs.{has_last}
+use Rattle.wild_laid.specs.Laid.{laid_files}
 use Rattle.std.proofs.Common.{◌≡◌, ℕ, zero, suc, ◌+◌, ◌-◌, ◌^◌, ◌<◌, ◌≤◌, inl, inr, Bool, true, false, List, [], ◌∷◌, ◌++◌, length, map, min, refl, sym, ap, ◌∙◌, arith, subst}
 use Rattle.std.specs.Prelude.{Option, Some, None, Contains, slice_index, if◌then◌else◌, ◌==◌}
 use Rattle.std.specs.List.{flat_map}
@@ -26,7 +29,7 @@ use Rattle.wild_records.specs.declared.relocations.Rela.{Rela}
 use Rattle.wild_layout.specs.Left.{file_generals}
 use Rattle.wild_layout.specs.Moved.{file_entries, file_words}
 use Rattle.wild_layout.specs.SlotBytes.{slot_entries_of, flat_places_of, storage_entries}
-use Rattle.wild_layout.specs.Content.{file_content, content}
+use Rattle.wild_layout.specs.Content.{file_content, content, last_words}
 use Rattle.wild_layout.specs.Image.{bytes}
 use Rattle.wild_layout.specs.Loadable.{SegmentLoads}
 use Rattle.wild_layout.specs.TablePlaces.{table_bytes}
@@ -39,7 +42,7 @@ use Rattle.std.proofs.lemmas.List.{append-nil, append_assoc, length-append, get_
 use Rattle.std.proofs.lemmas.List.Concat.{flat_map-append}
 use Rattle.wild_words.proofs.Basics.{Contains-map}
 use Rattle.wild_words.proofs.ListLemmas.{flat_map-same, flat_map-flat_map}
-use Rattle.wild_loaded.specs.Tables.{file_packed, group_words, relatives, generals, tables_of}
+use Rattle.wild_loaded.specs.Tables.{file_packed, group_words, relatives, generals, tables_of, words_of_last}
 use Rattle.wild_loaded.proofs.Loads.{kind_is, header_from, header_to}
 
 -- ---- bytes
@@ -49,33 +52,41 @@ by_group : {X : Type 0} (h : X → List ℕ) (of : Group → List X) (r : Role) 
 by_group h of r l each = flat_map-same (content l r) (λ (g : Group). flat_map h (of g)) l.groups each ∙ sym (flat_map-flat_map h of l.groups)
 
 -- of their files
-by_files : {X : Type 0} (h : X → List ℕ) (of : File → List X) (r : Role) (l : Layout) (g : Group) → ((f : File) → file_content l r f ≡ flat_map h (of f)) → flat_map (file_content l r) g.files ≡ flat_map h (flat_map of g.files)
-by_files h of r l g each = flat_map-same (file_content l r) (λ (f : File). flat_map h (of f)) g.files each ∙ sym (flat_map-flat_map h of g.files)
+by_files : {X : Type 0} (h : X → List ℕ) (of : File → List X) (r : Role) (l : Layout) (g : Group) → ((f : File) → file_content l r f ≡ flat_map h (of f)) → flat_map (file_content l r) (laid_files l g) ≡ flat_map h (flat_map of (laid_files l g))
+by_files h of r l g each = flat_map-same (file_content l r) (λ (f : File). flat_map h (of f)) (laid_files l g) each ∙ sym (flat_map-flat_map h of (laid_files l g))
 
 no_front : (b : Bool) (xs : List ℕ) → (if b then [] else []) ++ xs ≡ xs
 no_front true xs = refl
 no_front false xs = refl
 
+words_of_end : (l : Layout) (g : Group) → flat_map word_bytes (block_words l g) ++ last_words l g ≡ flat_map word_bytes (block_words l g ++ words_of_last l g)
+words_of_end l g = ap (λ (bs : List ℕ). flat_map word_bytes (block_words l g) ++ bs) (by_last (has_last g)) ∙ sym (flat_map-append word_bytes (block_words l g) (words_of_last l g))
+  where
+    by_last : (b : Bool) → (if b then flat_map word_bytes (sorted_words l) else []) ≡ flat_map word_bytes (if b then sorted_words l else [])
+    by_last true = refl
+    by_last false = refl
+
 pub words_are : (l : Layout) → table_bytes l role.RelrDyn ≡ flat_map word_bytes (tables_of l).words
 words_are l = by_group word_bytes (group_words l) role.RelrDyn l (λ g.
-    ap (λ (bs : List ℕ). bs ++ flat_map word_bytes (block_words l g)) (by_files word_bytes (file_packed l) role.RelrDyn l g (λ f. ap (λ (bs : List ℕ). bs ++ flat_map word_bytes (flat_places_of l f)) (no_front (is_prelude f.role) (flat_map word_bytes (file_words l f))) ∙ sym (flat_map-append word_bytes (file_words l f) (flat_places_of l f))))
-    ∙ sym (flat_map-append word_bytes (flat_map (file_packed l) g.files) (block_words l g)))
+    ap (λ (bs : List ℕ). bs ++ (flat_map word_bytes (block_words l g) ++ last_words l g)) (by_files word_bytes (file_packed l) role.RelrDyn l g (λ f. ap (λ (bs : List ℕ). bs ++ flat_map word_bytes (flat_places_of l f)) (no_front (is_prelude f.role) (flat_map word_bytes (file_words l f))) ∙ sym (flat_map-append word_bytes (file_words l f) (flat_places_of l f))))
+    ∙ ap (λ (bs : List ℕ). flat_map word_bytes (flat_map (file_packed l) (laid_files l g)) ++ bs) (words_of_end l g)
+    ∙ sym (flat_map-append word_bytes (flat_map (file_packed l) (laid_files l g)) (block_words l g ++ words_of_last l g)))
 
 -- all relative entries, and all others
 abbrev pub all_relatives : Layout → List Rela
-all_relatives l = flat_map (λ (g : Group). flat_map (relatives l) g.files) l.groups
+all_relatives l = flat_map (λ (g : Group). flat_map (relatives l) (laid_files l g)) l.groups
 
 abbrev pub all_generals : Layout → List Rela
-all_generals l = flat_map (λ (g : Group). flat_map (generals l) g.files) l.groups
+all_generals l = flat_map (λ (g : Group). flat_map (generals l) (laid_files l g)) l.groups
 
 pub relatives_are : (l : Layout) → table_bytes l role.RelaDynRelative ≡ flat_map rela_bytes (all_relatives l)
-relatives_are l = by_group rela_bytes (λ (g : Group). flat_map (relatives l) g.files) role.RelaDynRelative l (λ g.
-    append-nil (flat_map (file_content l role.RelaDynRelative) g.files)
+relatives_are l = by_group rela_bytes (λ (g : Group). flat_map (relatives l) (laid_files l g)) role.RelaDynRelative l (λ g.
+    append-nil (flat_map (file_content l role.RelaDynRelative) (laid_files l g))
     ∙ by_files rela_bytes (relatives l) role.RelaDynRelative l g (λ f. ap (λ (bs : List ℕ). bs ++ flat_map rela_bytes (slot_entries_of entries.Relative l f)) (no_front (is_prelude f.role) (flat_map rela_bytes (file_entries l f))) ∙ sym (flat_map-append rela_bytes (file_entries l f) (slot_entries_of entries.Relative l f))))
 
 pub jumps_are : (l : Layout) → table_bytes l role.RelaPlt ≡ flat_map rela_bytes (tables_of l).jumps
-jumps_are l = by_group rela_bytes (λ (g : Group). flat_map (slot_entries_of entries.Plt l) g.files) role.RelaPlt l (λ g.
-    append-nil (flat_map (file_content l role.RelaPlt) g.files)
+jumps_are l = by_group rela_bytes (λ (g : Group). flat_map (slot_entries_of entries.Plt l) (laid_files l g)) role.RelaPlt l (λ g.
+    append-nil (flat_map (file_content l role.RelaPlt) (laid_files l g))
     ∙ by_files rela_bytes (slot_entries_of entries.Plt l) role.RelaPlt l g (λ f. ap (λ (bs : List ℕ). bs ++ flat_map rela_bytes (slot_entries_of entries.Plt l f)) (no_front (is_prelude f.role) [])))
 
 -- what stands once, what is the file's own, and what its slots have
@@ -91,8 +102,8 @@ general_content b xs ys zs =
     front false = refl
 
 pub generals_are : (l : Layout) → table_bytes l role.RelaDynGeneral ≡ flat_map rela_bytes (all_generals l)
-generals_are l = by_group rela_bytes (λ (g : Group). flat_map (generals l) g.files) role.RelaDynGeneral l (λ g.
-    append-nil (flat_map (file_content l role.RelaDynGeneral) g.files)
+generals_are l = by_group rela_bytes (λ (g : Group). flat_map (generals l) (laid_files l g)) role.RelaDynGeneral l (λ g.
+    append-nil (flat_map (file_content l role.RelaDynGeneral) (laid_files l g))
     ∙ by_files rela_bytes (generals l) role.RelaDynGeneral l g (λ f. general_content (is_prelude f.role) (storage_entries l) (file_generals l f) (slot_entries_of entries.General l f)))
 
 pub entries_are : (l : Layout) → table_bytes l role.RelaDynRelative ++ table_bytes l role.RelaDynGeneral ≡ flat_map rela_bytes (tables_of l).entries

@@ -9,7 +9,7 @@ use Rattle.wild_types.specs.declared.part.Role.{Role}
 use Rattle.wild_types.specs.declared.part.Role.TheVariants as role
 use Rattle.wild_types.specs.declared.input.InputSection.{InputSection}
 use Rattle.wild_types.specs.declared.layout.Layout.{Layout}
-use Rattle.wild_types.specs.Lookups.{takes_file_bytes}
+use Rattle.wild_types.specs.Lookups.{takes_file_bytes, is_filled}
 use Rattle.wild_types.specs.Parts.{role_place, has_role, is_loaded_role, part_with}
 use Rattle.wild_clauses.specs.SlotPlaces.{address_of_part, start_of}
 use Rattle.wild_layout.specs.Image.{offset_in}
@@ -22,7 +22,7 @@ use Rattle.wild_loaded.specs.Memory.{IsStored}
 use Rattle.wild_loaded.proofs.PartsHeld.{placed, part_carried}
 use Rattle.wild_loaded.proofs.Fillings.{Filling, AreBeside}
 use Rattle.wild_loaded.proofs.Homes.{Home, HasHome, HomesApart, LiesIn}
-use Rattle.wild_loaded.proofs.SectionsApart.{section_home}
+use Rattle.wild_loaded.proofs.SectionsApart.{section_home, filled_place}
 
 -- ---- where a part stands
 
@@ -111,10 +111,11 @@ room_apart l r k at n q loaded laid h = by_part (part_with r l.parts) refl
         raw_not_loaded t h e = (let z = subst (λ (x : Role). is_loaded_role x ≡ true) e h in cc)
 
 -- the part of a role and an input section
-pub section_apart : (l : Layout) (r : Role) (s : InputSection) → is_loaded_role r ≡ true → IsLaidOut l → SectionLies l s → IsStored l s → HomesApart (role_home l r) (section_home l s)
-section_apart l r s loaded laid lies stored =
-    let q = (lies.owner stored.filled).stands in
-    room_apart l r s.part s.address s.size q.0 loaded laid q.1
+pub filled_apart_from : (l : Layout) (r : Role) (s : InputSection) → is_loaded_role r ≡ true → IsLaidOut l → SectionLies l s → is_filled l s ≡ true → HomesApart (role_home l r) (section_home l s)
+filled_apart_from l r s loaded laid lies filled =
+    let q = (lies.owner filled).stands in
+    let apart = room_apart l r s.part s.address s.size q.0 loaded laid q.1 in
+    subst (λ (k : ℕ). HomesApart (role_home l r) (record { address = s.address; offset = k; size = s.size })) (sym (filled_place l s filled)) apart
 
 -- ---- what stands in a table
 

@@ -1,4 +1,6 @@
 -- What the tables of a layout fill, as one list, and that it has what each table has.
+use Rattle.wild_laid.specs.Laid.{laid_file, laid_files, processed}
+use Rattle.wild_geometry.proofs.StoodSections.{all_sections, by_files, laid_same_all}
 use Rattle.std.proofs.Common.{◌≡◌, ℕ, List, [], ◌∷◌, ◌++◌, map, refl, sym, ap, ◌∙◌, subst, append_assoc}
 use Rattle.std.specs.Prelude.{IsPermutation}
 use Rattle.std.specs.List.{flat_map}
@@ -28,7 +30,6 @@ use Rattle.wild_loaded.specs.Tables.{relatives, first_generals, generals, tables
 use Rattle.wild_loaded.proofs.SlotSites.{of_site, entries_by_sites, all_sites, all_by_sites}
 use Rattle.wild_loaded.proofs.Permuted.{nested-parts}
 use Rattle.wild_loaded.proofs.Fillings.{Filling, packed_in, relative_in, general_in, jump_in}
-use Rattle.wild_loaded.proofs.SectionsApart.{all_sections, by_files}
 use Rattle.wild_loaded.proofs.PlacesApart.{all_places}
 use Rattle.wild_loaded.proofs.SectionFillings.{section_fillings, packed_are, relatives_are, generals_are, jumps_are}
 use Rattle.wild_loaded.proofs.SlotFillings.{slot_filling, block_filling, pair_sites, got_sites, made_of, slots_packed, slots_relative, slots_general, slots_jump, blocks_packed, blocks_relative, blocks_general, blocks_jump, pair_packed, pair_relative, pair_general, pair_jump}
@@ -107,16 +108,20 @@ all_relative l w =
     ∙ ap (λ (ys : List Rela). flat_map (section_entries l) (all_sections l) ++ ys) (append-nil (made_of (entry_of entries.Relative l.machine l.options.relr) (all_sites l)))
 
 -- the entries of slots in a table
-slots_listed : (l : Layout) (part : EntryPart) → flat_map (λ (g : Group). flat_map (slot_entries_of part l) g.files) l.groups ≡ made_of (entry_of part l.machine l.options.relr) (all_sites l)
-slots_listed l part = all_by_sites (of_site (entry_of part l.machine l.options.relr)) (slot_entries_of part l) l (entries_by_sites part l)
+entries_laid : (part : EntryPart) (l : Layout) (at : ℕ) (f : File) → slot_entries_of part l (laid_file l at f) ≡ slot_entries_of part l f
+unfolding slot_entries_of
+entries_laid part l at f = refl
 
-relative_sorted : (l : Layout) → IsPermutation (relative_list l) (flat_map (λ (g : Group). flat_map (relatives l) g.files) l.groups)
+slots_listed : (l : Layout) (part : EntryPart) → flat_map (λ (g : Group). flat_map (slot_entries_of part l) (laid_files l g)) l.groups ≡ made_of (entry_of part l.machine l.options.relr) (all_sites l)
+slots_listed l part = laid_same_all (slot_entries_of part l) l (entries_laid part l) ∙ all_by_sites (of_site (entry_of part l.machine l.options.relr)) (slot_entries_of part l) l (entries_by_sites part l)
+
+relative_sorted : (l : Layout) → IsPermutation (relative_list l) (flat_map (λ (g : Group). flat_map (relatives l) (laid_files l g)) l.groups)
 relative_sorted l =
-    let parts = nested-parts (λ (g : Group). g.files) (file_entries l) (slot_entries_of entries.Relative l) l.groups in
-    let a : flat_map (λ (g : Group). flat_map (file_entries l) g.files) l.groups ≡ flat_map (section_entries l) (all_sections l) = sym (by_files (section_entries l) l) in
-    let same : flat_map (λ (g : Group). flat_map (file_entries l) g.files) l.groups ++ flat_map (λ (g : Group). flat_map (slot_entries_of entries.Relative l) g.files) l.groups ≡ relative_list l =
-    ap (λ (ys : List Rela). ys ++ flat_map (λ (g : Group). flat_map (slot_entries_of entries.Relative l) g.files) l.groups) a ∙ ap (λ (ys : List Rela). flat_map (section_entries l) (all_sections l) ++ ys) (slots_listed l entries.Relative) in
-    let whole = flat_map (λ (g : Group). flat_map (relatives l) g.files) l.groups in
+    let parts = nested-parts (laid_files l) (file_entries l) (slot_entries_of entries.Relative l) l.groups in
+    let a : flat_map (λ (g : Group). flat_map (file_entries l) (laid_files l g)) l.groups ≡ flat_map (section_entries l) (all_sections l) = sym (by_files (section_entries l) l) in
+    let same : flat_map (λ (g : Group). flat_map (file_entries l) (laid_files l g)) l.groups ++ flat_map (λ (g : Group). flat_map (slot_entries_of entries.Relative l) (laid_files l g)) l.groups ≡ relative_list l =
+    ap (λ (ys : List Rela). ys ++ flat_map (λ (g : Group). flat_map (slot_entries_of entries.Relative l) (laid_files l g)) l.groups) a ∙ ap (λ (ys : List Rela). flat_map (section_entries l) (all_sections l) ++ ys) (slots_listed l entries.Relative) in
+    let whole = flat_map (λ (g : Group). flat_map (relatives l) (laid_files l g)) l.groups in
     IsPermutation-sym whole (relative_list l) (subst (λ (ys : List Rela). IsPermutation whole ys) same parts)
 
 -- ---- other entries
@@ -134,7 +139,7 @@ all_general l w =
     ∙ ap (λ (ys : List Rela). (flat_map (section_generals l) (all_sections l) ++ ys) ++ map (copy_entry l) (all_copies l)) (append-nil (storage_entries l ++ made_of (entry_of entries.General l.machine l.options.relr) (all_sites l)))
 
 -- the entries of files for copies and fields
-file_parts : (l : Layout) (f : File) → file_generals l f ≡ map (copy_entry l) (copies_of f) ++ flat_map (section_generals l) f.sections
+file_parts : (l : Layout) (f : File) → file_generals l f ≡ map (copy_entry l) (copies_of f) ++ flat_map (section_generals l) (processed l f)
 unfolding file_generals
 file_parts l f = refl
 
@@ -149,28 +154,28 @@ turned a b c d =
     let second = subst (λ xs. IsPermutation (b ++ ((d ++ a) ++ c)) xs) three first in
     subst (λ xs. IsPermutation (b ++ ((d ++ a) ++ c)) xs) five (IsPermutation-trans (b ++ ((d ++ a) ++ c)) (((b ++ a) ++ c) ++ d) (((a ++ b) ++ c) ++ d) second four)
 
-general_sorted : (l : Layout) → IsLaidOut l → IsPermutation (general_list l) (flat_map (λ (g : Group). flat_map (generals l) g.files) l.groups)
+general_sorted : (l : Layout) → IsLaidOut l → IsPermutation (general_list l) (flat_map (λ (g : Group). flat_map (generals l) (laid_files l g)) l.groups)
 general_sorted l laid =
-    let whole = flat_map (λ (g : Group). flat_map (generals l) g.files) l.groups in
-    let first = flat_map (λ (g : Group). flat_map (first_generals l) g.files) l.groups in
-    let files = flat_map (λ (g : Group). flat_map (file_generals l) g.files) l.groups in
-    let slots = flat_map (λ (g : Group). flat_map (slot_entries_of entries.General l) g.files) l.groups in
-    let rest = flat_map (λ (g : Group). flat_map (λ (f : File). file_generals l f ++ slot_entries_of entries.General l f) g.files) l.groups in
-    let copies = flat_map (λ (g : Group). flat_map (λ (f : File). map (copy_entry l) (copies_of f)) g.files) l.groups in
-    let fields = flat_map (λ (g : Group). flat_map (λ (f : File). flat_map (section_generals l) f.sections) g.files) l.groups in
-    let one = nested-parts (λ (g : Group). g.files) (first_generals l) (λ (f : File). file_generals l f ++ slot_entries_of entries.General l f) l.groups in
-    let two = nested-parts (λ (g : Group). g.files) (file_generals l) (slot_entries_of entries.General l) l.groups in
-    let cut : files ≡ flat_map (λ (g : Group). flat_map (λ (f : File). map (copy_entry l) (copies_of f) ++ flat_map (section_generals l) f.sections) g.files) l.groups =
-    flat_map-same (λ (g : Group). flat_map (file_generals l) g.files) (λ (g : Group). flat_map (λ (f : File). map (copy_entry l) (copies_of f) ++ flat_map (section_generals l) f.sections) g.files) l.groups (λ g. flat_map-same (file_generals l) (λ (f : File). map (copy_entry l) (copies_of f) ++ flat_map (section_generals l) f.sections) g.files (file_parts l)) in
-    let three = nested-parts (λ (g : Group). g.files) (λ (f : File). map (copy_entry l) (copies_of f)) (λ (f : File). flat_map (section_generals l) f.sections) l.groups in
+    let whole = flat_map (λ (g : Group). flat_map (generals l) (laid_files l g)) l.groups in
+    let first = flat_map (λ (g : Group). flat_map (first_generals l) (laid_files l g)) l.groups in
+    let files = flat_map (λ (g : Group). flat_map (file_generals l) (laid_files l g)) l.groups in
+    let slots = flat_map (λ (g : Group). flat_map (slot_entries_of entries.General l) (laid_files l g)) l.groups in
+    let rest = flat_map (λ (g : Group). flat_map (λ (f : File). file_generals l f ++ slot_entries_of entries.General l f) (laid_files l g)) l.groups in
+    let copies = flat_map (λ (g : Group). flat_map (λ (f : File). map (copy_entry l) (copies_of f)) (laid_files l g)) l.groups in
+    let fields = flat_map (λ (g : Group). flat_map (λ (f : File). flat_map (section_generals l) (processed l f)) (laid_files l g)) l.groups in
+    let one = nested-parts (laid_files l) (first_generals l) (λ (f : File). file_generals l f ++ slot_entries_of entries.General l f) l.groups in
+    let two = nested-parts (laid_files l) (file_generals l) (slot_entries_of entries.General l) l.groups in
+    let cut : files ≡ flat_map (λ (g : Group). flat_map (λ (f : File). map (copy_entry l) (copies_of f) ++ flat_map (section_generals l) (processed l f)) (laid_files l g)) l.groups =
+    flat_map-same (λ (g : Group). flat_map (file_generals l) (laid_files l g)) (λ (g : Group). flat_map (λ (f : File). map (copy_entry l) (copies_of f) ++ flat_map (section_generals l) (processed l f)) (laid_files l g)) l.groups (λ g. flat_map-same (file_generals l) (λ (f : File). map (copy_entry l) (copies_of f) ++ flat_map (section_generals l) (processed l f)) (laid_files l g) (file_parts l)) in
+    let three = nested-parts (laid_files l) (λ (f : File). map (copy_entry l) (copies_of f)) (λ (f : File). flat_map (section_generals l) (processed l f)) l.groups in
     let three' = subst (λ (ys : List Rela). IsPermutation ys (copies ++ fields)) (sym cut) three in
     let two' = IsPermutation-trans rest (files ++ slots) ((copies ++ fields) ++ slots) two (IsPermutation-append_left slots files (copies ++ fields) three') in
     let one' = IsPermutation-trans whole (first ++ rest) (first ++ ((copies ++ fields) ++ slots)) one (IsPermutation-append_right first rest ((copies ++ fields) ++ slots) two') in
     let all = IsPermutation-trans whole (first ++ ((copies ++ fields) ++ slots)) ((fields ++ (first ++ slots)) ++ copies) one' (turned fields first slots copies) in
     let ef : fields ≡ flat_map (section_generals l) (all_sections l) = sym (by_files (section_generals l) l) in
-    let eo : first ≡ storage_entries l = stands_once (storage_entries l) l.groups laid.some_group laid.files in
+    let eo : first ≡ storage_entries l = laid_same_all (first_generals l) l (λ at f. refl) ∙ stands_once (storage_entries l) l.groups laid.some_group laid.files in
     let es : slots ≡ made_of (entry_of entries.General l.machine l.options.relr) (all_sites l) = slots_listed l entries.General in
-    let ec : copies ≡ map (copy_entry l) (all_copies l) = sym (map-nested (copy_entry l) l.groups) in
+    let ec : copies ≡ map (copy_entry l) (all_copies l) = laid_same_all (λ (f : File). map (copy_entry l) (copies_of f)) l (λ at f. refl) ∙ sym (map-nested (copy_entry l) l.groups) in
     let same : (fields ++ (first ++ slots)) ++ copies ≡ general_list l =
     ap (λ (ys : List Rela). (ys ++ (first ++ slots)) ++ copies) ef
     ∙ ap (λ (ys : List Rela). (flat_map (section_generals l) (all_sections l) ++ (ys ++ slots)) ++ copies) eo
@@ -186,7 +191,7 @@ general_sorted l laid =
 pub entries_sorted : (l : Layout) (w : World) → IsLaidOut l → IsPermutation (flat_map relative_in (all_fillings l w) ++ flat_map general_in (all_fillings l w)) (tables_of l).entries
 entries_sorted l w laid =
     let target = (tables_of l).entries in
-    let both = IsPermutation-append (relative_list l) (flat_map (λ (g : Group). flat_map (relatives l) g.files) l.groups) (general_list l) (flat_map (λ (g : Group). flat_map (generals l) g.files) l.groups) (relative_sorted l) (general_sorted l laid) in
+    let both = IsPermutation-append (relative_list l) (flat_map (λ (g : Group). flat_map (relatives l) (laid_files l g)) l.groups) (general_list l) (flat_map (λ (g : Group). flat_map (generals l) (laid_files l g)) l.groups) (relative_sorted l) (general_sorted l laid) in
     let same : flat_map relative_in (all_fillings l w) ++ flat_map general_in (all_fillings l w) ≡ relative_list l ++ general_list l = ap (λ (ys : List Rela). ys ++ flat_map general_in (all_fillings l w)) (all_relative l w) ∙ ap (λ (ys : List Rela). relative_list l ++ ys) (all_general l w) in
     subst (λ (ys : List Rela). IsPermutation ys target) (sym same) both
 

@@ -1,4 +1,6 @@
 -- The numbers of the tables: each entry and each word has its range.
+use Rattle.wild_needs.specs.Needs.{has_last}
+use Rattle.wild_laid.specs.Laid.{laid_files, processed, sorted_sections}
 use Rattle.std.proofs.Common.{◌≡◌, ℕ, ◌+◌, ◌%◌, ◌^◌, ◌<◌, ◌≤◌, inl, inr, Bool, true, false, not, List, [], ◌∷◌, ◌++◌, map, get_or, refl, sym, arith, subst}
 use Rattle.std.specs.Prelude.{Option, Some, None, All, unwrap_or, option_to_list, option_map, option_and_then, if◌then◌else◌, ◌&&◌, slice_get}
 use Rattle.std.specs.List.{flat_map}
@@ -31,7 +33,7 @@ use Rattle.wild_slot.specs.declared.slot_parts.EntryPart.TheVariants as entries
 use Rattle.wild_slot.specs.declared.treatment.Treatment.{Treatment}
 use Rattle.wild_slot.specs.declared.treatment.Treatment.TheVariants as treatments
 use Rattle.wild_types.specs.Lookups.{place_of, packs, has_moved, canonical, has_address, files_of, file_of}
-use Rattle.wild_needs.specs.Entries.{is_moved, packed_place, packed_places, words_of, left_relocations}
+use Rattle.wild_needs.specs.Entries.{is_moved, packed_place, packed_places, words_of, left_relocations, sorted_words}
 use Rattle.wild_types.specs.FileSymbols.{copies_of}
 use Rattle.wild_types.specs.FileRoles.{is_prelude}
 use Rattle.wild_slot.specs.SlotParts.{next, is_packed, type_of, entry_at, entry_of, slot_entries, address_entry, flat_place}
@@ -47,7 +49,7 @@ use Rattle.wild_layout.specs.SymbolValues.{address_or, raw_address}
 use Rattle.wild_layout.specs.SlotValues.{decided_address}
 use Rattle.wild_types.specs.Addresses.{address_in_section, address_in_file, address_at, placed_value, resolved_or, raw_value}
 use Rattle.wild_tables.specs.Tables.{relative_entry}
-use Rattle.wild_loaded.specs.Tables.{file_packed, group_words, relatives, first_generals, generals, tables_of}
+use Rattle.wild_loaded.specs.Tables.{file_packed, group_words, relatives, first_generals, generals, tables_of, words_of_last}
 use Rattle.wild_loaded.proofs.SlotNumbers.{WordFits}
 use Rattle.wild_loaded.proofs.SlotSites.{SlotSite, of_site, file_sites, group_sites, entries_by_sites, flat_by_sites, block_by_sites}
 use Rattle.wild_loaded.proofs.SitesFit.{SiteFits, sites_fit, group_sites_fit, block_fits}
@@ -95,7 +97,7 @@ of_slots P l (x ∷ xs) h a =
 pub of_file : (P : Rela → Type 0) (l : Layout) (f : File) → OfEntries l P → All SymbolNumbers l.symbols → All P (relatives l f)
 of_file P l f h numbers =
     All-append P (file_entries l f) (slot_entries_of entries.Relative l f)
-    (All-flat_map P (section_entries l) f.sections (λ k d b. of_section P l (get_or f.sections k d) h))
+    (All-flat_map P (section_entries l) (processed l f) (λ k d b. of_section P l (get_or (processed l f) k d) h))
     (subst (All P) (sym (entries_by_sites entries.Relative l f)) (of_slots P l (file_sites l f) h (sites_fit l f numbers)))
 
 -- any number, seen as one with a sign, has 64 bits
@@ -218,9 +220,9 @@ left_entries_fit l s = All-map RelaFits (left_entry l s.address s.flags) (left_r
 file_entries_fit : (l : Layout) (f : File) → All SymbolNumbers l.symbols → All RelaFits (file_generals l f)
 unfolding file_generals
 file_entries_fit l f numbers =
-    All-append RelaFits (map (copy_entry l) (copies_of f)) (flat_map (section_generals l) f.sections)
+    All-append RelaFits (map (copy_entry l) (copies_of f)) (flat_map (section_generals l) (processed l f))
     (All-map RelaFits (copy_entry l) (copies_of f) (λ k d b. named_fits (or_zero (raw_address l (Some (get_or (copies_of f) k d)))) (type_of l.machine entry_kinds.Copy) (index_or_zero l (get_or (copies_of f) k d)) 0 (raw_low l (get_or (copies_of f) k d) numbers)))
-    (All-flat_map RelaFits (section_generals l) f.sections (λ k d b. left_entries_fit l (get_or f.sections k d)))
+    (All-flat_map RelaFits (section_generals l) (processed l f) (λ k d b. left_entries_fit l (get_or (processed l f) k d)))
 
 -- ---- all entries
 
@@ -242,15 +244,15 @@ generals_fit l f low numbers =
     (All-append RelaFits (file_generals l f) (slot_entries_of entries.General l f) (file_entries_fit l f numbers) (slot_entries_fit entries.General l f numbers))
 
 -- what holds of the entries of each file holds of all
-of_all_files : (P : Rela → Type 0) (l : Layout) (of : File → List Rela) → ((f : File) → All P (of f)) → All P (flat_map (λ (g : Group). flat_map of g.files) l.groups)
-of_all_files P l of h = All-flat_map P (λ (g : Group). flat_map of g.files) l.groups (λ i d b. All-flat_map P of (get_or l.groups i d).files (λ j f c. h (get_or (get_or l.groups i d).files j f)))
+of_all_files : (P : Rela → Type 0) (l : Layout) (of : File → List Rela) → ((f : File) → All P (of f)) → All P (flat_map (λ (g : Group). flat_map of (laid_files l g)) l.groups)
+of_all_files P l of h = All-flat_map P (λ (g : Group). flat_map of (laid_files l g)) l.groups (λ i d b. All-flat_map P of (laid_files l (get_or l.groups i d)) (λ j f c. h (get_or (laid_files l (get_or l.groups i d)) j f)))
 
-pub all_generals_fit : (l : Layout) → PairIsLow l → All SymbolNumbers l.symbols → All RelaFits (flat_map (λ (g : Group). flat_map (generals l) g.files) l.groups)
+pub all_generals_fit : (l : Layout) → PairIsLow l → All SymbolNumbers l.symbols → All RelaFits (flat_map (λ (g : Group). flat_map (generals l) (laid_files l g)) l.groups)
 all_generals_fit l low numbers = of_all_files RelaFits l (generals l) (λ f. generals_fit l f low numbers)
 
 pub entries_fit : (l : Layout) → PairIsLow l → All SymbolNumbers l.symbols → All RelaFits (tables_of l).entries
 entries_fit l low numbers =
-    All-append RelaFits (flat_map (λ (g : Group). flat_map (relatives l) g.files) l.groups) (flat_map (λ (g : Group). flat_map (generals l) g.files) l.groups)
+    All-append RelaFits (flat_map (λ (g : Group). flat_map (relatives l) (laid_files l g)) l.groups) (flat_map (λ (g : Group). flat_map (generals l) (laid_files l g)) l.groups)
     (of_all_files RelaFits l (relatives l) (λ f. relatives_fit l f numbers))
     (all_generals_fit l low numbers)
 
@@ -317,9 +319,13 @@ block_low l g numbers = subst (λ (ps : List ℕ). first_place ps < 2 ^ 64) (sym
 
 words_of_group : (l : Layout) (g : Group) → WordsFit → All SymbolNumbers l.symbols → All IsWord (group_words l g)
 words_of_group l g law numbers =
-    All-append IsWord (flat_map (file_packed l) g.files) (block_words l g)
-    (All-flat_map IsWord (file_packed l) g.files (λ k d b. words_of_file l (get_or g.files k d) law numbers))
-    (block_fits (block_of (group_block l g)).base (block_of (group_block l g)).count (block_low l g numbers))
+    All-append IsWord (flat_map (file_packed l) (laid_files l g)) (block_words l g ++ words_of_last l g)
+    (All-flat_map IsWord (file_packed l) (laid_files l g) (λ k d b. words_of_file l (get_or (laid_files l g) k d) law numbers))
+    (All-append IsWord (block_words l g) (words_of_last l g) (block_fits (block_of (group_block l g)).base (block_of (group_block l g)).count (block_low l g numbers)) (by_last (has_last g)))
+  where
+    by_last : (b : Bool) → All IsWord (if b then sorted_words l else [])
+    by_last false = All-nil IsWord
+    by_last true = All-flat_map IsWord (words_of l) (sorted_sections l) (λ k d b. law (packed_places l (get_or (sorted_sections l) k d)) (places_fit l (get_or (sorted_sections l) k d)))
 
 pub words_fit : (l : Layout) → WordsFit → All SymbolNumbers l.symbols → All IsWord (tables_of l).words
 words_fit l law numbers = All-flat_map IsWord (group_words l) l.groups (λ k d b. words_of_group l (get_or l.groups k d) law numbers)

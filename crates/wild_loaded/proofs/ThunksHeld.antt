@@ -1,22 +1,29 @@
 -- Thunks in the memory of an image: as the file has them, whatever its tables fill.
-use Rattle.std.proofs.Common.{◌≡◌, ℕ, ◌+◌, ◌<◌, inl, inr, true, List, [], ◌∷◌, length, Some, flat_map, refl, sym, ap, ◌∙◌, arith, subst}
-use Rattle.std.specs.Prelude.{All, Contains, Result, slice_index}
+use Rattle.wild_words.proofs.ListLemmas.{flat_map-flat_map}
+use Rattle.wild_laid.specs.Laid.{laid_file, laid_files, processed, of_last_file, sorted_inputs}
+use Rattle.wild_geometry.specs.Laid.{file_place}
+use Rattle.wild_loaded.proofs.SectionsAside.{inside_apart, frame_inside}
+use Rattle.wild_geometry.proofs.StoodSections.{all_sections, input_of, in_processed, laid_of, laid_same_all}
+use Rattle.wild_loaded.proofs.Rooms.{room_of, length-room, section_room, rooms_in, stood_files}
+use Rattle.std.proofs.Common.{◌≡◌, ℕ, ◌+◌, ◌<◌, inl, inr, true, List, [], ◌∷◌, length, Some, flat_map, refl, sym, ap, ◌∙◌, arith, subst, ◌++◌}
+use Rattle.std.specs.Prelude.{All, Contains, Result, slice_index, slice_get}
 use Rattle.std.proofs.lemmas.List.Elements.{All-contains, Contains-append_right}
 use Rattle.wild_words.specs.Words.{Stands}
 use Rattle.wild_words.specs.Overlay.{Piece, Apart}
 use Rattle.wild_types.specs.declared.fault.Fault.{Fault}
 use Rattle.wild_types.specs.declared.part.Role.{Role}
+use Rattle.wild_types.specs.declared.part.Role.TheVariants as role
 use Rattle.wild_types.specs.declared.input.InputSection.{InputSection}
 use Rattle.wild_types.specs.declared.file.File.{File}
 use Rattle.wild_types.specs.declared.file.Group.{Group}
 use Rattle.wild_types.specs.declared.layout.Thunk.{Thunk}
 use Rattle.wild_types.specs.declared.layout.Layout.{Layout}
 use Rattle.wild_types.specs.FileThunks.{thunk_size, thunks_of}
-use Rattle.wild_types.specs.Lookups.{is_filled, files_of}
+use Rattle.wild_types.specs.Lookups.{is_filled, files_of, is_frame}
 use Rattle.wild_types.specs.Parts.{is_loaded_role}
 use Rattle.wild_relax.specs.ThunkAArch64.{thunk_aarch64}
 use Rattle.wild_layout.specs.Thunks.{thunk_target, target_or_zero, thunk_bytes}
-use Rattle.wild_layout.specs.Image.{bytes, pieces, section_pieces, thunk_offset, thunk_piece, thunk_pieces, file_pieces, table_pieces, owned_pieces, group_pieces}
+use Rattle.wild_layout.specs.Image.{bytes, pieces, section_pieces, thunk_offset, thunk_piece, thunk_pieces, file_pieces, table_pieces, owned_pieces, group_pieces, sorted_piece, of_first_file, once_pieces, offset_in}
 use Rattle.wild_layout.specs.ThunkPlaces.{ThunkLies}
 use Rattle.wild_layout.specs.Geometry.{IsLaidOut}
 use Rattle.wild_layout.proofs.FaultLemmas.{CanGoOn, thunks_of_groups}
@@ -28,16 +35,14 @@ use Rattle.wild_loader.specs.Memory.{Holds, byte_in}
 use Rattle.wild_loader.specs.SegmentLaws.{BytesAreLoaded}
 use Rattle.wild_meaning.specs.World.{IsLegal}
 use Rattle.wild_geometry.specs.Thunks.{HasThunks}
-use Rattle.wild_geometry.proofs.Rooms.{room_of, length-room, section_room, rooms_in}
-use Rattle.wild_loaded.specs.Memory.{IsStored, image_memory}
+use Rattle.wild_loaded.specs.Memory.{IsStored, image_memory, HasPlace, Filled, Framed}
 use Rattle.wild_loaded.specs.Laws.{ThunksAreThere}
 use Rattle.wild_loaded.proofs.Carried.{Contains-flat_map_from}
 use Rattle.wild_loaded.proofs.PartsHeld.{byte_stands, byte_carried}
 use Rattle.wild_loaded.proofs.Loads.{piece_stands}
 use Rattle.wild_loaded.proofs.Homes.{Home, HasHome, HomesApart, homes_back}
-use Rattle.wild_loaded.proofs.SectionsApart.{all_sections, section_home, thunk_pieces_apart}
+use Rattle.wild_loaded.proofs.SectionsApart.{section_home, thunk_pieces_apart, filled_place}
 use Rattle.wild_loaded.proofs.TableHomes.{role_home, room_apart}
-use Rattle.wild_loaded.proofs.FilledSections.{input_of}
 use Rattle.wild_loaded.proofs.MadeChanges.{IsMovedImage, kept_at}
 use Rattle.wild_loaded.proofs.OutsideTables.{run_misses}
 
@@ -70,8 +75,12 @@ of_thunks l t k = Contains-flat_map (thunk_piece l) (thunks_of l k.file) t (thun
 thunk_listed : (l : Layout) (t : Thunk) → IsOfFile l t → Contains (pieces l) (thunk_at l t)
 unfolding pieces
 thunk_listed l t k =
-    let owned = Contains-append_right (section_pieces l k.file) (thunk_pieces l k.file) (thunk_at l t) (of_thunks l t k) in
-    let in_group = Contains-flat_map (file_pieces l) k.group.files k.file (thunk_at l t) k.filed owned in
+    let a = laid_of l k.group k.file k.filed in
+    let f = laid_file l a.0 k.file in
+    let sorted = of_last_file f (flat_map (sorted_piece l) (sorted_inputs l)) in
+    let once = of_first_file f (once_pieces l) in
+    let owned = Contains-append_right (section_pieces l f) (sorted ++ (once ++ thunk_pieces l f)) (thunk_at l t) (Contains-append_right sorted (once ++ thunk_pieces l f) (thunk_at l t) (Contains-append_right once (thunk_pieces l f) (thunk_at l t) (of_thunks l t k))) in
+    let in_group = Contains-flat_map (file_pieces l) (laid_files l k.group) f (thunk_at l t) a.1 owned in
     Contains-flat_map_from (group_pieces l) 0 l.groups k.group (thunk_at l t) k.grouped (λ n. Contains-append_right (table_pieces l n k.group) (owned_pieces l k.group) (thunk_at l t) in_group)
 
 thunk_stands : (l : Layout) (t : Thunk) → IsLaidOut l → IsOfFile l t → Stands (bytes l) (thunk_offset l t) (thunk_bytes l t)
@@ -105,35 +114,45 @@ thunk_home l t = record { address = t.address; offset = thunk_offset l t; size =
 home_there : (l : Layout) (t : Thunk) → ThunkLies l t → HasHome l (thunk_home l t)
 home_there l t h k lt = h.carried k lt
 
--- a thunk shares no byte with a section
-section_apart : (l : Layout) (t : Thunk) (s : InputSection) → IsLaidOut l → IsOfFile l t → Contains (all_sections l) s → IsStored l s → HomesApart (thunk_home l t) (section_home l s)
-section_apart l t s laid k c stored =
+thunks_stood : (l : Layout) → flat_map (thunk_pieces l) (stood_files l) ≡ flat_map (thunk_pieces l) (files_of l.groups)
+thunks_stood l = flat_map-flat_map (thunk_pieces l) (laid_files l) l.groups ∙ laid_same_all (thunk_pieces l) l (λ at f. refl) ∙ sym (flat_map-flat_map (thunk_pieces l) (λ (g : Group). g.files) l.groups)
+
+-- a thunk shares no byte with a section that owns bytes
+filled_apart : (l : Layout) (t : Thunk) (s : InputSection) → IsLaidOut l → IsOfFile l t → Contains (all_sections l) s → is_filled l s ≡ true → HomesApart (thunk_home l t) (section_home l s)
+filled_apart l t s laid k c filled =
     let i = input_of l s c in
-    let own : Contains (section_room l s) (room_of l s) = subst (λ (ps : List Piece). Contains ps (room_of l s)) (sym (one l s stored.filled)) (0, omega arith, refl) in
-    let in_file = Contains-flat_map (section_room l) i.file.sections s (room_of l s) i.listed own in
-    let file = Contains-flat_map (λ (g : Group). g.files) l.groups i.group i.file i.grouped i.filed in
-    let section = Contains-flat_map (rooms_in l) (files_of l.groups) i.file (room_of l s) file in_file in
-    let home = Contains-flat_map (λ (g : Group). g.files) l.groups k.group k.file k.grouped k.filed in
-    let thunk = Contains-flat_map (thunk_pieces l) (files_of l.groups) k.file (thunk_at l t) home (of_thunks l t k) in
-    let all = All-contains (λ a. All (Apart a) (flat_map (thunk_pieces l) (files_of l.groups))) (flat_map (rooms_in l) (files_of l.groups)) (room_of l s) (thunk_pieces_apart l laid) section in
-    sides (All-contains (Apart (room_of l s)) (flat_map (thunk_pieces l) (files_of l.groups)) (thunk_at l t) all thunk) (length-room l s) (length-thunk_bytes l t)
+    let own : Contains (section_room l s) (room_of l s) = subst (λ (ps : List Piece). Contains ps (room_of l s)) (sym (one l s filled)) (0, omega arith, refl) in
+    let in_file = Contains-flat_map (section_room l) (processed l i.file) s (room_of l s) (in_processed l i.file i.owner s i.listed) own in
+    let file = Contains-flat_map (laid_files l) l.groups i.group i.file i.grouped i.filed in
+    let section = Contains-flat_map (rooms_in l) (stood_files l) i.file (room_of l s) file in_file in
+    let thunk = subst (λ (ps : List Piece). Contains ps (thunk_at l t)) (sym (thunks_stood l)) (Contains-flat_map (thunk_pieces l) (files_of l.groups) k.file (thunk_at l t) (Contains-flat_map (λ (g : Group). g.files) l.groups k.group k.file k.grouped k.filed) (of_thunks l t k)) in
+    let all = All-contains (λ a. All (Apart a) (flat_map (thunk_pieces l) (stood_files l))) (flat_map (rooms_in l) (stood_files l)) (room_of l s) (thunk_pieces_apart l laid) section in
+    sides (All-contains (Apart (room_of l s)) (flat_map (thunk_pieces l) (stood_files l)) (thunk_at l t) all thunk) (length-room l s) (length-thunk_bytes l t) (filled_place l s filled)
   where
     one : (l : Layout) (s : InputSection) → is_filled l s ≡ true → section_room l s ≡ room_of l s ∷ []
     one l s filled = rw filled refl
 
-    sides : Apart (room_of l s) (thunk_at l t) → length (room_of l s).bytes ≡ s.size → length (thunk_bytes l t) ≡ thunk_size → HomesApart (thunk_home l t) (section_home l s)
-    sides (inl le) fs ft = inr (omega (arith, le, fs))
-    sides (inr le) fs ft = inl (omega (arith, le, ft))
+    sides : Apart (room_of l s) (thunk_at l t) → length (room_of l s).bytes ≡ s.size → length (thunk_bytes l t) ≡ thunk_size → file_place l s ≡ offset_in (slice_get l.parts s.part) s.address → HomesApart (thunk_home l t) (section_home l s)
+    sides (inl le) fs ft e = inr (omega (arith, le, fs, e))
+    sides (inr le) fs ft e = inl (omega (arith, le, ft, e))
 
 -- nor with a table
 table_apart : (l : Layout) (t : Thunk) (r : Role) → IsLaidOut l → ThunkLies l t → is_loaded_role r ≡ true → HomesApart (thunk_home l t) (role_home l r)
 table_apart l t r laid h loaded = homes_back (role_home l r) (thunk_home l t) (room_apart l r l.primary_part t.address thunk_size h.stands.0 loaded laid h.stands.1)
 
+-- nor with any section
+section_apart : (l : Layout) (t : Thunk) (s : InputSection) → IsLaidOut l → IsOfFile l t → ThunkLies l t → Contains (all_sections l) s → IsStored l s → HomesApart (thunk_home l t) (section_home l s)
+section_apart l t s laid k lies c stored = by_place stored.place
+  where
+    by_place : HasPlace l s → HomesApart (thunk_home l t) (section_home l s)
+    by_place (Filled filled) = filled_apart l t s laid k c filled
+    by_place (Framed frame) = inside_apart (section_home l s) (role_home l role.EhFrame) (thunk_home l t) stored.some (frame_inside l s laid c frame) (table_apart l t role.EhFrame laid lies refl)
+
 -- a byte of a thunk is filled by none of them
 thunk_kept : (l : Layout) (w : World) (m : Memory) (t : Thunk) (i : ℕ) → IsMovedImage l w m → IsOfFile l t → i < thunk_size → byte_in m (w.base + t.address + i) ≡ byte_in (image_memory l w) (w.base + t.address + i)
 thunk_kept l w m t i h k lt =
     let lies = each_of l (ThunkLies l) t h.well.laid.thunks k in
-    let same = kept_at l w m (t.address + i) h (run_misses l w m (thunk_home l t) i h (home_there l t lies) (λ s c stored. section_apart l t s h.well.laid k c stored) (λ r loaded. table_apart l t r h.well.laid lies loaded) lt) in
+    let same = kept_at l w m (t.address + i) h (run_misses l w m (thunk_home l t) i h (home_there l t lies) (λ s c stored. section_apart l t s h.well.laid k lies c stored) (λ r loaded. table_apart l t r h.well.laid lies loaded) lt) in
     let e : w.base + (t.address + i) ≡ w.base + t.address + i = omega arith in
     subst (λ (a : ℕ). byte_in m a ≡ byte_in (image_memory l w) a) e same
 

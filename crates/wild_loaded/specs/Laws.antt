@@ -55,7 +55,7 @@ use Rattle.wild_loader.specs.Laws.{HasDynamic}
 use Rattle.wild_tables.specs.Dynamic.{dynamic_records}
 use Rattle.wild_meaning.specs.Section.{HasFileBytes}
 use Rattle.wild_meaning.specs.World.{IsLoadable, IsLegal, IsBehind, IsCopied, HasCopy}
-use Rattle.wild_meaning.specs.Item.{IsKeptSection}
+use Rattle.wild_geometry.specs.Laid.{IsKeptLaid}
 use Rattle.wild_meaning.specs.DynamicSection.{TellsLinker}
 use Rattle.wild_meaning.specs.Linked.{HasHeader, IsBlank, processor_of}
 use Rattle.wild_loaded.specs.Owners.{HasOneOwnerEach}
@@ -82,13 +82,13 @@ pub record SegmentsAreLoadable : Type 0 where
   pub loadable : (l : Layout) (w : World) → IsLegal l w → IsLaidOut l → AreLoadable w.base (bytes l) (headers_of l)
   pub machine : (l : Layout) (w : World) → (image_memory l w).machine ≡ processor_of l.machine
 
--- a kept section that has bytes has them in the file, and loaded segments carry each to its address
+-- a kept section as it stands that has bytes has them in the file, and loaded segments carry each to its address
 abbrev pub SectionsAreCarried : Type 0
-SectionsAreCarried = (l : Layout) (s : InputSection) → IsLaidOut l → IsKeptSection l s → 1 ≤ length s.bytes → IsStored l s
+SectionsAreCarried = (l : Layout) (s : InputSection) → IsLoadable l.kind → IsLaidOut l → IsKeptLaid l s → 1 ≤ length s.bytes → IsStored l s
 
 -- a kept section is there as the file has it: of an address that moves what stands at its place in the file
 abbrev pub SectionsAreStored : Type 0
-SectionsAreStored = (l : Layout) (w : World) (s : InputSection) → IsLegal l w → IsLaidOut l → (k : IsKeptSection l s) → IsDecided l (item_of l k.input.file s) → HasItem l w (image_memory l w) (item_of l k.input.file s) InFile
+SectionsAreStored = (l : Layout) (w : World) (s : InputSection) → IsLoadable l.kind → IsLegal l w → IsLaidOut l → (k : IsKeptLaid l s) → IsDecided l (item_of l k.input.owner s) → HasItem l w (image_memory l w) (item_of l k.input.owner s) InFile
 
 -- behind the file bytes of a loaded segment are zeros
 abbrev pub ZerosAreStored : Type 0

@@ -1,21 +1,19 @@
 -- The memory that a loader makes of an image.
 --   headers_of l       the program headers of the image
 --   image_memory l w   its loaded segments in a world, before any entry is applied
---   IsStored l s       the section's bytes stand in the file, and loaded segments carry each to its address
+--   IsStored l s       the section's bytes stand in the file, and loaded segments carry each to its address; a section as it stands
 --   EachDecided l      each section that is read is decided
 --   HasMemory l w      the loader accepts the image, and memory has each kept item as it was decided, the slots and the thunks
-use Rattle.std.specs.Prelude.{◌≡◌, ℕ, ◌+◌, ◌<◌, true, List, length, map, Some, Ok}
+use Rattle.std.specs.Prelude.{◌≡◌, ℕ, ◌+◌, ◌<◌, ◌≤◌, true, List, length, map, Some, Ok}
 use Rattle.wild_records.specs.declared.program_header.ProgramHeader.{ProgramHeader}
 use Rattle.wild_types.specs.declared.input.InputSection.{InputSection}
 use Rattle.wild_types.specs.Item.{Item, item_of}
-use Rattle.wild_types.specs.declared.file.File.{File}
 use Rattle.wild_types.specs.declared.layout.Layout.{Layout}
 use Rattle.wild_types.specs.declared.section.Segment.{Segment}
-use Rattle.wild_types.specs.Lookups.{is_read, is_filled}
+use Rattle.wild_types.specs.Lookups.{is_read, is_frame, is_filled}
 use Rattle.wild_headers.specs.Headers.{file_header, program_header}
-use Rattle.wild_layout.specs.Sites.{section_bytes}
 use Rattle.wild_layout.specs.Image.{bytes}
-use Rattle.wild_layout.specs.Loadable.{IsCarried}
+use Rattle.wild_layout.specs.Loadable.{CarriesByte}
 use Rattle.wild_geometry.specs.Slots.{HasSlots}
 use Rattle.wild_geometry.specs.Thunks.{HasThunks}
 use Rattle.wild_geometry.specs.Loaded.{IsDecided, HasItem, InMemory}
@@ -26,16 +24,22 @@ use Rattle.wild_loader.specs.Headers.{machine_of}
 use Rattle.wild_loader.specs.Load.{load}
 use Rattle.wild_loader.specs.Memory.{byte_in, Holds}
 use Rattle.wild_loader.specs.SegmentLaws.{loaded_memory}
-use Rattle.wild_meaning.specs.Item.{IsInput, IsKept}
+use Rattle.wild_meaning.specs.Item.{IsKept}
 use Rattle.wild_meaning.specs.Section.{HasFileBytes}
 use Rattle.wild_meaning.specs.World.{IsBehind, HasCopy}
 use Rattle.wild_meaning.specs.Linked.{IsBlank, IsNotCopied, processor_of}
+use Rattle.wild_geometry.specs.Laid.{IsLaid, file_place}
 
--- the section has bytes in the file, as many as it has room for, whichever file it is of, and each is carried to its address
+-- the section has bytes of its own in the file, or in the part of frames
+pub data HasPlace (l : Layout) (s : InputSection) : Type 0 where
+  Filled : is_filled l s ≡ true → HasPlace l s
+  Framed : is_frame s.slot ≡ true → HasPlace l s
+
+-- and each is carried to its address
 pub record IsStored (l : Layout) (s : InputSection) : Type 0 where
-  pub filled : is_filled l s ≡ true
-  pub full : (f : File) → length (section_bytes l f s) ≡ s.size
-  pub carried : (k : ℕ) → k < s.size → (h : Segment) × IsCarried l s k h
+  pub some : 1 ≤ s.size
+  pub place : HasPlace l s
+  pub carried : (k : ℕ) → k < s.size → (h : Segment) × CarriesByte l h (file_place l s + k) (s.address + k)
 
 -- the program headers of the image, one a segment
 abbrev pub headers_of : Layout → List ProgramHeader
@@ -47,7 +51,7 @@ image_memory l w = loaded_memory (machine_of (file_header l)) w.base (bytes l) (
 
 -- each section whose relocations are read has decisions that lie apart
 abbrev pub EachDecided : Layout → Type 0
-EachDecided l = (s : InputSection) (k : IsInput l s) → is_read s ≡ true → IsDecided l (item_of l k.file s)
+EachDecided l = (s : InputSection) (k : IsLaid l s) → is_read s ≡ true → IsDecided l (item_of l k.owner s)
 
 -- the loader accepts the image; memory has each kept item as it was decided, addresses that move more by the base, the
 -- slots, stubs and thunks, copies of symbols, and else zeros behind the file bytes of segments, and in sections without data

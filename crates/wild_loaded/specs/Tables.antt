@@ -16,7 +16,10 @@ use Rattle.wild_types.specs.declared.file.Group.{Group}
 use Rattle.wild_types.specs.declared.layout.Layout.{Layout}
 use Rattle.wild_types.specs.FileRoles.{is_prelude}
 use Rattle.wild_needs.specs.SlotShares.{block_words}
+use Rattle.wild_needs.specs.Entries.{sorted_words}
+use Rattle.wild_needs.specs.Needs.{has_last}
 use Rattle.wild_headers.specs.Headers.{file_header, section_headers_of}
+use Rattle.wild_laid.specs.Laid.{laid_files}
 use Rattle.wild_layout.specs.Image.{bytes}
 use Rattle.wild_layout.specs.Moved.{file_entries, file_words}
 use Rattle.wild_layout.specs.Left.{file_generals}
@@ -25,12 +28,16 @@ use Rattle.wild_loader.specs.declared.tables.Tables.{Tables}
 use Rattle.wild_loader.specs.Laws.{HasDynamic, HasTables, HasSectionTables, section_relas, IsStatic}
 use Rattle.wild_loaded.specs.Memory.{headers_of}
 
--- the words of packed places: file by file those of input sections and those of slots, and then those of the block
+-- the words of packed places: file by file those of input sections and those of slots, and then those of the block, and those of the
+-- sorted sections where the group has the last file
 abbrev pub file_packed : Layout → File → List ℕ
 file_packed l f = file_words l f ++ flat_places_of l f
 
+abbrev pub words_of_last : Layout → Group → List ℕ
+words_of_last l g = if has_last g then sorted_words l else []
+
 abbrev pub group_words : Layout → Group → List ℕ
-group_words l g = flat_map (file_packed l) g.files ++ block_words l g
+group_words l g = flat_map (file_packed l) (laid_files l g) ++ (block_words l g ++ words_of_last l g)
 
 -- the relative entries of a file: those of input sections, and those of slots
 abbrev pub relatives : Layout → File → List Rela
@@ -48,8 +55,8 @@ generals l f = first_generals l f ++ (file_generals l f ++ slot_entries_of entri
 abbrev pub tables_of : Layout → Tables
 tables_of l = record {
   words = flat_map (group_words l) l.groups;
-  entries = flat_map (λ (g : Group). flat_map (relatives l) g.files) l.groups ++ flat_map (λ (g : Group). flat_map (generals l) g.files) l.groups;
-  jumps = flat_map (λ (g : Group). flat_map (slot_entries_of entries.Plt l) g.files) l.groups;
+  entries = flat_map (λ (g : Group). flat_map (relatives l) (laid_files l g)) l.groups ++ flat_map (λ (g : Group). flat_map (generals l) (laid_files l g)) l.groups;
+  jumps = flat_map (λ (g : Group). flat_map (slot_entries_of entries.Plt l) (laid_files l g)) l.groups;
 }
 
 -- the image has a dynamic section, and these tables stand in it by its entries

@@ -40,7 +40,7 @@ pub fn segments_are_loadable()
     ensures { SegmentsAreLoadable }
 {}
 
-/// A kept section that has bytes has them in the file, and loaded segments carry each to its address.
+/// A kept section as it stands that has bytes has them in the file, and loaded segments carry each to its address.
 pub fn sections_are_carried()
     ensures { SectionsAreCarried }
 {}
@@ -52,6 +52,7 @@ pub fn sections_are_stored()
     ensures blanks { BlanksAreStored }
 {
     bytes_are_loaded();
+    parts_are_stored();
 }
 
 /// In a layout without faults the slots of symbols are written whole.

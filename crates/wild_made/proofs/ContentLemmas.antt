@@ -4,13 +4,13 @@ use Rattle.std.specs.Prelude.{Some, None, Ok}
 use Rattle.std.proofs.lemmas.Bool.{cases_Bool, le-leb, ne_eqb, eq-eqb}
 use Rattle.wild_types.specs.Lists.{first_failing, total}
 use Rattle.wild_types.specs.Lookups.{bit}
-use Rattle.wild_clauses.specs.Contents.{each_section, share_mismatch, has_share_for_each_part, part_placed, file_placed_in, parts_placed, section_misplaced, length_fits, discarded_is_empty, part_is_raw, allocation_agrees, bytes_take_room}
+use Rattle.wild_clauses.specs.Contents.{each_section, share_mismatch, has_share_for_each_part, part_placed, file_placed_in, parts_placed, section_misplaced, length_fits, discarded_is_empty, part_is_raw, frames_part_fits, files_named_once, sorted_named_once, file_leaves_front, front_is_free, allocation_agrees, bytes_take_room}
 use Rattle.wild_types.specs.FilePlaces.{given, files_placed, file_misplaced}
 use Rattle.wild_clauses.specs.ClauseTests.{check_shares, check_inputs}
 use Rattle.wild_made.specs.Made.{made_section, made_files, made_group, made_parts, made}
 use Rattle.wild_made.specs.Laws.{IsCount}
 use Rattle.wild_made.proofs.ListLemmas.{made_from, none_fails, total_same, length_made}
-use Rattle.wild_made.proofs.FileLemmas.{through_files}
+use Rattle.wild_made.proofs.FileLemmas.{all_files, through_files}
 use Rattle.wild_made.proofs.PlaceLemmas.{sections_pass}
 
 -- ---- clause 7
@@ -80,11 +80,11 @@ shares_hold n c =
 -- ---- clause 8
 
 other_placed : (n i part start end : ℕ) → (2 == part) ≡ false → part_placed (made n) part start end (made_group n i) ≡ true
-unfolding made_section
+unfolding made_section made
 other_placed n i part start end h = rw (through_files (file_placed_in (made n) part end) start n i (λ t. refl) (λ t. refl) (Some start) (rw h refl)) refl
 
 own_placed : (n i start end : ℕ) → start ≡ 4194432 + 64 * i → end ≡ start + 64 → part_placed (made n) 2 start end (made_group n i) ≡ true
-unfolding made_section
+unfolding made_section made
 own_placed n i start end e f =
     let a = le-leb start (4194432 + 64 * i) (omega arith) in
     let b = le-leb (4194432 + 64 * i + 64) end (omega arith) in
@@ -135,10 +135,33 @@ allocations_agree : (n : ℕ) → first_failing (each_section (allocation_agrees
 unfolding made_section made bit
 allocations_agree n = sections_pass (allocation_agrees (made n)) n (λ i h. refl)
 
+frames_placed : (n : ℕ) → first_failing (each_section (frames_part_fits (made n))) 0 (made_from (made_group n) 0 n) ≡ None
+unfolding made_section made
+frames_placed n = sections_pass (frames_part_fits (made n)) n (λ i h. refl)
+
+-- there are no sorted sections
+files_named : (n i a : ℕ) → files_named_once (made n) i 0 (made_files n a) ≡ true
+unfolding made_section
+files_named n i a =
+    elim (cases_Bool (a == 0)) [
+      | inl z ↦ elim (cases_Bool (a + 1 == n)) [ inl b ↦ simp (z, b) refl | inr b ↦ simp (z, b) refl ]
+      | inr z ↦ elim (cases_Bool (a + 1 == n)) [ inl b ↦ simp (z, b) refl | inr b ↦ simp (z, b) refl ]
+    ]
+
+none_sorted : (n i a m : ℕ) → sorted_named_once (made n) i (made_from (made_group n) a m) ≡ None
+none_sorted n i a zero = refl
+none_sorted n i a (suc m) = rw (files_named n i a) (none_sorted n (i + 1) (a + 1) m)
+
+-- no merged strings stand anywhere
+front_free : (n : ℕ) → front_is_free (made n) ≡ true
+unfolding made_section made
+front_free zero = refl
+front_free (suc m) = all_files (file_leaves_front (made (suc m))) (suc m) 0 refl refl refl
+
 bytes_have_room : (n : ℕ) → first_failing (each_section (bytes_take_room (made n))) 0 (made_from (made_group n) 0 n) ≡ None
 unfolding made_section made
 bytes_have_room n = sections_pass (bytes_take_room (made n)) n (λ i h. refl)
 
 pub inputs_hold : (n : ℕ) → check_inputs (made n) ≡ Ok tt
 unfolding check_inputs made
-inputs_hold n = rw (first_placed n n, lengths_fit n, discarded_empty n, parts_raw n, allocations_agree n, bytes_have_room n) refl
+inputs_hold n = rw (first_placed n n, none_sorted n 0 0 n, lengths_fit n, frames_placed n, discarded_empty n, parts_raw n, front_free n, allocations_agree n, bytes_have_room n) refl

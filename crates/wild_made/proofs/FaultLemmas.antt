@@ -20,7 +20,7 @@ use Rattle.wild_types.specs.Flags.{has_flag}
 use Rattle.wild_types.specs.Rows.{row_of}
 use Rattle.wild_types.specs.FilePlaces.{given}
 use Rattle.wild_types.specs.Item.{item_with, block_for}
-use Rattle.wild_types.specs.Lookups.{place_of, bit, is_read}
+use Rattle.wild_types.specs.Lookups.{place_of, bit, is_read, is_frame}
 use Rattle.wild_reloc.specs.TableX86_64.{x86_64_row}
 use Rattle.wild_reloc.specs.declared.info.RelocationSize.TheVariants.{ByteSize}
 use Rattle.wild_reloc.specs.declared.info.Width.TheVariants.{Four}
@@ -32,17 +32,21 @@ use Rattle.wild_layout.specs.Decide.{reached, decided, decide}
 use Rattle.wild_layout.proofs.ChoiceLemmas.{choice_is}
 use Rattle.wild_layout.proofs.DecisionLemmas.{decide_alone}
 use Rattle.wild_layout.proofs.SiteLemmas.{site_written}
-use Rattle.wild_layout.specs.Sites.{field_site, site, extent_of}
+use Rattle.wild_layout.specs.Sites.{field_site, site, input_extents}
 use Rattle.wild_layout.specs.SymbolValues.{displacement}
 use Rattle.wild_types.specs.Addresses.{raw_value}
 use Rattle.wild_needs.specs.TableSymbols.{file_items}
-use Rattle.wild_layout.specs.Faults.{errors, flat_map_from, share_errors, has_spare, part_errors, relocation_errors, section_errors, thunk_errors, file_errors, listed_errors, table_errors, group_errors}
+use Rattle.wild_layout.specs.Faults.{errors, flat_map_from, share_errors, has_spare, part_errors, relocation_errors, section_errors, thunk_errors, file_errors, files_errors, listed_errors, table_errors, group_errors}
+use Rattle.wild_layout.specs.SearchTable.{search_table_faults}
+use Rattle.wild_layout.specs.Merged.{merged_strings, address_for}
+use Rattle.wild_laid.specs.Laid.{frames_at}
+use Rattle.wild_made.proofs.StandLemmas.{section_stands, laid_made}
 use Rattle.wild_made.specs.Made.{made_section, made_object, plain_file, made_files, made_symbol, made_group, made_relocation, part_with, made_parts, made, callee, start_of}
 use Rattle.wild_made.specs.Laws.{IsCount}
 use Rattle.wild_made.proofs.ListLemmas.{made_from, nothing_from, item_at}
 use Rattle.wild_made.proofs.SlotLemmas.{block_made, slots_clean}
-use Rattle.wild_made.proofs.PlaceLemmas.{other_share, share_made}
-use Rattle.wild_made.proofs.GroupLemmas.{clauses_hold}
+use Rattle.wild_made.proofs.PlaceLemmas.{other_share, share_made, none_last}
+use Rattle.wild_made.proofs.GroupLemmas.{file_made, clauses_hold}
 
 -- ---- shares
 
@@ -67,10 +71,10 @@ group_total n j w r whole own last =
     let prelude = share_made n r (plain_file file_role.Prelude) ∙ whole in
     let object = share_made n r (made_object n j) ∙ own in
     let epilogue = share_made n r (plain_file file_role.Epilogue) ∙ last in
-    and_none _ _ _ (prelude_total (share (made n) r) n j w prelude object epilogue) (block_made n r (made_group n j))
+    and_none _ _ _ _ (ap (total (share (made n) r)) (laid_made n j) ∙ prelude_total (share (made n) r) n j w prelude object epilogue) (block_made n r (made_group n j)) (none_last n r (made_group n j))
   where
-    and_none : (a b c : ℕ) → a ≡ c → b ≡ 0 → a + b ≡ c
-    and_none a b c g h = omega (arith, g, h)
+    and_none : (a b d c : ℕ) → a ≡ c → b ≡ 0 → d ≡ 0 → a + (b + d) ≡ c
+    and_none a b d c g h k = omega (arith, g, h, k)
 
 own_needed : (n i j w : ℕ) (r : Role) (p : Part) → j < n → slice_get (made_parts n) i ≡ Some p → needs_of (made n) p.role i (made_group n j) ≡ min (2 ^ 64 - 1) (group_share (made n) r (made_group n j)) → other_share n r (plain_file file_role.Prelude) ≡ w
     → other_share n r (made_object n j) ≡ 0 → other_share n r (plain_file file_role.Epilogue) ≡ 0 → w < 2 ^ 64 → given i (made_group n j) ≡ (if j == 0 then w else 0) → given i (made_group n j) ≡ needs (made n) i j
@@ -120,6 +124,14 @@ raw_value_made : (n c : ℕ) → c < n → raw_value (made n) c ≡ Some (start_
 unfolding raw_value made
 raw_value_made n c h = let e = item_at made_symbol 0 n c c h (omega arith) in simp e refl
 
+-- no symbol stands for merged strings
+merged_made : (n c : ℕ) → c < n → merged_strings (made n) c ≡ None
+unfolding merged_strings made has_flag
+merged_made n c h =
+    let symbol = item_at made_symbol 0 n c c h (omega arith) in
+    let file = file_made n 0 n c (omega arith) (omega (arith, h)) in
+    simp (symbol, file) refl
+
 -- a distance in the field's range
 in_range : (s p : ℕ) → 4194432 ≤ s → s < 8388736 → 4194432 ≤ p → p < 8388736 → (nat_lt (((s + 18446744073709551612) % 2 ^ 64 + (2 ^ 64 - p % 2 ^ 64)) % 2 ^ 64) (2 ^ 31) || nat_le (2 ^ 64 - 2 ^ 31) (((s + 18446744073709551612) % 2 ^ 64 + (2 ^ 64 - p % 2 ^ 64)) % 2 ^ 64)) ≡ true
 in_range s p a b c d =
@@ -146,12 +158,12 @@ abbrev call_value : ℕ → ℕ → ℕ → ℕ
 call_value n i j = displacement (start_of (callee n i j)) (negsuc 3) (place_of (made_section n i).address (made_relocation n i j))
 
 decided_made : (block : ℕ) (n i j : ℕ) → IsCount n → i < n → j < 8 → decided (made n) (item_with block (made_section n i)) (made_relocation n i j) ≡ Ok (Field (ByteSize Four) (call_value n i j))
-unfolding reached decided treatment row_treatment row_of x86_64_row made_section made bit has_flag
+unfolding reached decided address_for treatment row_treatment row_of x86_64_row made_section made bit has_flag
 decided_made block n i j h low call =
     let some = h.some in
     let named : callee n i j < n = omega arith in
     let symbol = item_at made_symbol 0 n (callee n i j) (callee n i j) named (omega arith) in
-    simp (raw_value_made n (callee n i j) named, symbol, allowed n i j (callee n i j) h low call named) refl
+    simp (merged_made n (callee n i j) named, raw_value_made n (callee n i j) named, symbol, allowed n i j (callee n i j) h low call named) refl
 
 listed_made : (n i j : ℕ) → j < 8 → slice_get (made_section n i).relocations j ≡ Some (made_relocation n i j)
 unfolding made_section
@@ -178,29 +190,36 @@ decide_made block n i j h low call =
     let none = subst (λ (m : Machine). choice_on m (made n) s j (made_relocation n i j) ≡ Ok None) (sym (machine_made n)) (choice_made block n i j (slice_get s.relocations (j + 1))) in
     decide_alone (made n) s j (made_relocation n i j) (listed_made n i j call) (alone_made block n i j call) none ∙ decided_made block n i j h low call
 
-relocation_clean : (block : ℕ) (n i j g f k : ℕ) → IsCount n → i < n → j < 8 → relocation_errors (made n) g f k (item_with block (made_section n i)) j ≡ []
+relocation_clean : (block : ℕ) (n i j g f k : ℕ) → IsCount n → i < n → j < 8 → relocation_errors (made n) g f k (item_with block (made_section n i)) (made_section n i).relocations j ≡ []
 unfolding relocation_errors
 relocation_clean block n i j g f k h low call = rw (listed_made n i j call, decide_made block n i j h low call) refl
 
-relocations_clean : (block : ℕ) (n i k : ℕ) (g f : ℕ) → IsCount n → i < n → flat_map (relocation_errors (made n) g f k (item_with block (made_section n i))) (range_with_len 0 8) ≡ []
+relocations_clean : (block : ℕ) (n i k : ℕ) (g f : ℕ) → IsCount n → i < n → flat_map (relocation_errors (made n) g f k (item_with block (made_section n i)) (made_section n i).relocations) (range_with_len 0 8) ≡ []
 relocations_clean block n i k g f h low =
-    let e = relocation_errors (made n) g f k (item_with block (made_section n i)) in
+    let e = relocation_errors (made n) g f k (item_with block (made_section n i)) (made_section n i).relocations in
     let c : (j : ℕ) → j < 8 → e j ≡ [] = λ j call. relocation_clean block n i j g f k h low call in
     simp (c 0 (omega arith), c 1 (omega arith), c 2 (omega arith), c 3 (omega arith), c 4 (omega arith), c 5 (omega arith), c 6 (omega arith), c 7 (omega arith)) refl
 
 site_made : (block : ℕ) (n i j : ℕ) → IsCount n → i < n → j < 8 → site (made n) (item_with block (made_section n i)) j ≡ field_site (item_with block (made_section n i)) (8 * j + 1) (ByteSize Four) (call_value n i j) ∷ []
 site_made block n i j h low call = site_written (made n) (item_with block (made_section n i)) j (made_relocation n i j) (Field (ByteSize Four) (call_value n i j)) (record { size = ByteSize Four; value = call_value n i j }) (listed_made n i j call) (decide_made block n i j h low call) refl
 
--- eight fields of four bytes
-call_extents : (block : ℕ) (n i : ℕ) → IsCount n → i < n → map extent_of (flat_map (site (made n) (item_with block (made_section n i))) (range_with_len 0 8)) ≡ map (λ (j : ℕ). record { start = 8 * j + 1; end = 8 * j + 1 + 4 }) (range_with_len 0 8)
+-- where a call's field stands in the input
+extent_made : (block : ℕ) (n i j : ℕ) → IsCount n → i < n → j < 8
+    → input_extents (made n) (item_with block (made_section n i)) (made_section n i).relocations j ≡ record { start = 8 * j + 1; end = 8 * j + 1 + 4 } ∷ []
 unfolding word
+extent_made block n i j h low call =
+    let e : 8 * j + 1 + (8 * j + 1) - (8 * j + 1) ≡ 8 * j + 1 = omega arith in
+    rw (listed_made n i j call, site_made block n i j h low call) (ap (λ (k : ℕ). record { start = k; end = k + 4 } ∷ []) e)
+
+-- eight fields of four bytes
+call_extents : (block : ℕ) (n i : ℕ) → IsCount n → i < n
+    → flat_map (input_extents (made n) (item_with block (made_section n i)) (made_section n i).relocations) (range_with_len 0 8) ≡ map (λ (j : ℕ). record { start = 8 * j + 1; end = 8 * j + 1 + 4 }) (range_with_len 0 8)
 call_extents block n i h low =
-    let s = site (made n) (item_with block (made_section n i)) in
-    let c : (j : ℕ) → j < 8 → s j ≡ field_site (item_with block (made_section n i)) (8 * j + 1) (ByteSize Four) (call_value n i j) ∷ [] = λ j call. site_made block n i j h low call in
+    let c : (j : ℕ) → j < 8 → input_extents (made n) (item_with block (made_section n i)) (made_section n i).relocations j ≡ record { start = 8 * j + 1; end = 8 * j + 1 + 4 } ∷ [] = λ j call. extent_made block n i j h low call in
     simp (c 0 (omega arith), c 1 (omega arith), c 2 (omega arith), c 3 (omega arith), c 4 (omega arith), c 5 (omega arith), c 6 (omega arith), c 7 (omega arith)) refl
 
 -- no byte is of two fields
-none_shared : (block : ℕ) (n i : ℕ) → IsCount n → i < n → least_extent (map extent_of (flat_map (site (made n) (item_with block (made_section n i))) (range_with_len 0 8))) ≡ None
+none_shared : (block : ℕ) (n i : ℕ) → IsCount n → i < n → least_extent (flat_map (input_extents (made n) (item_with block (made_section n i)) (made_section n i).relocations) (range_with_len 0 8)) ≡ None
 unfolding least_extent
 none_shared block n i h low = ap least_extent (call_extents block n i h low) ∙ refl
 
@@ -212,19 +231,36 @@ is_read_made : (n i : ℕ) → is_read (made_section n i) ≡ true
 unfolding made_section
 is_read_made n i = refl
 
-section_clean : (n i g f : ℕ) (file : File) (k : ℕ) → IsCount n → i < n → section_errors (made n) g f file k (made_section n i) ≡ []
-unfolding section_errors
-section_clean n i g f file k h low = (let block = block_for (made n) file (made_section n i) in rw (is_read_made n i, relocations_made n i, relocations_clean block n i k g f h low, none_shared block n i h low) refl)
+frame_made : (n i : ℕ) → is_frame (made_section n i).slot ≡ false
+unfolding made_section
+frame_made n i = refl
 
-files_clean : (n i g k : ℕ) → IsCount n → i < n → flat_map_from (file_errors (made n) g) k (made_files n i) ≡ []
+section_clean : (n i g f : ℕ) (file : File) (at k : ℕ) → IsCount n → i < n → section_errors (made n) g f file at k (made_section n i) ≡ []
+unfolding section_errors
+section_clean n i g f file at k h low =
+    let block = block_for (made n) file (made_section n i) in
+    rw (section_stands n i file at, is_read_made n i, frame_made n i, relocations_made n i, relocations_clean block n i k g f h low, none_shared block n i h low) refl
+
+-- there are no sorted sections, and no search table is asked for
+none_sorted : (n : ℕ) → (made n).sorted ≡ []
+unfolding made
+none_sorted n = refl
+
+none_far : (n : ℕ) → search_table_faults (made n) ≡ []
+unfolding search_table_faults made
+none_far n = refl
+
+files_clean : (n i g at k : ℕ) → IsCount n → i < n → files_errors (made n) g at k (made_files n i) ≡ []
 unfolding file_errors thunk_errors
-files_clean n i g k h low =
-    let one : (file : File) → section_errors (made n) g k file 0 (made_section n i) ≡ [] = λ file. section_clean n i g k file 0 h low in
-    let two : (file : File) → section_errors (made n) g (k + 1) file 0 (made_section n i) ≡ [] = λ file. section_clean n i g (k + 1) file 0 h low in
+files_clean n i g at k h low =
+    let one : (file : File) (a : ℕ) → section_errors (made n) g k file a 0 (made_section n i) ≡ [] = λ file a. section_clean n i g k file a 0 h low in
+    let two : (file : File) (a : ℕ) → section_errors (made n) g (k + 1) file a 0 (made_section n i) ≡ [] = λ file a. section_clean n i g (k + 1) file a 0 h low in
     let slots = slots_clean n g in
+    let sorted = none_sorted n in
+    let far = none_far n in
     elim (cases_Bool (i == 0)) [
-      | inl a ↦ elim (cases_Bool (i + 1 == n)) [ inl b ↦ simp (a, b, two, slots) refl | inr b ↦ simp (a, b, two, slots) refl ]
-      | inr a ↦ elim (cases_Bool (i + 1 == n)) [ inl b ↦ simp (a, b, one, slots) refl | inr b ↦ simp (a, b, one, slots) refl ]
+      | inl a ↦ elim (cases_Bool (i + 1 == n)) [ inl b ↦ simp (a, b, two, slots, sorted, far) refl | inr b ↦ simp (a, b, two, slots, far) refl ]
+      | inr a ↦ elim (cases_Bool (i + 1 == n)) [ inl b ↦ simp (a, b, one, slots, sorted) refl | inr b ↦ simp (a, b, one, slots) refl ]
     ]
 
 -- no other module sees a symbol
@@ -247,7 +283,7 @@ table_clean n i g k =
 
 pub no_group_errors : (n : ℕ) → IsCount n → flat_map_from (group_errors (made n)) 0 (made n).groups ≡ []
 unfolding group_errors made
-no_group_errors n h = nothing_from (group_errors (made n)) (made_group n) 0 n (λ k low high. (let files = files_clean n k k 0 h (omega arith) in let listed = listed_clean n k k 0 in let table = table_clean n k k 0 in rw (files, listed, table) refl))
+no_group_errors n h = nothing_from (group_errors (made n)) (made_group n) 0 n (λ k low high. (let files = files_clean n k k (frames_at (made n) (made_group n k)) 0 h (omega arith) in let listed = listed_clean n k k 0 in let table = table_clean n k k 0 in rw (files, listed, table) refl))
 
 -- ---- no faults
 

@@ -10,7 +10,8 @@ use Rattle.wild_types.specs.Lookups.{files_of, file_of}
 use Rattle.wild_types.specs.Rows.{row_of}
 use Rattle.wild_reloc.specs.TableX86_64.{x86_64_row}
 use Rattle.wild_clauses.specs.declared.starts.Starts.{Starts}
-use Rattle.wild_clauses.specs.Contents.{each_section, fields_lie}
+use Rattle.wild_clauses.specs.Contents.{each_section, fields_lie, relocations_are_read}
+use Rattle.wild_clauses.specs.Fronts.{reversed_fits}
 use Rattle.wild_clauses.specs.GroupStarts.{no_starts, start_astray}
 use Rattle.wild_clauses.specs.ZeroFree.{file_names_fit, group_names_fit, symbol_name_fits}
 use Rattle.wild_clauses.specs.Indexes.{group_indexes_fit, file_indexes_fit, section_indexes_fit, relocation_index_fits, definition_is_own, range_follows, range_out_of_order, symbol_misfit}
@@ -18,7 +19,7 @@ use Rattle.wild_types.specs.FileSymbols.{copied_in, copied_again}
 use Rattle.wild_types.specs.Flags.{has_flag}
 use Rattle.wild_needs.specs.DynamicSymbols.{dynamic_symbols, misplaced}
 use Rattle.wild_clauses.specs.SlotFlags.{is_asked, first_asked_failing, dynamic_is_interposable, stub_is_value, stub_has_slot, one_slot_for_address, thread_slot_alone, resolver_is_own, slot_agrees, resolver_moves, second_slot_fits}
-use Rattle.wild_clauses.specs.ClauseTests.{check_indexes, check_fields, check_thunks, check_dynsyms, check_slot_flags, check_tls, check_starts, check_hashes, check_names}
+use Rattle.wild_clauses.specs.ClauseTests.{check_indexes, check_fields, check_thunks, check_dynsyms, check_slot_flags, check_tls, check_starts, check_hashes, check_names, check_reversed, check_fronts}
 use Rattle.wild_clauses.specs.WellFormed.{first_clause}
 use Rattle.wild_made.specs.Made.{made_section, made_object, made_files, made_symbol, made_group, made_relocation, made, callee}
 use Rattle.wild_made.specs.Laws.{IsCount}
@@ -115,9 +116,13 @@ fields_fit : (n : ℕ) → first_failing (each_section (fields_lie (made n).mach
 unfolding made_section made row_of x86_64_row
 fields_fit n = sections_pass (fields_lie (made n).machine) n (λ i h. refl)
 
+relocations_read : (n : ℕ) → first_failing (each_section relocations_are_read) 0 (made_from (made_group n) 0 n) ≡ None
+unfolding made_section
+relocations_read n = sections_pass relocations_are_read n (λ i h. refl)
+
 pub fields_hold : (n : ℕ) → check_fields (made n) ≡ Ok tt
 unfolding check_fields made
-fields_hold n = rw (fields_fit n) refl
+fields_hold n = rw (fields_fit n, relocations_read n) refl
 
 pub thunks_hold : (n : ℕ) → check_thunks (made n) ≡ Ok tt
 unfolding check_thunks made
@@ -129,7 +134,7 @@ tls_holds n = refl
 
 -- there are no parts with strings or symbols
 abbrev no_places : Starts (Option ℕ)
-no_places = record { dynstr = None; strtab = None; locals = None; globals = None }
+no_places = record { dynstr = None; strtab = None; frames = None; locals = None; globals = None }
 
 none_starts_astray : (n a m : ℕ) → start_astray no_places no_starts a (made_from (made_group n) a m) ≡ None
 none_starts_astray n a zero = refl
@@ -186,8 +191,22 @@ slot_flags_hold n =
       none_asked_fails n (second_slot_fits (made n)) 0 0 n (λ k. refl),
     ) refl
 
+-- ---- clauses 20 and 22
+
+none_reversed : (n : ℕ) → first_failing (each_section (reversed_fits (made n).machine)) 0 (made_from (made_group n) 0 n) ≡ None
+unfolding made_section made
+none_reversed n = sections_pass (reversed_fits (made n).machine) n (λ i h. refl)
+
+pub reversed_hold : (n : ℕ) → check_reversed (made n) ≡ Ok tt
+unfolding check_reversed made
+reversed_hold n = rw (none_reversed n) refl
+
+pub fronts_hold : (n : ℕ) → check_fronts (made n) ≡ Ok tt
+unfolding check_fronts made
+fronts_hold n = refl
+
 -- ---- all clauses
 
 pub clauses_hold : (n : ℕ) → IsCount n → first_clause (made n) ≡ Ok tt
 unfolding first_clause
-clauses_hold n c = rw (sizes_hold n c, counts_hold n c, order_holds n c, roles_hold n, sections_hold n, segments_hold n c, shares_hold n c, inputs_hold n, indexes_hold n c, fields_hold n, slots_hold n, thunks_hold n, dynsyms_hold n, slot_flags_hold n, tls_holds n, starts_hold n, hashes_hold n, versions_hold n, names_hold n) refl
+clauses_hold n c = rw (sizes_hold n c, counts_hold n c, order_holds n c, roles_hold n, sections_hold n, segments_hold n c, shares_hold n c, inputs_hold n, indexes_hold n c, fields_hold n, slots_hold n, thunks_hold n, dynsyms_hold n, slot_flags_hold n, tls_holds n, starts_hold n, hashes_hold n, versions_hold n, names_hold n, reversed_hold n, fronts_hold n) refl

@@ -22,8 +22,13 @@ use Rattle.wild_needs.specs.EntryPoint.{text_start, entry_point}
 use Rattle.wild_clauses.specs.WellFormed.{first_clause}
 use Rattle.wild_clauses.specs.SlotPlaces.{walk}
 use Rattle.wild_clauses.specs.Copies.{are_below}
-use Rattle.wild_clauses.specs.ClauseTests.{check_sizes, check_counts, check_order, check_roles, check_sections, check_entries, check_segments, check_shares, check_inputs, check_indexes, check_fields, check_slots, check_thunks, check_dynsyms, check_slot_flags, check_tls, check_starts, check_hashes, check_versions, check_names}
+use Rattle.wild_clauses.specs.ClauseTests.{check_sizes, check_counts, check_order, check_roles, check_sections, check_entries, check_segments, check_shares, check_inputs, check_indexes, check_fields, check_slots, check_thunks, check_dynsyms, check_slot_flags, check_tls, check_starts, check_hashes, check_versions, check_names, check_reversed, check_fronts}
+use Rattle.wild_laid.specs.Turned.{as_turned}
+use Rattle.wild_laid.specs.FrameInputs.{kept_size}
+use Rattle.wild_laid.specs.Laid.{laid_section, laid_files, sorted_input}
 use Rattle.wild_layout.specs.Sites.{site, section_bytes}
+use Rattle.wild_layout.specs.Merged.{merged_strings, address_for}
+use Rattle.wild_layout.specs.SearchTable.{layout_fdes, search_table_faults}
 use Rattle.wild_layout.specs.Choice.{choice_by, choice_around_by}
 use Rattle.wild_layout.specs.Decide.{reached, decided, decide}
 use Rattle.wild_layout.specs.Faults.{relocation_errors, section_errors, slot_errors, thunk_errors, file_errors, listed_errors, table_errors, group_errors, errors}
@@ -39,10 +44,10 @@ use Rattle.wild_relr.specs.Packed.{packed_on, packed, bitmaps, block, counted}
 
 -- what an answer unfolds to compute the clauses of a layout that is written out
 unfoldable pub clauses_on_literals : ⊤
-unfolding least_extent scanned word number place x86_64_row static_row thread_row raw_value has_flag bit image_size row_of row_treatment treatment slots_of slot slot_share group_block needs section_named first_entries entries_bytes need_number file_items table_strings listed_places packed_places left_relocations general_count dynamic_number dynamic_flags dynamic_flags_1 dynamic_entry all_tags tag_entries dynamic_entries named_strings string_entries file_strings needed_entries string_start bucket_of text_start entry_point first_clause walk are_below check_sizes check_counts check_order check_roles check_sections check_entries check_segments check_shares check_inputs check_indexes check_fields check_slots check_thunks check_dynsyms check_slot_flags check_tls check_starts check_hashes check_versions check_names packed_on packed bitmaps block counted
+unfolding least_extent scanned word number place x86_64_row static_row thread_row raw_value has_flag bit image_size row_of row_treatment treatment slots_of slot slot_share group_block needs section_named first_entries entries_bytes need_number file_items table_strings listed_places packed_places left_relocations general_count dynamic_number dynamic_flags dynamic_flags_1 dynamic_entry all_tags tag_entries dynamic_entries named_strings string_entries file_strings needed_entries string_start bucket_of text_start entry_point first_clause walk are_below check_sizes check_counts check_order check_roles check_sections check_entries check_segments check_shares check_inputs check_indexes check_fields check_slots check_thunks check_dynsyms check_slot_flags check_tls check_starts check_hashes check_versions check_names check_reversed check_fronts as_turned kept_size laid_section laid_files sorted_input packed_on packed bitmaps block counted
 clauses_on_literals = tt
 
 -- and to compute its faults
 unfoldable pub errors_on_literals : ⊤
-unfolding clauses_on_literals site section_bytes choice_by choice_around_by reached decided decide relocation_errors section_errors slot_errors thunk_errors file_errors listed_errors table_errors group_errors errors table_fields is_partner has_its_sequence rows_with minus_four zero stands_at stands_before applies rows_x86_64 standing_x86_64 chosen_x86_64 rows_aarch64 rows_with_aarch64 standing_aarch64 chosen_aarch64 is_among
+unfolding clauses_on_literals merged_strings address_for layout_fdes search_table_faults site section_bytes choice_by choice_around_by reached decided decide relocation_errors section_errors slot_errors thunk_errors file_errors listed_errors table_errors group_errors errors table_fields is_partner has_its_sequence rows_with minus_four zero stands_at stands_before applies rows_x86_64 standing_x86_64 chosen_x86_64 rows_aarch64 rows_with_aarch64 standing_aarch64 chosen_aarch64 is_among
 errors_on_literals = tt

@@ -1,9 +1,9 @@
 -- The clauses on sizes, counts, parts, sections and segments hold of the plan of n groups.
-use Rattle.std.proofs.Common.{◌≡◌, ℕ, ◌+◌, ◌*◌, ◌-◌, ◌^◌, ◌<◌, ◌%◌, Bool, true, false, not, if◌then◌else◌, ◌||◌, List, [], ◌∷◌, drop, length, ap, refl, ◌∙◌, arith}
+use Rattle.std.proofs.Common.{◌≡◌, ℕ, ◌+◌, ◌*◌, ◌-◌, ◌^◌, ◌<◌, ◌%◌, Bool, true, false, not, if◌then◌else◌, ◌||◌, List, [], ◌∷◌, drop, length, inl, inr, ap, refl, ◌∙◌, arith}
 use Rattle.std.specs.Prelude.{None, Ok, nat_le, codes}
 use Rattle.std.specs.List.{list_any}
 use lib.Count.{ones}
-use Rattle.std.proofs.lemmas.Bool.{le-leb, lt-ltb, ne_eqb}
+use Rattle.std.proofs.lemmas.Bool.{cases_Bool, le-leb, lt-ltb, ne_eqb}
 use Rattle.wild_types.specs.declared.file.File.{File}
 use Rattle.wild_types.specs.declared.file.FileRole.TheVariants as file_role
 use Rattle.wild_types.specs.declared.input.InputSection.{InputSection}
@@ -11,7 +11,9 @@ use Rattle.wild_types.specs.Lists.{first_failing}
 use Rattle.wild_types.specs.Lookups.{bit, image_size}
 use Rattle.wild_types.specs.declared.part.Role.{Role}
 use Rattle.wild_types.specs.declared.part.Role.TheVariants as role
-use Rattle.wild_needs.specs.Needs.{total_share, first_share, own_of, share, group_share}
+use Rattle.wild_types.specs.Lists.{total}
+use Rattle.wild_types.specs.declared.file.Group.{Group}
+use Rattle.wild_needs.specs.Needs.{total_share, first_share, own_of, share, has_last, last_share, group_share}
 use Rattle.wild_clauses.specs.Counts.{role_given}
 use Rattle.wild_needs.specs.Dynamic.{dynamic_entries, tag_entries}
 use Rattle.wild_needs.specs.DynamicStrings.{named_strings, string_entries, file_strings}
@@ -39,6 +41,7 @@ use Rattle.wild_made.specs.Laws.{IsCount}
 use Rattle.wild_made.proofs.ListLemmas.{made_from, none_fails, total_same, length_made}
 use Rattle.wild_made.proofs.FileLemmas.{all_files, total_files}
 use Rattle.wild_made.proofs.SlotLemmas.{slots_made, block_made, no_dynamic_symbols}
+use Rattle.wild_made.proofs.StandLemmas.{laid_made}
 use Rattle.wild_made.proofs.VersionLemmas.{no_needs, no_versions}
 
 -- ---- the sections of a group
@@ -88,6 +91,12 @@ share_made n r f = and_none (other_share n r f) (slot_share (made n) r f) (slots
     and_none : (a b : ℕ) → b ≡ 0 → a + b ≡ a
     and_none a b h = omega (arith, h)
 
+-- the last file has no sorted sections
+pub none_last : (n : ℕ) (r : Role) (g : Group) → last_share (made n) r g ≡ 0
+unfolding made
+none_last n role.RelrDyn g = elim (cases_Bool (has_last g)) [ inl t ↦ rw t refl | inr f ↦ rw f refl ]
+none_last n other g = refl
+
 -- nothing has to be written in a part of a role where none of the three kinds of files writes there
 nothing_shared : (n : ℕ) (r : Role) → other_share n r (plain_file file_role.Prelude) ≡ 0 → ((i : ℕ) → other_share n r (made_object n i) ≡ 0) → other_share n r (plain_file file_role.Epilogue) ≡ 0 → total_share (made n) r ≡ 0
 unfolding made
@@ -95,12 +104,12 @@ nothing_shared n r first own last =
     let prelude = share_made n r (plain_file file_role.Prelude) ∙ first in
     let epilogue = share_made n r (plain_file file_role.Epilogue) ∙ last in
     let none = total_same (group_share (made n) r) (made_group n) 0 0 n (λ k low high.
-    (let files = total_files (share (made n) r) n k prelude epilogue ∙ share_made n r (made_object n k) ∙ own k in
-    both_none _ _ files (block_made n r (made_group n k)))) in
+    (let files = ap (total (share (made n) r)) (laid_made n k) ∙ total_files (share (made n) r) n k prelude epilogue ∙ share_made n r (made_object n k) ∙ own k in
+    all_none _ _ _ files (block_made n r (made_group n k)) (none_last n r (made_group n k)))) in
     omega (arith, none)
   where
-    both_none : (a b : ℕ) → a ≡ 0 → b ≡ 0 → a + b ≡ 0
-    both_none a b g h = omega (arith, g, h)
+    all_none : (a b c : ℕ) → a ≡ 0 → b ≡ 0 → c ≡ 0 → a + (b + c) ≡ 0
+    all_none a b c g h k = omega (arith, g, h, k)
 
 pub counts_hold : (n : ℕ) → IsCount n → check_counts (made n) ≡ Ok tt
 unfolding check_counts made named_strings file_strings table_strings file_items
@@ -140,7 +149,7 @@ general_share n i = let none = generals_made n i in rw none refl
 
 -- each role is there, or nothing has to be written in a part of it
 each_given : (n : ℕ) (r : Role) → role_given (made n) r ≡ true
-unfolding made named_strings file_strings dynamic_entries string_entries tag_entries listed_places packed_places packed packed_on general_count table_strings file_items
+unfolding made named_strings file_strings dynamic_entries string_entries tag_entries listed_places packed_places packed packed_on general_count table_strings file_items made_section
 each_given n role.Raw = refl
 each_given n role.FileHeader = refl
 each_given n role.ProgramHeaders = refl

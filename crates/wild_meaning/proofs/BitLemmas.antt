@@ -1,15 +1,14 @@
 -- Flags of sections, as the writer tests them and as the reader does.
-use Rattle.std.proofs.Common.{◌≡◌, ℕ, ◌*◌, ◌/◌, ◌%◌, true, refl, arith}
+use Rattle.std.proofs.Common.{◌≡◌, ℕ, ◌*◌, ◌/◌, ◌%◌, ◌⊎◌, inl, inr, true, refl, arith}
 use Rattle.std.specs.Int.RustNames.{bit_and}
 use Rattle.std.proofs.lemmas.Nat.Bits.{and_pow}
 use Rattle.std.proofs.lemmas.Bool.{eqb-true}
 use Rattle.wild_records.specs.Abi.Section.{shf_alloc, shf_execinstr, shf_write, shf_tls}
-use Rattle.wild_types.specs.Lookups.{bit, allocated, executable, is_read, writable, thread_local}
+use Rattle.wild_types.specs.Lookups.{bit, allocated, executable, has_counted, is_counted, writable, thread_local}
 use Rattle.wild_types.specs.declared.input.Slot.{Slot}
 use Rattle.wild_types.specs.declared.input.Slot.TheVariants as slot
 use Rattle.wild_types.specs.declared.input.InputSection.{InputSection}
 use Rattle.wild_types.specs.declared.layout.Layout.{Layout}
-use Rattle.wild_types.proofs.LookupLemmas.{read_if}
 use Rattle.wild_meaning.specs.Section.{IsSet}
 use Rattle.wild_meaning.specs.Item.{IsLoadedSlot, IsKeptSection}
 
@@ -63,9 +62,9 @@ thread_local_bit f h =
     rw e refl
 
 -- the sorts of sections that are loaded as they are
-pub loaded_is : (t : Slot) → IsLoadedSlot t → t ≡ slot.Loaded
-loaded_is slot.Loaded h = refl
-loaded_is slot.Sorted h = absurd h
+pub loaded_is : (t : Slot) → IsLoadedSlot t → (t ≡ slot.Loaded) ⊎ (t ≡ slot.Sorted)
+loaded_is slot.Loaded h = inl refl
+loaded_is slot.Sorted h = inr refl
 loaded_is slot.Discard h = absurd h
 loaded_is slot.Debug h = absurd h
 loaded_is slot.Frame h = absurd h
@@ -73,6 +72,11 @@ loaded_is slot.Merge h = absurd h
 loaded_is slot.Rela h = absurd h
 loaded_is slot.Group h = absurd h
 
--- a kept section is one that the writer reads
-pub kept_is_read : (l : Layout) (s : InputSection) → IsKeptSection l s → is_read s ≡ true
-kept_is_read l s k = read_if s _ (loaded_is s.slot k.loaded) refl k.has_data
+counted_slot : (t : Slot) → IsLoadedSlot t → has_counted t ≡ true
+counted_slot slot.Loaded h = refl
+counted_slot slot.Sorted h = refl
+counted_slot other h = absurd h
+
+-- of a kept section the writer counts the relocations
+pub kept_is_counted : (l : Layout) (s : InputSection) → IsKeptSection l s → is_counted s ≡ true
+kept_is_counted l s k = rw (counted_slot s.slot k.loaded, k.has_data) refl

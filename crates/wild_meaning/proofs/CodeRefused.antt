@@ -25,7 +25,9 @@ use Rattle.wild_meaning.proofs.Told.{denoted}
 use Rattle.wild_meaning.proofs.Meant.{meant}
 use Rattle.wild_meaning.proofs.AmongLemmas.{Among}
 use Rattle.wild_meaning.proofs.OneReference.{beside, effect_with, value_in, ReadsNumbers, IsNotDone, fills, same_bytes, single_refused, template_there}
-use Rattle.wild_meaning.proofs.StaticRefused.{first_is, thread_is, thread_offset, holds_there}
+use Rattle.wild_meaning.proofs.StaticRefused.{first_is, thread_is, thread_offset, holds_there, no_string}
+use Rattle.wild_meaning.proofs.SymbolLemmas.{referent_stands}
+use Rattle.wild_meaning.proofs.StringLemmas.{branch_stands}
 
 -- ---- formulas
 
@@ -76,7 +78,7 @@ call_refused read m numbers held d =
     let done : Some (record { deed = Call; width = 64; value = 0x41210 }) ≡ Some h.effect = sym (call_done read numbers) ∙ subst (λ (bs : List ℕ). effect_x86_64 read 0x41000 bs ≡ Some h.effect) bytes h.does in
     let demanded : Some (record { deed = Call; width = 64; value = h.value % 2 ^ 64 }) ≡ Some h.effect = sym (call_demanded h.value) ∙ h.demanded in
     let same : 0x41210 ≡ h.value % 2 ^ 64 = value_in Call 64 0x41210 h.effect done ∙ sym (value_in Call 64 (h.value % 2 ^ 64) h.effect demanded) in
-    let goal : h.demands.goal ≡ 0x41200 = denoted static_pie static_pie_world m 0 0x1200 h.demands.goal first_is h.demands.stands in
+    let goal : h.demands.goal ≡ 0x41200 = denoted static_pie static_pie_world m 0 0x1200 h.demands.goal first_is (referent_stands StubDistance static_pie static_pie_world m branch_item branch_reference h.demands.goal refl (no_string StubDistance branch_reference) (branch_stands static_pie static_pie_world m branch_item branch_reference h.demands.goal (λ g. no_string g.formula.value branch_reference g.takes) h.demands.stands)) in
     omega (arith, same, goal, h.demands.is)
 
 no_call : (m : Memory) (read : Reader) → ReadsNumbers read → Holds m 0x41000 another_branch → Among (fills branch_reference.number) (IsNotDone read static_pie static_pie_world m branch_item branch_reference) (instructions_of machine.X86_64)

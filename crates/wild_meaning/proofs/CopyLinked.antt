@@ -27,7 +27,7 @@ use Rattle.wild_meaning.specs.Value.{HasValue}
 use Rattle.wild_meaning.specs.Section.{HasFileBytes}
 use Rattle.wild_meaning.specs.World.{HasCopy, IsBehind}
 use Rattle.wild_types.specs.Item.{Item, item_of, item_with}
-use Rattle.wild_meaning.specs.Item.{IsInput, IsKept, OfSection}
+use Rattle.wild_meaning.specs.Item.{IsInput, IsKept, OfSection, OfFrames}
 use Rattle.wild_meaning.specs.Reference.{IsLinkedAlone, ReferenceHolds, ItemHolds}
 use Rattle.wild_meaning.specs.Segments.{headers_in, AreTold}
 use Rattle.wild_meaning.specs.DynamicSection.{TellsLinker}
@@ -41,7 +41,9 @@ use Rattle.wild_meaning.proofs.Read.{held_from}
 use Rattle.wild_meaning.proofs.Refused.{not_alone, no_template}
 use Rattle.wild_meaning.proofs.CopyLegal.{copied_own, has_copy, copy_is}
 use Rattle.wild_meaning.proofs.CopyLoaded.{copying_loaded, copying_programs, copying_dynamic, copying_entries, copying_read, copying_tags}
-use Rattle.wild_meaning.proofs.CopyRefused.{address_formula, copied_is_own, no_code}
+use Rattle.wild_meaning.proofs.CopyRefused.{address_formula, copied_is_own, no_code, no_string}
+use Rattle.wild_meaning.proofs.StoodLemmas.{stood_plain, frame_input}
+use Rattle.wild_types.specs.declared.input.Slot.TheVariants as slot
 
 abbrev copied_reference : InputRelocation
 copied_reference = reference 0 r_x86_64_64 0 (pos 0)
@@ -59,7 +61,7 @@ copied_holds = inl (record {
   formula = formula SymbolAddress Full;
   known = address_formula;
   value = 0x23100;
-  gives = record { symbol = 0x23100; denoted = inl copied_value; sum = refl };
+  gives = record { symbol = 0x23100; denoted = inr (no_string SymbolAddress copied_reference, inl copied_value); sum = refl };
   field = record { bytes = copying_words; wide = refl; held = held_from copying_memory 0x21000 copying_words refl; reads = words_number; keeps = tt };
   kept = λ start o first t. absurd (no_template copying copying_item copied_reference start o first no_code t);
   does = λ start o first t. absurd (no_template copying copying_item copied_reference start o first no_code t);
@@ -109,13 +111,26 @@ in_block s h =
     by true n e = e
     by false n e = refl
 
+abbrev StandsAsItIs : InputSection → Type 0
+StandsAsItIs s = s.reversed ≡ false
+
+stands_so : (s : InputSection) → IsInput copying s → s.reversed ≡ false
+stands_so s h = All-contains StandsAsItIs sections s (All-from_recursion StandsAsItIs sections (refl, (refl, tt))) (listed_in s h)
+
+abbrev IsLoaded : InputSection → Type 0
+IsLoaded s = s.slot ≡ slot.Loaded
+
 abbrev SectionHolds : InputSection → Type 0
 SectionHolds s = s.nobits ≡ false → ItemHolds copying copying_world copying_memory (item_with 0 s)
 
 items_hold : (item : Item) → IsKept copying item → ItemHolds copying copying_world copying_memory item
 items_hold item (OfSection s kept is) =
     let there : SectionHolds s = All-contains SectionHolds sections s (All-from_recursion SectionHolds sections ((λ e. item_holds), ((λ e. absurd (let both : true ≡ false = e in cc)), tt))) (listed_in s kept.input) in
-    subst (λ (i : Item). ItemHolds copying copying_world copying_memory i) (sym (is ∙ in_block s kept.input)) (there kept.has_data)
+    subst (λ (i : Item). ItemHolds copying copying_world copying_memory i) (sym (is ∙ (stood_plain copying kept.input.file s (stands_so s kept.input) ∙ in_block s kept.input))) (there kept.has_data)
+items_hold item (OfFrames s kept is) =
+    let there : IsLoaded s = All-contains IsLoaded sections s (All-from_recursion IsLoaded sections (refl, (refl, tt))) (listed_in s (frame_input copying s kept)) in
+    let both : slot.Loaded ≡ slot.Frame = sym there ∙ kept.frame in
+    cc
 
 -- ---- zeros
 

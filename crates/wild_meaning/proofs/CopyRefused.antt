@@ -6,7 +6,7 @@ use Rattle.wild_records.specs.Abi.Relocation.{r_x86_64_none, r_x86_64_64}
 use Rattle.wild_records.specs.Abi.Section.{shf_execinstr}
 use Rattle.wild_records.specs.FileHeader.{FileHeaderIsRead}
 use Rattle.wild_records.specs.declared.file_header.FileHeader.{FileHeader}
-use Rattle.wild_reloc.specs.Formula.{formula, SymbolAddress, Full}
+use Rattle.wild_reloc.specs.Formula.{formula, SymbolAddress, Full, Value}
 use Rattle.wild_reloc.specs.FormulaX86_64.{x86_64_formula}
 use Rattle.wild_types.specs.Flags.{has_flag}
 use Rattle.wild_loader.specs.declared.memory.Machine.TheVariants as processors
@@ -22,6 +22,10 @@ use Rattle.wild_meaning.proofs.Told.{IsPlainOwn, denoted}
 use Rattle.wild_meaning.proofs.Read.{full_of}
 use Rattle.wild_meaning.proofs.Refused.{value_there}
 use Rattle.wild_meaning.proofs.CopyLegal.{has_copy, copy_is}
+use Rattle.wild_meaning.specs.Formula.{TakesString}
+use Rattle.wild_meaning.proofs.StringLemmas.{nothing_named}
+use Rattle.wild_meaning.proofs.SymbolLemmas.{referent_stands}
+use Rattle.wild_types.specs.declared.input.InputRelocation.{InputRelocation}
 
 pub wrong_copy : WrongCopyIsRefused
 wrong_copy image h x =
@@ -62,6 +66,10 @@ address_formula = refl
 kept : IsKept copying copying_item
 kept = OfSection copying_data (record { input = record { group = _; grouped = (0, omega arith, refl); file = _; filed = (0, omega arith, refl); listed = (0, omega arith, refl) }; loaded = tt; room = refl; has_data = refl }) refl
 
+-- the program has no merged strings
+pub no_string : (v : Value) (r : InputRelocation) → TakesString v copying r → ⊥
+no_string v r t = nothing_named copying refl r t.1
+
 pub no_code : IsSet 3 shf_execinstr → ⊥
 no_code e = omega arith
 
@@ -73,7 +81,7 @@ wrong_place image h x =
     let r = reference 0 r_x86_64_64 0 (pos 0) in
     let v = value_there copying copying_world h.memory copying_item r (formula SymbolAddress Full) 0 copied_is_own.symbol (h.kept copying_item kept) no_code (0, omega arith, refl) refers address_formula refl copied_is_own.is copied_is_own.moves (λ e. absurd (let both : true ≡ false = sym e ∙ copied_is_own.own in cc)) in
     let is : v.value ≡ x.number = full_of copying_world h.memory copying_item r v.value x.number v.field x.there in
-    let address : v.gives.symbol ≡ 0x23100 = denoted copying copying_world h.memory 0 0x3100 v.gives.symbol copied_is_own v.gives.denoted in
+    let address : v.gives.symbol ≡ 0x23100 = denoted copying copying_world h.memory 0 0x3100 v.gives.symbol copied_is_own (referent_stands SymbolAddress copying copying_world h.memory copying_item r v.gives.symbol refl (no_string SymbolAddress r) v.gives.denoted) in
     x.wrong (omega (arith, is, address, v.gives.sum))
 
 pub wrong_machine : WrongMachineIsRefused

@@ -1,6 +1,8 @@
+pub mod StringLemmas
 pub mod SymbolLemmas
 pub mod WorldLemmas
 pub mod BitLemmas
+pub mod StoodLemmas
 pub mod OutputLemmas
 mod Legal
 mod Told
@@ -15,6 +17,7 @@ mod CopyLegal
 mod CopyRefused
 mod StaticLegal
 mod StaticRefused
+mod StringsRefused
 mod Meant
 pub mod AmongLemmas
 pub mod OneReference

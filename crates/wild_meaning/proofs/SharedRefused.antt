@@ -5,7 +5,7 @@ use Rattle.std.proofs.lemmas.List.Elements.{All-from_recursion}
 use lib.IntN.{pos}
 use Rattle.wild_records.specs.Abi.Relocation.{r_x86_64_none, r_x86_64_64, r_x86_64_gotpcrel64, r_x86_64_tpoff64, r_x86_64_dtpoff64, r_x86_64_size64, r_x86_64_tlsgd, r_x86_64_tlsld, r_x86_64_gottpoff, r_x86_64_gotpc32_tlsdesc}
 use Rattle.wild_records.specs.Abi.Section.{shf_execinstr}
-use Rattle.wild_reloc.specs.Formula.{Formula, formula, SlotDistance, AddressSlot, ThreadOffset, ModulePair, OwnModulePair, Descriptor, SymbolAddress, PointerOffset, ModuleOffset, Size, Full, Plain, Signed}
+use Rattle.wild_reloc.specs.Formula.{Formula, formula, SlotDistance, AddressSlot, ThreadOffset, ModulePair, OwnModulePair, Descriptor, SymbolAddress, PointerOffset, ModuleOffset, Size, Full, Plain, Signed, Value}
 use Rattle.wild_reloc.specs.FormulaX86_64.{x86_64_formula}
 use Rattle.wild_types.specs.declared.input.InputRelocation.{InputRelocation}
 use Rattle.wild_types.specs.declared.symbol.Resolution.{Resolution}
@@ -27,6 +27,9 @@ use Rattle.wild_meaning.proofs.Told.{told_is, IsPlainOwn, IsAnsweredAs, denoted,
 use Rattle.wild_meaning.proofs.Read.{full_of, signed_of, word_below, same_word}
 use Rattle.wild_meaning.proofs.SlotPlaces.{slot_holds}
 use Rattle.wild_meaning.proofs.Refused.{HasValueThere, value_there, no_template}
+use Rattle.wild_meaning.specs.Formula.{TakesString}
+use Rattle.wild_meaning.proofs.StringLemmas.{nothing_named}
+use Rattle.wild_meaning.proofs.SymbolLemmas.{referent_stands}
 
 -- its data is kept
 pub kept : IsKept shared shared_item
@@ -171,12 +174,16 @@ wrong_slots = record { own = own_slot; other = other_slot; another = another_slo
 
 -- ---- addresses
 
+-- the library has no merged strings
+no_string : (v : Value) (r : InputRelocation) → TakesString v shared r → ⊥
+no_string v r t = nothing_named shared refl r t.1
+
 moved_address : Refused (HasWrongNumber 0x11010 8 0x11104)
 moved_address image h x =
     let r = reference 16 r_x86_64_64 0 (pos 4) in
     let v = own_there h.memory r _ 0 0x1100 (h.kept shared_item kept) (2, omega arith, refl) (omega arith) address_formula refl own_is in
     let is : v.value ≡ x.number = full_of shared_world h.memory shared_item r v.value x.number v.field x.there in
-    let address : v.gives.symbol ≡ 0x11100 = denoted shared shared_world h.memory 0 0x1100 v.gives.symbol own_is v.gives.denoted in
+    let address : v.gives.symbol ≡ 0x11100 = denoted shared shared_world h.memory 0 0x1100 v.gives.symbol own_is (referent_stands SymbolAddress shared shared_world h.memory shared_item r v.gives.symbol refl (no_string SymbolAddress r) v.gives.denoted) in
     x.wrong (omega (arith, is, address, v.gives.sum))
 
 -- the field is filled by a loader
@@ -190,7 +197,7 @@ replaced_address image h x =
     let r = reference 8 r_x86_64_64 1 (pos 0) in
     let v = other_there h.memory r _ 1 _ (h.kept shared_item kept) (1, omega arith, refl) (omega arith) address_formula refl open_is left in
     let is : v.value ≡ x.number = full_of shared_world h.memory shared_item r v.value x.number v.field x.there in
-    let address : v.gives.symbol ≡ 0x700010 = other_denoted shared shared_world h.memory 1 v.gives.symbol _ open_is v.gives.denoted in
+    let address : v.gives.symbol ≡ 0x700010 = other_denoted shared shared_world h.memory 1 v.gives.symbol _ open_is (referent_stands SymbolAddress shared shared_world h.memory shared_item r v.gives.symbol refl (no_string SymbolAddress r) v.gives.denoted) in
     x.wrong (omega (arith, is, address, v.gives.sum))
 
 pub wrong_addresses : WrongAddressesAreRefused

@@ -10,7 +10,7 @@ use Rattle.wild_records.specs.Abi.Relocation.{r_x86_64_64, r_x86_64_tpoff64}
 use Rattle.wild_records.specs.Abi.Segment.{pt_gnu_stack}
 use Rattle.wild_records.specs.FileHeader.{file_header_fields}
 use Rattle.wild_records.specs.declared.program_header.ProgramHeader.{ProgramHeader}
-use Rattle.wild_reloc.specs.Formula.{Formula, formula, SymbolAddress, PointerOffset, Full}
+use Rattle.wild_reloc.specs.Formula.{Formula, formula, SymbolAddress, PointerOffset, Full, StubDistance}
 use Rattle.wild_reloc.specs.FormulaX86_64.{x86_64_formula}
 use Rattle.wild_types.specs.declared.file.FileRole.TheVariants as file_role
 use Rattle.wild_types.specs.declared.file.File.{File}
@@ -27,7 +27,7 @@ use Rattle.wild_loader.specs.InstructionX86_64.{meaning_x86_64, effect_x86_64}
 use Rattle.wild_meaning.specs.Value.{IsDefinedBy, IsSymbol, HasValue}
 use Rattle.wild_meaning.specs.Thread.{HasThreadOffset}
 use Rattle.wild_types.specs.Item.{Item, item_of, item_with}
-use Rattle.wild_meaning.specs.Item.{IsInput, IsKept, OfSection}
+use Rattle.wild_meaning.specs.Item.{IsInput, IsKept, OfSection, OfFrames}
 use Rattle.wild_meaning.specs.Template.{DoesDemanded, reads_alone}
 use Rattle.wild_meaning.specs.Reference.{IsLinkedAlone, IsOther, ReferenceHolds, ItemHolds}
 use Rattle.wild_meaning.specs.Segments.{headers_in, AreTold}
@@ -43,9 +43,11 @@ use Rattle.wild_meaning.proofs.Meant.{done}
 use Rattle.wild_meaning.proofs.OneReference.{effect_with}
 use Rattle.wild_meaning.proofs.StaticLegal.{no_library}
 use Rattle.wild_meaning.proofs.StaticLoaded.{static_loaded, static_programs}
-use Rattle.wild_meaning.proofs.StaticRefused.{first_is, second_is, thread_is, address_formula, pointer_formula, no_code}
+use Rattle.wild_meaning.proofs.StaticRefused.{first_is, second_is, thread_is, address_formula, pointer_formula, no_code, no_string}
 use Rattle.wild_meaning.proofs.CodeRefused.{plt_formula, load_formula, descriptor_formula, call, call_template, call_demanded, load, load_template, load_demanded, described, described_template, described_demanded}
 use Rattle.wild_meaning.proofs.SequenceRefused.{pair_formula, general, general_template, getter_template}
+use Rattle.wild_meaning.proofs.StoodLemmas.{stood_plain, frame_input}
+use Rattle.wild_types.specs.declared.input.Slot.TheVariants as slot
 
 -- ---- symbols
 
@@ -132,7 +134,7 @@ branch_holds = inr (record {
   words = tt;
   does = done (reads_alone static_pie_world static_memory) static_pie static_pie_world static_memory branch_item branch_reference 0 call (record {
     value = 0x41200;
-    demands = record { goal = 0x41200; stands = inl first_value; is = refl };
+    demands = record { goal = 0x41200; stands = inr ((λ g. no_string g.formula.value branch_reference g.takes), inr (no_string StubDistance branch_reference, inl first_value)); is = refl };
     effect = effect_with Call 64 0x41200;
     demanded = call_demanded 0x41200;
     bytes = 0xe8 ∷ 0xfb ∷ 0x01 ∷ 0 ∷ 0 ∷ [];
@@ -316,7 +318,7 @@ address_holds = inl (record {
   formula = formula SymbolAddress Full;
   known = address_formula;
   value = 0x41210;
-  gives = record { symbol = 0x41210; denoted = inl second_value; sum = refl };
+  gives = record { symbol = 0x41210; denoted = inr (no_string SymbolAddress address_reference, inl second_value); sum = refl };
   field = record { bytes = 0x10 ∷ 0x12 ∷ 0x04 ∷ 0 ∷ 0 ∷ 0 ∷ 0 ∷ 0 ∷ []; wide = refl; held = held_from static_memory 0x41100 (0x10 ∷ 0x12 ∷ 0x04 ∷ 0 ∷ 0 ∷ 0 ∷ 0 ∷ 0 ∷ []) refl; reads = address_number; keeps = tt };
   kept = λ start o first t. absurd (no_template static_pie static_item address_reference start o first no_code t);
   does = λ start o first t. absurd (no_template static_pie static_item address_reference start o first no_code t);
@@ -367,13 +369,26 @@ in_block s h =
     by true n e = e
     by false n e = refl
 
+abbrev StandsAsItIs : InputSection → Type 0
+StandsAsItIs s = s.reversed ≡ false
+
+stands_so : (s : InputSection) → IsInput static_pie s → s.reversed ≡ false
+stands_so s h = All-contains StandsAsItIs sections s (All-from_recursion StandsAsItIs sections (refl, (refl, (refl, (refl, (refl, tt)))))) (listed_in s h)
+
+abbrev IsLoaded : InputSection → Type 0
+IsLoaded s = s.slot ≡ slot.Loaded
+
 abbrev SectionHolds : InputSection → Type 0
 SectionHolds s = ItemHolds static_pie static_pie_world static_memory (item_with 0 s)
 
 items_hold : (item : Item) → IsKept static_pie item → ItemHolds static_pie static_pie_world static_memory item
 items_hold item (OfSection s kept is) =
     let there : SectionHolds s = All-contains SectionHolds sections s (All-from_recursion SectionHolds sections (branch_item_holds, (load_item_holds, (general_item_holds, (described_item_holds, (static_item_holds, tt)))))) (listed_in s kept.input) in
-    subst (λ (i : Item). ItemHolds static_pie static_pie_world static_memory i) (sym (is ∙ in_block s kept.input)) there
+    subst (λ (i : Item). ItemHolds static_pie static_pie_world static_memory i) (sym (is ∙ (stood_plain static_pie kept.input.file s (stands_so s kept.input) ∙ in_block s kept.input))) there
+items_hold item (OfFrames s kept is) =
+    let there : IsLoaded s = All-contains IsLoaded sections s (All-from_recursion IsLoaded sections (refl, (refl, (refl, (refl, (refl, tt)))))) (listed_in s (frame_input static_pie s kept)) in
+    let both : slot.Loaded ≡ slot.Frame = sym there ∙ kept.frame in
+    cc
 
 abbrev HasData : InputSection → Type 0
 HasData s = s.nobits ≡ false

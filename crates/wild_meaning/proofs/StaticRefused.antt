@@ -6,7 +6,7 @@ use Rattle.wild_records.specs.Abi.Relocation.{r_x86_64_none, r_x86_64_64, r_x86_
 use Rattle.wild_records.specs.Abi.Section.{shf_execinstr}
 use Rattle.wild_records.specs.FileHeader.{FileHeaderIsRead}
 use Rattle.wild_records.specs.declared.file_header.FileHeader.{FileHeader}
-use Rattle.wild_reloc.specs.Formula.{Formula, formula, SymbolAddress, PointerOffset, Full}
+use Rattle.wild_reloc.specs.Formula.{Formula, formula, SymbolAddress, PointerOffset, Full, Value}
 use Rattle.wild_reloc.specs.FormulaX86_64.{x86_64_formula}
 use Rattle.wild_types.specs.declared.input.InputRelocation.{InputRelocation}
 use Rattle.wild_types.specs.declared.file.FileRole.TheVariants as file_role
@@ -28,6 +28,9 @@ use Rattle.wild_meaning.specs.Thread.{HasThreadOffset}
 use Rattle.wild_meaning.proofs.Told.{only, IsPlainOwn, denoted, own_offset, somewhere}
 use Rattle.wild_meaning.proofs.Read.{full_of}
 use Rattle.wild_meaning.proofs.Refused.{HasValueThere, value_there, not_excepted, not_alone}
+use Rattle.wild_meaning.specs.Formula.{TakesString}
+use Rattle.wild_meaning.proofs.StringLemmas.{nothing_named}
+use Rattle.wild_meaning.proofs.SymbolLemmas.{referent_stands}
 
 -- ---- symbols and sections
 
@@ -60,6 +63,10 @@ pub pointer_formula : x86_64_formula r_x86_64_tpoff64 ≡ Some (formula PointerO
 unfolding x86_64_formula
 pointer_formula = refl
 
+-- the program has no merged strings
+pub no_string : (v : Value) (r : InputRelocation) → TakesString v static_pie r → ⊥
+no_string v r t = nothing_named static_pie refl r t.1
+
 pub no_code : IsSet 3 shf_execinstr → ⊥
 no_code e = omega arith
 
@@ -80,7 +87,7 @@ wrong_address image h x =
     let r = reference 0 r_x86_64_64 1 (pos 0) in
     let v = own_there h.memory r _ 1 0x1210 (h.kept static_item kept) (0, omega arith, refl) (omega arith) address_formula refl second_is in
     let is : v.value ≡ x.number = full_of static_pie_world h.memory static_item r v.value x.number v.field x.there in
-    let address : v.gives.symbol ≡ 0x41210 = denoted static_pie static_pie_world h.memory 1 0x1210 v.gives.symbol second_is v.gives.denoted in
+    let address : v.gives.symbol ≡ 0x41210 = denoted static_pie static_pie_world h.memory 1 0x1210 v.gives.symbol second_is (referent_stands SymbolAddress static_pie static_pie_world h.memory static_item r v.gives.symbol refl (no_string SymbolAddress r) v.gives.denoted) in
     x.wrong (omega (arith, is, address, v.gives.sum))
 
 wrong_offset : Refuses static_pie static_pie_world (HasWrongNumber 0x41108 8 (2 ^ 64 - 8))

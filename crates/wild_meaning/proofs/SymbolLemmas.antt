@@ -12,7 +12,8 @@ use Rattle.wild_loader.specs.declared.world.World.{World}
 use Rattle.wild_loader.specs.declared.memory.Memory.{Memory}
 use Rattle.wild_meaning.specs.Value.{IsDefinedBy}
 use Rattle.wild_types.specs.Item.{Item}
-use Rattle.wild_meaning.specs.Formula.{IsTarget, IsOwnTarget, IsReferent, IsOwnReferent, IsGoal}
+use Rattle.wild_meaning.specs.Formula.{IsTarget, IsOwnTarget, TakesString, IsReferent, IsOwnReferent, IsGoal}
+use Rattle.wild_meaning.proofs.StringLemmas.{referent_by}
 
 -- the symbol that defines another is the one that the layout looks up
 pub canonical_is : (l : Layout) (i c : ℕ) → IsDefinedBy l i c → canonical l i ≡ c
@@ -47,13 +48,13 @@ target_reached l w m None a h = h
 target_reached l w m (Some i) a (inl h) = (a, h, inl refl)
 target_reached l w m (Some i) a (inr h) = (h.value, h.is, h.reaches)
 
--- ---- S on x86-64, whatever the expression
+-- ---- S on x86-64, of a reference that takes no string
 
-pub referent_is : (v : Value) (l : Layout) (w : World) (m : Memory) (item : Item) (r : InputRelocation) (a : ℕ) → l.machine ≡ machine.X86_64 → IsTarget l w m r.symbol a → IsReferent l.machine v l w m item r a
-referent_is v l w m item r a x h = subst (λ (k : Machine). IsReferent k v l w m item r a) (sym x) h
+pub referent_is : (v : Value) (l : Layout) (w : World) (m : Memory) (item : Item) (r : InputRelocation) (a : ℕ) → l.machine ≡ machine.X86_64 → (TakesString v l r → ⊥) → IsTarget l w m r.symbol a → IsReferent l.machine v l w m item r a
+referent_is v l w m item r a x none h = subst (λ (k : Machine). IsReferent k v l w m item r a) (sym x) (inr (none, h))
 
-pub referent_stands : (v : Value) (l : Layout) (w : World) (m : Memory) (item : Item) (r : InputRelocation) (a : ℕ) → l.machine ≡ machine.X86_64 → IsReferent l.machine v l w m item r a → IsTarget l w m r.symbol a
-referent_stands v l w m item r a x h = subst (λ (k : Machine). IsReferent k v l w m item r a) x h
+pub referent_stands : (v : Value) (l : Layout) (w : World) (m : Memory) (item : Item) (r : InputRelocation) (a : ℕ) → l.machine ≡ machine.X86_64 → (TakesString v l r → ⊥) → IsReferent l.machine v l w m item r a → IsTarget l w m r.symbol a
+referent_stands v l w m item r a x none h = referent_by machine.X86_64 v l w m item r a none (subst (λ (k : Machine). IsReferent k v l w m item r a) x h)
 
 pub own_referent_is : (v : Value) (l : Layout) (w : World) (item : Item) (r : InputRelocation) (a : ℕ) → l.machine ≡ machine.X86_64 → IsOwnTarget l w r.symbol a → IsOwnReferent l.machine v l w item r a
 own_referent_is v l w item r a x h = subst (λ (k : Machine). IsOwnReferent k v l w item r a) (sym x) h

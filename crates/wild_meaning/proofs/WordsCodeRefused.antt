@@ -42,7 +42,9 @@ use Rattle.wild_meaning.proofs.OneReference.{effect_with, value_in, ReadsNumbers
 use Rattle.wild_meaning.proofs.InstructionsAArch64.{alone_only}
 use Rattle.wild_meaning.proofs.WordsLinked.{own_alone, slot_low_asked, call_demanded, past_demanded}
 use Rattle.wild_meaning.proofs.WordsRefused.{goes_there}
-use Rattle.wild_meaning.proofs.WordsTemplates.{function_is, data_is, not_absent, slot_low_formula, slot_low_word, call_word, slot_low_alone, call_alone, slot_low_template, call_template, past_template, descriptor_load_formula, descriptor_template, load_only}
+use Rattle.wild_meaning.proofs.WordsTemplates.{function_is, data_is, no_string, not_absent, slot_low_formula, slot_low_word, call_word, slot_low_alone, call_alone, slot_low_template, call_template, past_template, descriptor_load_formula, descriptor_template, load_only}
+use Rattle.wild_meaning.proofs.StringLemmas.{referent_by, branch_stands}
+use Rattle.wild_types.specs.declared.kind.Machine.TheVariants as machine
 
 -- a reference of an own symbol, which is asked at its one base
 holds_there : (m : Memory) (item : Item) (r : InputRelocation) (i raw : ℕ) → ItemHolds words_static words_world m item → IsReference item r → r.symbol ≡ Some i → IsPlainOwn words_static i raw → ReferenceHolds words_static words_world m item r
@@ -124,7 +126,7 @@ wrong_slot image h x =
 
 -- where a branch to the function goes that goes by a thunk
 goes_by : (m : Memory) (item : Item) (r : InputRelocation) (goal : ℕ) → r.symbol ≡ Some 0 → IsReferent words_static.machine StubDistance words_static words_world m item r goal → ReachesWithin 1 m ((goal + cast_unsigned w64 r.addend) % 2 ^ 64) ((0x11200 + cast_unsigned w64 r.addend) % 2 ^ 64)
-goes_by m item r goal named h = by (subst (λ (o : Option ℕ). IsReferentOnAArch64 StubDistance words_static words_world m item r o goal) named h)
+goes_by m item r goal named h = by (subst (λ (o : Option ℕ). IsReferentOnAArch64 StubDistance words_static words_world m item r o goal) named (referent_by machine.AArch64 StubDistance words_static words_world m item r goal (no_string StubDistance r) h))
   where
     by : IsReferentOnAArch64 StubDistance words_static words_world m item r (Some 0) goal → ReachesWithin 1 m ((goal + cast_unsigned w64 r.addend) % 2 ^ 64) ((0x11200 + cast_unsigned w64 r.addend) % 2 ^ 64)
     by (inl a) = absurd (not_absent a.0.1)
@@ -155,7 +157,7 @@ thunk_refused m read item r a t bytes long named at held goes asked done here th
     let same : 0x11060 ≡ h.value % 2 ^ 64 = value_in Call 64 0x11060 h.effect does ∙ sym (value_in Call 64 (h.value % 2 ^ 64) h.effect demanded) in
     let is = h.demands.is in
     let to : (h.demands.goal + cast_unsigned w64 r.addend) % 2 ^ 64 ≡ 0x11060 = omega (arith, same, is) in
-    let way = goes_by m item r h.demands.goal named h.demands.stands in
+    let way = goes_by m item r h.demands.goal named (branch_stands words_static words_world m item r h.demands.goal (λ g. no_string g.formula.value r g.takes) h.demands.stands) in
     no_way m 0x11060 t ((0x11200 + cast_unsigned w64 r.addend) % 2 ^ 64) goes here there (subst (λ (n : ℕ). ReachesWithin 1 m n ((0x11200 + cast_unsigned w64 r.addend) % 2 ^ 64)) to way)
 
 far_goes : (m : Memory) → m.machine ≡ processors.AArch64 → Holds m 0x11060 far_thunk → step m 0x11060 ≡ Some (jumps 12 0x12200)

@@ -34,7 +34,7 @@ use Rattle.wild_meaning.specs.ReferentAArch64.{IsStandIn}
 use Rattle.wild_meaning.specs.Formula.{IsReferent, IsSum, Gives}
 use Rattle.wild_meaning.specs.Slot.{IsSlot}
 use Rattle.wild_types.specs.Item.{Item, item_of, item_with}
-use Rattle.wild_meaning.specs.Item.{place_at, IsInput, IsKept, OfSection}
+use Rattle.wild_meaning.specs.Item.{place_at, IsInput, IsKept, OfSection, OfFrames}
 use Rattle.wild_meaning.specs.Sequence.{Instruction, size_of, IsOwnByte, descriptor_call_words, address_pair_words}
 use Rattle.wild_meaning.specs.Template.{DoesDemanded, effect_of, demand_of, old_bytes, reads, reads_alone}
 use Rattle.wild_meaning.specs.WordsAArch64.{effect_with as asked_of}
@@ -53,7 +53,9 @@ use Rattle.wild_meaning.proofs.OneReference.{effect_with, same_bytes}
 use Rattle.wild_meaning.proofs.InstructionsAArch64.{alone_only}
 use Rattle.wild_meaning.proofs.WordsLegal.{no_library}
 use Rattle.wild_meaning.proofs.WordsLoaded.{words_loaded, words_programs}
-use Rattle.wild_meaning.proofs.WordsTemplates.{function_is, data_is, not_absent, slot_page_formula, slot_low_formula, call_formula, slot_page_word, slot_low_word, call_word, slot_page_alone, slot_low_alone, call_alone, no_byte, slot_page_template, slot_low_template, call_template, past_template, page_template, low_template, descriptor_template, page_formula, low_formula, page_word, no_byte_of_two, kept_template, kept_page_only, kept_low_only}
+use Rattle.wild_meaning.proofs.WordsTemplates.{function_is, data_is, no_string, not_absent, slot_page_formula, slot_low_formula, call_formula, slot_page_word, slot_low_word, call_word, slot_page_alone, slot_low_alone, call_alone, no_byte, slot_page_template, slot_low_template, call_template, past_template, page_template, low_template, descriptor_template, page_formula, low_formula, page_word, no_byte_of_two, kept_template, kept_page_only, kept_low_only}
+use Rattle.wild_meaning.proofs.StoodLemmas.{stood_plain, frame_input}
+use Rattle.wild_types.specs.declared.input.Slot.TheVariants as slot
 
 -- ---- symbols
 
@@ -124,7 +126,7 @@ no_words item first start o bytes d n long held means = λ others act a whole th
 -- ---- an address in two instructions
 
 function_sum : IsSum PageDistance words_static words_world words_memory address_item page_reference 0x11200
-function_sum = record { symbol = 0x11200; denoted = inr ((λ h. not_absent h.1), inr (no_stand_in, function_value)); sum = refl }
+function_sum = record { symbol = 0x11200; denoted = inr (no_string PageDistance page_reference, inr ((λ h. not_absent h.1), inr (no_stand_in, function_value))); sum = refl }
 
 address_demanded : demand_of words_static.machine 0x11200 0x11000 (old_bytes address_item 0 address_pair_words) ≡ Some (effect_with (Set 0) 64 0x11200)
 unfolding word number read read_address read_access read_vector_access read_literal read_transfer read_condition
@@ -281,10 +283,10 @@ unfolding insert_bits
 thunk_goes = thunks-read words_memory 0 0x11060 0x11200 refl (record { above = omega arith; below = omega arith }) refl (omega arith) thunk_held
 
 by_thunk : IsReferent words_static.machine StubDistance words_static words_world words_memory call_item call_reference 0x11060
-by_thunk = inr ((λ h. not_absent h.1), record { symbol = 0x11200; denoted = inl function_value; comes = inr (0x11200, record { effect = jumps 12 0x11200; known = thunk_goes; jump = refl }, refl) })
+by_thunk = inr (no_string StubDistance call_reference, inr ((λ h. not_absent h.1), record { symbol = 0x11200; denoted = inl function_value; comes = inr (0x11200, record { effect = jumps 12 0x11200; known = thunk_goes; jump = refl }, refl) }))
 
 past_it : IsReferent words_static.machine StubDistance words_static words_world words_memory past_item past_reference 0x11200
-past_it = inr ((λ h. not_absent h.1), record { symbol = 0x11200; denoted = inl function_value; comes = inl refl })
+past_it = inr (no_string StubDistance past_reference, inr ((λ h. not_absent h.1), record { symbol = 0x11200; denoted = inl function_value; comes = inl refl }))
 
 pub call_demanded : (v : ℕ) → demand_of words_static.machine v 0x11020 (old_bytes call_item 0 call_word) ≡ Some (effect_with Call 64 (v % 2 ^ 64))
 unfolding word number read read_address read_access read_vector_access read_literal read_transfer read_condition
@@ -305,7 +307,7 @@ past_done = refl
 call_does : DoesDemanded (reads words_world words_memory) words_static words_world words_memory call_item call_reference 0 call_word
 call_does = done (reads words_world words_memory) words_static words_world words_memory call_item call_reference 0 call_word (record {
   value = 0x11060;
-  demands = record { goal = 0x11060; stands = by_thunk; is = refl };
+  demands = record { goal = 0x11060; stands = inr ((λ g. no_string g.formula.value call_reference g.takes), by_thunk); is = refl };
   effect = effect_with Call 64 0x11060;
   demanded = call_demanded 0x11060;
   bytes = 0x10 ∷ 0 ∷ 0 ∷ 0x94 ∷ [];
@@ -317,7 +319,7 @@ call_does = done (reads words_world words_memory) words_static words_world words
 past_does : DoesDemanded (reads words_world words_memory) words_static words_world words_memory past_item past_reference 0 call_word
 past_does = done (reads words_world words_memory) words_static words_world words_memory past_item past_reference 0 call_word (record {
   value = 0x11204;
-  demands = record { goal = 0x11200; stands = past_it; is = refl };
+  demands = record { goal = 0x11200; stands = inr ((λ g. no_string g.formula.value past_reference g.takes), past_it); is = refl };
   effect = effect_with Call 64 0x11204;
   demanded = past_demanded 0x11204;
   bytes = 0x78 ∷ 0 ∷ 0 ∷ 0x94 ∷ [];
@@ -429,10 +431,10 @@ descriptor_item_holds = all_hold descriptor_item
 -- ---- an address that stays in two instructions
 
 kept_sum : IsSum PageDistance words_static words_world words_memory kept_item page_reference 0x11200
-kept_sum = record { symbol = 0x11200; denoted = inr ((λ h. not_absent h.1), inr (no_stand_in, function_value)); sum = refl }
+kept_sum = record { symbol = 0x11200; denoted = inr (no_string PageDistance page_reference, inr ((λ h. not_absent h.1), inr (no_stand_in, function_value))); sum = refl }
 
 kept_low_sum : IsSum SymbolPart words_static words_world words_memory kept_item low_reference 0x11200
-kept_low_sum = record { symbol = 0x11200; denoted = inr ((λ h. not_absent h.1), inr (no_stand_in, function_value)); sum = refl }
+kept_low_sum = record { symbol = 0x11200; denoted = inr (no_string SymbolPart low_reference, inr ((λ h. not_absent h.1), inr (no_stand_in, function_value))); sum = refl }
 
 kept_word_asked : asked_of 0 0x11040 (old_bytes kept_item 0 page_word) ≡ Some (effect_with (Set 0) 64 0x11000)
 unfolding word number read read_address read_access read_vector_access read_literal read_transfer read_condition insert_bits
@@ -535,13 +537,26 @@ in_block s h =
     by true n e = e
     by false n e = refl
 
+abbrev StandsAsItIs : InputSection → Type 0
+StandsAsItIs s = s.reversed ≡ false
+
+stands_so : (s : InputSection) → IsInput words_static s → s.reversed ≡ false
+stands_so s h = All-contains StandsAsItIs sections s (All-from_recursion StandsAsItIs sections (refl, (refl, (refl, (refl, (refl, (refl, tt))))))) (listed_in s h)
+
+abbrev IsLoaded : InputSection → Type 0
+IsLoaded s = s.slot ≡ slot.Loaded
+
 abbrev SectionHolds : InputSection → Type 0
 SectionHolds s = ItemHolds words_static words_world words_memory (item_with 0 s)
 
 items_hold : (item : Item) → IsKept words_static item → ItemHolds words_static words_world words_memory item
 items_hold item (OfSection s kept is) =
     let there : SectionHolds s = All-contains SectionHolds sections s (All-from_recursion SectionHolds sections (address_item_holds, (slot_item_holds, (call_item_holds, (past_item_holds, (descriptor_item_holds, (kept_item_holds, tt))))))) (listed_in s kept.input) in
-    subst (λ (i : Item). ItemHolds words_static words_world words_memory i) (sym (is ∙ in_block s kept.input)) there
+    subst (λ (i : Item). ItemHolds words_static words_world words_memory i) (sym (is ∙ (stood_plain words_static kept.input.file s (stands_so s kept.input) ∙ in_block s kept.input))) there
+items_hold item (OfFrames s kept is) =
+    let there : IsLoaded s = All-contains IsLoaded sections s (All-from_recursion IsLoaded sections (refl, (refl, (refl, (refl, (refl, (refl, tt))))))) (listed_in s (frame_input words_static s kept)) in
+    let both : slot.Loaded ≡ slot.Frame = sym there ∙ kept.frame in
+    cc
 
 abbrev HasData : InputSection → Type 0
 HasData s = s.nobits ≡ false

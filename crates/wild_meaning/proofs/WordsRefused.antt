@@ -38,6 +38,7 @@ use Rattle.wild_meaning.specs.RefusalsAArch64.{Does, DoesNot, call_item, slot_it
 use Rattle.wild_meaning.proofs.InstructionsAArch64.{IsAlone, alone_only}
 use Rattle.wild_meaning.proofs.WordsTemplates.{slot_page_formula, slot_low_formula, slot_page_alone, slot_low_alone}
 use Rattle.wild_meaning.proofs.OneReference.{same_bytes, effect_with, value_in}
+use Rattle.wild_meaning.proofs.StringLemmas.{nameless, referent_by}
 
 -- what the loaded bytes do is what is demanded
 both : (read : Reader) (l : Layout) (w : World) (m : Memory) (item : Item) (o : Instruction) (v a : ℕ) (bytes : List ℕ) → l.machine ≡ machine.AArch64 → place_at w item 0 ≡ a → Holds m a bytes → length bytes ≡ size_of o
@@ -222,7 +223,8 @@ of_type P n k e h = subst P (sym e) h
 no_symbol : (l : Layout) (v : Value) (w : World) (m : Memory) (item : Item) (r : InputRelocation) (x : ℕ) → l.machine ≡ machine.AArch64 → r.symbol ≡ None → IsSum v l w m item r x → x ≡ (0 + cast_unsigned w64 r.addend) % 2 ^ 64
 no_symbol l v w m item r x is none s =
     let there : IsReferent machine.AArch64 v l w m item r s.symbol = subst (λ (k : Machine). IsReferent k v l w m item r s.symbol) is s.denoted in
-    let zero : s.symbol ≡ 0 = subst (λ (o : Option ℕ). IsReferentOnAArch64 v l w m item r o s.symbol) none there in
+    let plain : IsReferentOnAArch64 v l w m item r r.symbol s.symbol = referent_by machine.AArch64 v l w m item r s.symbol (λ t. nameless l r none t.1) there in
+    let zero : s.symbol ≡ 0 = subst (λ (o : Option ℕ). IsReferentOnAArch64 v l w m item r o s.symbol) none plain in
     s.sum ∙ ap (λ (n : ℕ). (n + cast_unsigned w64 r.addend) % 2 ^ 64) zero
 
 pub cut_bits : CutBitsAreRefused

@@ -4,7 +4,7 @@ use Rattle.std.specs.Prelude.{Some, None, Contains, slice_get}
 use Rattle.std.proofs.lemmas.List.Elements.{All-from_recursion}
 use Rattle.wild_words.specs.Words.{number}
 use Rattle.wild_records.specs.Abi.Relocation.{r_aarch64_adr_prel_pg_hi21, r_aarch64_add_abs_lo12_nc, r_aarch64_adr_got_page, r_aarch64_ld64_got_lo12_nc, r_aarch64_call26, r_aarch64_tlsdesc_adr_page21, r_aarch64_tlsdesc_ld64_lo12, r_aarch64_tlsdesc_add_lo12, r_aarch64_tlsdesc_call}
-use Rattle.wild_reloc.specs.Formula.{Formula, formula, SymbolPart, PageDistance, StubDistance, SlotAddress, SlotPageDistance, AddressSlot, Descriptor, NoValue, AdrField, Imm12Field, Imm26Field, NoCheck, WithinPower, NoField, Bits}
+use Rattle.wild_reloc.specs.Formula.{Formula, formula, SymbolPart, PageDistance, StubDistance, SlotAddress, SlotPageDistance, AddressSlot, Descriptor, NoValue, AdrField, Imm12Field, Imm26Field, NoCheck, WithinPower, NoField, Bits, Value}
 use Rattle.wild_reloc.specs.FormulaAArch64.{aarch64_formula}
 use Rattle.wild_types.specs.declared.input.InputRelocation.{InputRelocation}
 use Rattle.wild_types.specs.Flags.{has_flag, undefined_weak}
@@ -17,6 +17,8 @@ use Rattle.wild_meaning.specs.WorkedAArch64.{words_static, near_function, local_
 use Rattle.wild_meaning.proofs.Told.{flag_of, IsPlainOwn}
 use Rattle.wild_meaning.proofs.PairLemmas.{only_one}
 use Rattle.wild_meaning.proofs.InstructionsAArch64.{IsAlone, single_is, alone_template, sequence_is}
+use Rattle.wild_meaning.specs.Formula.{TakesString}
+use Rattle.wild_meaning.proofs.StringLemmas.{nothing_named}
 
 -- ---- symbols
 
@@ -33,6 +35,10 @@ unfolding has_flag
 function_there = refl
 
 -- the function is there
+-- the program has no merged strings
+pub no_string : (v : Value) (r : InputRelocation) → TakesString v words_static r → ⊥
+no_string v r t = nothing_named words_static refl r t.1
+
 pub not_absent : IsAbsent words_static 0 → ⊥
 not_absent h = let both : true ≡ false = sym (flag_of words_static 0 undefined_weak true near_function refl h.weak) ∙ function_there in cc
 

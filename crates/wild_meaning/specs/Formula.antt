@@ -1,6 +1,6 @@
 -- What a formula gives for a relocation of an item, in a world and a memory.
 --   IsTarget l w m symbol a  a stands for a reference's symbol: it is its value, or its stub
---   IsReferent ..            a is S in a reference, or L: on x86-64 what stands for its symbol
+--   IsReferent ..            a is S in a reference, or L: on x86-64 what stands for its symbol, and of merged strings what with A makes their place
 --   IsSum value l w m item r x   x is S + A
 --   table_at l w             GOT
 --   IsOffset l w symbol t    t is S's offset from the thread pointer
@@ -31,6 +31,7 @@ use Rattle.wild_meaning.specs.Denotes.{Denotes}
 use Rattle.wild_meaning.specs.ReferentAArch64.{IsAbsent, own_place, StandsOnAArch64}
 use Rattle.wild_meaning.specs.Thread.{HasThreadOffset, HasOwnOffset, IsOffsetBase}
 use Rattle.wild_meaning.specs.Slot.{IsSlot}
+use Rattle.wild_meaning.specs.Strings.{NamesStrings, IsString}
 use Rattle.wild_types.specs.Item.{Item}
 use Rattle.wild_meaning.specs.Item.{place_at}
 
@@ -54,6 +55,15 @@ IsPlaceRelative StubDistance = ⊤
 IsPlaceRelative StubFromTable = ⊤
 IsPlaceRelative other = ⊥
 
+-- the expression has the symbol's address, of itself or on a page
+abbrev pub TakesAddress : Value → Type 0
+TakesAddress SymbolAddress = ⊤
+TakesAddress SymbolPart = ⊤
+TakesAddress Distance = ⊤
+TakesAddress PageDistance = ⊤
+TakesAddress FromTable = ⊤
+TakesAddress other = ⊥
+
 -- ---- S and L
 
 -- the expression takes a place from a symbol that is not there
@@ -65,10 +75,18 @@ abbrev pub IsReferentOnAArch64 : Value → Layout → World → Memory → Item 
 IsReferentOnAArch64 value l w m item r None a = a ≡ 0
 IsReferentOnAArch64 value l w m item r (Some i) a = (TakesOwnPlace value l i × (a ≡ own_place w item r)) ⊎ ((TakesOwnPlace value l i → ⊥) × StandsOnAArch64 value l w m r i a)
 
+-- a is what stands for the symbol by itself
+abbrev pub IsReferentBy : Machine → Value → Layout → World → Memory → Item → InputRelocation → ℕ → Type 0
+IsReferentBy machine.X86_64 value l w m item r a = IsTarget l w m r.symbol a
+IsReferentBy machine.AArch64 value l w m item r a = IsReferentOnAArch64 value l w m item r r.symbol a
+
+-- the expression takes S, and the symbol stands for strings that were merged: they are found by S and A together
+abbrev pub TakesString : Value → Layout → InputRelocation → Type 0
+TakesString value l r = TakesAddress value × NamesStrings l r
+
 -- a is S, or L, in a reference with that expression, whose place and addend may have a part in it
 abbrev pub IsReferent : Machine → Value → Layout → World → Memory → Item → InputRelocation → ℕ → Type 0
-IsReferent machine.X86_64 value l w m item r a = IsTarget l w m r.symbol a
-IsReferent machine.AArch64 value l w m item r a = IsReferentOnAArch64 value l w m item r r.symbol a
+IsReferent machine value l w m item r a = (TakesString value l r × IsString l w r a) ⊎ ((TakesString value l r → ⊥) × IsReferentBy machine value l w m item r a)
 
 -- x is S + A
 pub record IsSum (value : Value) (l : Layout) (w : World) (m : Memory) (item : Item) (r : InputRelocation) (x : ℕ) : Type 0 where
@@ -186,15 +204,6 @@ GivesLinked FromTable l w item r x = (t : ℕ) × IsOwnSum FromTable l w item r 
 GivesLinked PointerOffset l w item r x = (t : ℕ) × IsOwnOffset l w r.symbol t × (x ≡ (t + cast_unsigned w64 r.addend) % 2 ^ 64)
 GivesLinked ModuleOffset l w item r x = (t b : ℕ) × IsOwnOffset l w r.symbol t × IsOffsetBase l.machine l.kind w b × (x ≡ (t + cast_unsigned w64 r.addend + (2 ^ 64 - b)) % 2 ^ 64)
 GivesLinked other l w item r x = ⊥
-
--- the expression has the symbol's address, of itself or on a page
-abbrev pub TakesAddress : Value → Type 0
-TakesAddress SymbolAddress = ⊤
-TakesAddress SymbolPart = ⊤
-TakesAddress Distance = ⊤
-TakesAddress PageDistance = ⊤
-TakesAddress FromTable = ⊤
-TakesAddress other = ⊥
 
 -- the expression has the symbol's offset from the thread pointer
 abbrev pub TakesOffset : Value → Type 0

@@ -1,15 +1,18 @@
 -- What references are asked of.
 --   IsLoadedSlot s   a section of that sort is loaded as it is
+--   stood_item l f s an input section as it stands in the output
 --   IsKept l item    the item is one of the layout's: the bytes of an input section that is loaded, allocated and has data
 --   IsReference ..   a relocation of an item that refers to something
-use Rattle.std.specs.Prelude.{◌≡◌, ◌≢◌, ℕ, ◌+◌, false, ⊤, Contains}
+use Rattle.std.specs.Prelude.{◌≡◌, ◌≢◌, ℕ, ◌+◌, ◌-◌, ◌%◌, false, ⊤, if◌then◌else◌, List, length, map, Contains, slice_index}
+use Rattle.std.specs.List.{range_with_len}
 use Rattle.wild_records.specs.Abi.Relocation.{r_x86_64_none}
 use Rattle.wild_records.specs.Abi.Section.{shf_alloc}
 use Rattle.wild_types.specs.declared.input.Slot.{Slot}
 use Rattle.wild_types.specs.declared.input.Slot.TheVariants as slot
 use Rattle.wild_types.specs.declared.input.InputRelocation.{InputRelocation}
 use Rattle.wild_types.specs.declared.input.InputSection.{InputSection}
-use Rattle.wild_types.specs.Item.{Item, item_of}
+use Rattle.wild_types.specs.Item.{Item, block_for}
+use Rattle.wild_meaning.specs.Frames.{IsFrameInput, frames_item, frames_address}
 use Rattle.wild_types.specs.declared.file.File.{File}
 use Rattle.wild_types.specs.declared.file.Group.{Group}
 use Rattle.wild_types.specs.declared.layout.Layout.{Layout}
@@ -33,10 +36,36 @@ pub record IsInput (l : Layout) (s : InputSection) : Type 0 where
   pub filed : Contains group.files file
   pub listed : Contains file.sections s
 
--- the sorts of input sections that are loaded as they are
+-- the sorts of input sections that are loaded as they are, in the order of the files or in a given one
 abbrev pub IsLoadedSlot : Slot → Type 0
 IsLoadedSlot slot.Loaded = ⊤
+IsLoadedSlot slot.Sorted = ⊤
 IsLoadedSlot other = ⊥
+
+-- ---- reversed sections, whose words of 8 bytes stand in the output with the last first
+
+-- where the byte of the input is that stands at k
+abbrev pub byte_from : ℕ → ℕ → ℕ
+byte_from n k = n - 8 - (k - k % 8) + k % 8
+
+abbrev pub reversed_bytes : List ℕ → List ℕ
+reversed_bytes bs = map (λ k. slice_index bs (byte_from (length bs) k)) (range_with_len 0 (length bs))
+
+-- a relocation of a word of n bytes of words, where that stands
+abbrev pub reversed_relocation : ℕ → InputRelocation → InputRelocation
+reversed_relocation n r = record { offset = n - 8 - r.offset; number = r.number; symbol = r.symbol; addend = r.addend; malformed = r.malformed }
+
+-- ---- items
+
+-- an input section as it stands in the output, with the block of thunks that its file has for it
+abbrev pub stood_item : Layout → File → InputSection → Item
+stood_item l f s = record {
+  address = s.address;
+  flags = s.flags;
+  bytes = if s.reversed then reversed_bytes s.bytes else s.bytes;
+  relocations = if s.reversed then map (reversed_relocation s.size) s.relocations else s.relocations;
+  thunk_block = block_for l f s;
+}
 
 -- an input section that is loaded, allocated and has data
 pub record IsKeptSection (l : Layout) (s : InputSection) : Type 0 where
@@ -47,5 +76,7 @@ pub record IsKeptSection (l : Layout) (s : InputSection) : Type 0 where
 
 -- an item of the layout that stands in memory: what it is made of
 pub data IsKept (l : Layout) (item : Item) : Type 0 where
-  -- an input section, with the block of thunks that its file has for it
-  OfSection : (s : InputSection) (k : IsKeptSection l s) → item ≡ item_of l k.input.file s → IsKept l item
+  -- an input section
+  OfSection : (s : InputSection) (k : IsKeptSection l s) → item ≡ stood_item l k.input.file s → IsKept l item
+  -- the entries that are kept of frames
+  OfFrames : (s : InputSection) (k : IsFrameInput l s) → item ≡ frames_item l k.file s (frames_address l s k) → IsKept l item

@@ -36,7 +36,8 @@ use Rattle.wild_meaning.specs.Slot.{IsSlot}
 use Rattle.wild_types.specs.Item.{Item}
 use Rattle.wild_meaning.specs.Item.{place_at}
 use Rattle.wild_meaning.specs.Field.{formula_of, InNoField}
-use Rattle.wild_meaning.specs.Formula.{Gives, IsSum, IsTarget, IsReferent, IsOwnReferent, IsGoal, IsOffset, HasOffsetMode}
+use Rattle.wild_meaning.specs.Formula.{Gives, IsSum, IsTarget, IsReferent, IsOwnReferent, IsGoal, IsOffset, HasOffsetMode, TakesString}
+use Rattle.wild_meaning.specs.Strings.{IsString}
 
 -- ---- in the input's bytes
 
@@ -135,10 +136,20 @@ demand_of machine.AArch64 v a bs = demand_aarch64 v a bs
 
 -- ---- what is demanded
 
+-- the reference takes S of its own type's formula, and names merged strings
+pub record GoesToString (l : Layout) (r : InputRelocation) : Type 0 where
+  pub formula : Formula
+  pub known : formula_of l.machine r.number ≡ Some formula
+  pub takes : TakesString formula.value l r
+
+-- a is S or L of a branch: of such a reference S, which makes the string's place with A
+abbrev pub IsBranchReferent : Layout → World → Memory → Item → InputRelocation → ℕ → Type 0
+IsBranchReferent l w m item r a = (GoesToString l r × IsString l w r a) ⊎ ((GoesToString l r → ⊥) × IsReferent l.machine StubDistance l w m item r a)
+
 -- where code goes that goes to S + A or L + A, from where its field counts
 pub record IsBranchTarget (l : Layout) (w : World) (m : Memory) (item : Item) (r : InputRelocation) (v : ℕ) : Type 0 where
   pub goal : ℕ
-  pub stands : IsReferent l.machine StubDistance l w m item r goal
+  pub stands : IsBranchReferent l w m item r goal
   pub is : v ≡ (goal + cast_unsigned w64 r.addend + counts_from l.machine) % 2 ^ 64
 
 -- the value of a descriptor's reference: the offset itself, or the address of the symbol's descriptor

@@ -5,6 +5,7 @@ ghost use Rattle.wild_meaning.specs.RefusalsAArch64.{RightWordsDo, WrongWordsAre
 ghost use Rattle.wild_meaning.specs.Replaced.{DynamicIsReplaceable, ExportedIsReplaceable, AnswersAreTaken};
 ghost use Rattle.wild_meaning.specs.SegmentRefusals.{WrongSegmentsAreRefused, OtherPlacesAreRefused, WrongSizesAreRefused, NoDynamicIsRefused, WrongEntriesAreRefused};
 ghost use Rattle.wild_meaning.specs.SharedRefusals.{SharedWorldIsLegal, WrongSlotsAreRefused, WrongAddressesAreRefused, WrongOffsetsAreRefused, WrongModulesAreRefused, WrongDescriptorsAreRefused, WrongSizeIsRefused, WrongByteIsRefused, WrongCodeOfLibraryIsRefused};
+ghost use Rattle.wild_meaning.specs.StringRefusals.{StringsAreJudged, ReversedWordsAreJudged};
 ghost use Rattle.wild_meaning.specs.StaticRefusals.{StaticPieWorldIsLegal, WrongDataAreRefused, WrongCodeIsRefused, WrongBlankIsRefused, StaticImageIsLinked};
 
 use wild_records::file_header_is_read;
@@ -64,6 +65,13 @@ pub fn wrong_programs_are_refused()
 {
     file_header_is_read();
 }
+
+/// A reference to the middle of a merged string holds where its field is that byte's place, and no image is linked where it is another
+/// number; nor one where two words that are reversed stand as in the input.
+pub fn strings_and_reversed_words_are_judged()
+    ensures strings { StringsAreJudged }
+    ensures reversed { ReversedWordsAreJudged }
+{}
 
 /// No image is linked whose segments are not the layout's, or cannot be mapped page by page; whose file header tells another version or
 /// other sizes of headers; nor one that a dynamic linker loads and that has no dynamic section, or one that leaves symbols to be found late

@@ -1,4 +1,5 @@
 -- Where a layout has no faults each symbol of the table of all symbols has its fields.
+use Rattle.wild_laid.specs.Laid.{frames_at}
 use Rattle.std.proofs.Common.{◌≡◌, ℕ, ◌++◌, [], All, None, Result, Ok, Err, refl, ap}
 use Rattle.std.proofs.lemmas.List.Elements.{All-contains}
 use Rattle.wild_words.proofs.Basics.{All-from_nothing}
@@ -9,7 +10,7 @@ use Rattle.wild_types.specs.declared.layout.Layout.{Layout}
 use Rattle.wild_needs.specs.TableSymbols.{TableSymbol, file_items}
 use Rattle.wild_symbols.specs.declared.table.TableFields.{TableFields}
 use Rattle.wild_symbols.specs.TableEntries.{table_fields, or_none_in_table}
-use Rattle.wild_layout.specs.Faults.{flat_map_from, at_file, file_errors, listed_errors, lacking_in_table, table_error, table_errors, group_errors}
+use Rattle.wild_layout.specs.Faults.{flat_map_from, at_file, listed_errors, lacking_in_table, table_error, table_errors, group_errors, files_errors}
 use Rattle.wild_layout.proofs.FaultLemmas.{first_empty, rest_empty, All-from_none, no_fault, no_group_errors}
 use Rattle.wild_names.specs.FieldLaws.{HasTableFields, TableSymbolsHaveFields, entry_with}
 
@@ -18,7 +19,7 @@ use Rattle.wild_names.specs.FieldLaws.{HasTableFields, TableSymbolsHaveFields, e
 -- the last faults of a group are those of the symbols of the tables
 of_tables : (l : Layout) (i : ℕ) (g : Group) → group_errors l i g ≡ [] → flat_map_from (listed_errors l i) 0 g.files ++ flat_map_from (table_errors l i) 0 g.files ≡ []
 unfolding group_errors
-of_tables l i g h = rest_empty (flat_map_from (file_errors l i) 0 g.files) (flat_map_from (listed_errors l i) 0 g.files ++ flat_map_from (table_errors l i) 0 g.files) h
+of_tables l i g h = rest_empty (files_errors l i (frames_at l g) 0 g.files) (flat_map_from (listed_errors l i) 0 g.files ++ flat_map_from (table_errors l i) 0 g.files) h
 
 pub none_of_listed : (l : Layout) (i : ℕ) (g : Group) → group_errors l i g ≡ [] → flat_map_from (listed_errors l i) 0 g.files ≡ []
 none_of_listed l i g h = first_empty (flat_map_from (listed_errors l i) 0 g.files) (flat_map_from (table_errors l i) 0 g.files) (of_tables l i g h)

@@ -1,4 +1,6 @@
 -- The last file alone gives the hash tables.
+use Rattle.wild_laid.specs.Laid.{laid_files}
+use Rattle.wild_geometry.proofs.StoodSections.{laid_same}
 use Rattle.std.proofs.Common.{◌≡◌, ℕ, ◌+◌, ◌≤◌, inl, inr, ◌==◌, Bool, true, false, ◌&&◌, if◌then◌else◌, List, [], ◌∷◌, ◌++◌, length, map, Some, None, flat_map, refl, ap, ◌∙◌, arith}
 use Rattle.std.proofs.lemmas.Bool.{cases_Bool, and_parts, ne_eqb}
 use Rattle.std.proofs.lemmas.List.{append-nil}
@@ -20,7 +22,7 @@ use Rattle.wild_layout.specs.Geometry.{IsLaidOut}
 use Rattle.wild_hashes.specs.Tables.{sysv_hash_of, gnu_hash_of, gnu_header, gnu_table, sysv_table}
 
 -- each file gives these bytes where it is the last one, and else none
-abbrev GivenByLast : (File → List ℕ) → List ℕ → Type 0
+abbrev pub GivenByLast : (File → List ℕ) → List ℕ → Type 0
 GivenByLast give bs = (f : File) → give f ≡ (if is_epilogue f.role then bs else [])
 
 -- what one file gives, by its place
@@ -56,7 +58,7 @@ in_group give bs first false (f ∷ fs) each h =
     rw (by_place give bs first false f each a.0) (middles give bs fs each a.1)
 
 -- all groups, each of which gives what its files do
-in_groups : (of : Group → List ℕ) (give : File → List ℕ) (bs : List ℕ) (first : Bool) (i : ℕ) (gs : List Group) → GivenByLast give bs → ((g : Group) → of g ≡ flat_map give g.files) → 1 ≤ length gs → file_misplaced first i gs ≡ None → flat_map of gs ≡ bs
+pub in_groups : (of : Group → List ℕ) (give : File → List ℕ) (bs : List ℕ) (first : Bool) (i : ℕ) (gs : List Group) → GivenByLast give bs → ((g : Group) → of g ≡ flat_map give g.files) → 1 ≤ length gs → file_misplaced first i gs ≡ None → flat_map of gs ≡ bs
 in_groups of give bs first i [] each group some h = absurd (omega (arith, some))
 in_groups of give bs first i (g ∷ []) each group some h =
     elim (cases_Bool (files_placed first true g.files)) [
@@ -82,9 +84,9 @@ by_need l f bs needs = rw needs refl
 pub sysv_stands : (l : Layout) (h : SysvHash) → IsLaidOut l → needs_dynsym l.kind ≡ true → l.sysv_hash ≡ Some h → table_bytes l role.SysvHash ≡ sysv_table h.buckets (first_listed l) (map sysv_hash_of l.dynsyms)
 sysv_stands l h laid needs shape =
     let each : GivenByLast (file_content l role.SysvHash) (sysv_bytes l l.sysv_hash) = λ f. no_front (is_prelude f.role) (of_last l f (sysv_bytes l l.sysv_hash)) ∙ by_need l f (sysv_bytes l l.sysv_hash) needs in
-    in_groups (content l role.SysvHash) (file_content l role.SysvHash) (sysv_bytes l l.sysv_hash) true 0 l.groups each (λ g. append-nil (flat_map (file_content l role.SysvHash) g.files)) laid.some_group laid.files ∙ ap (sysv_bytes l) shape
+    in_groups (content l role.SysvHash) (file_content l role.SysvHash) (sysv_bytes l l.sysv_hash) true 0 l.groups each (λ g. append-nil (flat_map (file_content l role.SysvHash) (laid_files l g)) ∙ laid_same (file_content l role.SysvHash) l g (λ at f. refl)) laid.some_group laid.files ∙ ap (sysv_bytes l) shape
 
 pub gnu_stands : (l : Layout) (h : GnuHash) → IsLaidOut l → needs_dynsym l.kind ≡ true → l.gnu_hash ≡ Some h → table_bytes l role.GnuHash ≡ gnu_table (gnu_header h) (map gnu_hash_of l.dynsyms)
 gnu_stands l h laid needs shape =
     let each : GivenByLast (file_content l role.GnuHash) (gnu_bytes l l.gnu_hash) = λ f. no_front (is_prelude f.role) (of_last l f (gnu_bytes l l.gnu_hash)) ∙ by_need l f (gnu_bytes l l.gnu_hash) needs in
-    in_groups (content l role.GnuHash) (file_content l role.GnuHash) (gnu_bytes l l.gnu_hash) true 0 l.groups each (λ g. append-nil (flat_map (file_content l role.GnuHash) g.files)) laid.some_group laid.files ∙ ap (gnu_bytes l) shape
+    in_groups (content l role.GnuHash) (file_content l role.GnuHash) (gnu_bytes l l.gnu_hash) true 0 l.groups each (λ g. append-nil (flat_map (file_content l role.GnuHash) (laid_files l g)) ∙ laid_same (file_content l role.GnuHash) l g (λ at f. refl)) laid.some_group laid.files ∙ ap (gnu_bytes l) shape

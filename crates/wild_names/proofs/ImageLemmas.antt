@@ -1,4 +1,5 @@
 -- Both tables in the image: each entry stands where it is counted, and each name where its entry tells.
+use Rattle.wild_laid.specs.Laid.{laid_files}
 use Rattle.std.proofs.Common.{◌≡◌, ℕ, suc, ◌+◌, ◌*◌, ◌^◌, ◌<◌, ◌≤◌, true, List, [], ◌∷◌, ◌++◌, length, map, replicate, option_map, Some, None, slice_get, flat_map, refl, sym, ap, ◌∙◌, arith, subst}
 use Rattle.std.proofs.lemmas.List.{length-append, length-map}
 use Rattle.std.proofs.lemmas.Option.{slice_get-map}
@@ -70,7 +71,7 @@ no_symbols : (l : Layout) (f : File) → file_content l role.Dynsym f ≡ []
 no_symbols l f = rw (nil_if (is_prelude f.role)) refl
 
 symbols_given : (l : Layout) (g : Group) → content l role.Dynsym g ≡ symbol_bytes (group_symbols l g)
-symbols_given l g = rw (none_joined (file_content l role.Dynsym) g.files (no_symbols l)) refl
+symbols_given l g = rw (none_joined (file_content l role.Dynsym) (laid_files l g) (no_symbols l)) refl
 
 abbrev pub all_symbols : Layout → List SymtabEntry
 all_symbols l = flat_map (group_symbols l) l.groups

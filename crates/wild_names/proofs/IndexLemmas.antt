@@ -1,5 +1,20 @@
 -- The longer section indexes: each entry of the table of all symbols has its own, in order.
-use Rattle.std.proofs.Common.{◌≡◌, ℕ, ◌*◌, inl, inr, Bool, true, false, if◌then◌else◌, List, [], ◌∷◌, length, map, filter, find, flat_map, option_map, Some, slice_get, refl, sym, ap, ◌∙◌, arith, subst}
+use Rattle.wild_needs.specs.declared.table.Named.{Named}
+use Rattle.wild_needs.specs.declared.table.Named.TheVariants as named
+use Rattle.wild_symbols.specs.declared.table.TableFields.{TableFields}
+use Rattle.std.specs.Prelude.{Result}
+use Rattle.wild_types.specs.declared.symbol.Place.{Place}
+use Rattle.wild_types.specs.declared.symbol.Place.TheVariants as places
+use Rattle.wild_types.specs.declared.input.Slot.{Slot}
+use Rattle.wild_types.specs.declared.input.Slot.TheVariants as slot
+use Rattle.wild_types.specs.declared.input.InputSection.{InputSection}
+use Rattle.wild_types.specs.declared.fault.Fault.{Fault}
+use Rattle.wild_needs.specs.DynamicSymbols.{output_section, section_of_input}
+use Rattle.wild_laid.specs.FrameInputs.{kept_size}
+use Rattle.wild_laid.specs.Turned.{turned, as_turned}
+use Rattle.wild_laid.specs.Laid.{laid_files, laid_file, laid_section, laid_sections, laid_by, behind}
+use Rattle.wild_geometry.proofs.StoodSections.{laid_same}
+use Rattle.std.proofs.Common.{◌≡◌, ℕ, ◌*◌, inl, inr, Bool, true, false, if◌then◌else◌, List, [], ◌∷◌, length, map, filter, find, flat_map, option_map, Some, slice_get, refl, sym, ap, ◌∙◌, arith, subst, ◌++◌, zero, suc}
 use Rattle.std.specs.List.{list_any}
 use Rattle.std.proofs.lemmas.Bool.{cases_Bool, or_left}
 use Rattle.std.proofs.lemmas.List.{append-nil, length-map}
@@ -17,10 +32,10 @@ use Rattle.wild_types.specs.declared.file.Group.{Group}
 use Rattle.wild_types.specs.declared.layout.Layout.{Layout}
 use Rattle.wild_types.specs.FileRoles.{is_prelude}
 use Rattle.wild_types.specs.Parts.{has_role, role_place, part_with}
-use Rattle.wild_needs.specs.TableSymbols.{has_long}
-use Rattle.wild_types.specs.Lookups.{has_many_sections}
+use Rattle.wild_needs.specs.TableSymbols.{has_long, file_items, TableSymbol, item_name, is_local}
+use Rattle.wild_types.specs.Lookups.{has_many_sections, section_of}
 use Rattle.wild_symbols.specs.DynamicEntries.{NamedFields}
-use Rattle.wild_symbols.specs.TableEntries.{NamedEntry, file_table, group_table, index_bytes, is_side, long_indexes}
+use Rattle.wild_symbols.specs.TableEntries.{NamedEntry, file_table, group_table, index_bytes, is_side, long_indexes, table_fields, named_entry, null_entries, fields_of, table_by, or_none_in_table}
 use Rattle.wild_symbols.specs.TableLaws.{IndexesHave4Bytes}
 use Rattle.wild_layout.specs.Content.{content, file_content, indexes_of}
 use Rattle.wild_layout.specs.TablePlaces.{table_bytes}
@@ -74,15 +89,55 @@ file_indexes l false f has =
     rw (nil_if (is_prelude f.role)) (append-nil (indexes_of l role.SymtabShndxGlobal false f) ∙ given (has_long l role.SymtabShndxGlobal) all has ∙ by_entry (filter (is_side false) (file_table l f)))
 
 -- a group gives what its files give
-by_files : (l : Layout) (local : Bool) (g : Group) → content l (index_role local) g ≡ flat_map (file_content l (index_role local)) g.files
-by_files l true g = append-nil (flat_map (file_content l role.SymtabShndxLocal) g.files)
-by_files l false g = append-nil (flat_map (file_content l role.SymtabShndxGlobal) g.files)
+by_files : (l : Layout) (local : Bool) (g : Group) → content l (index_role local) g ≡ flat_map (file_content l (index_role local)) (laid_files l g)
+by_files l true g = append-nil (flat_map (file_content l role.SymtabShndxLocal) (laid_files l g))
+by_files l false g = append-nil (flat_map (file_content l role.SymtabShndxGlobal) (laid_files l g))
+
+-- a section stands in its part, however it stands
+part_laid : (l : Layout) (f : File) (at : ℕ) (s : InputSection) → (laid_section l f at s).part ≡ s.part
+unfolding laid_section as_turned
+part_laid l f at s = by_slot s.slot
+  where
+    by_test : (b : Bool) → (if b then turned s else s).part ≡ s.part
+    by_test true = refl
+    by_test false = refl
+
+    by_slot : (k : Slot) → (laid_by k l f at s).part ≡ s.part
+    by_slot slot.Loaded = by_test s.reversed
+    by_slot slot.Frame = refl
+    by_slot other = refl
+
+section_laid : (l : Layout) (f : File) (at : ℕ) (ss : List InputSection) (k : ℕ) → section_of_input l (slice_get (laid_sections l f at ss) k) ≡ section_of_input l (slice_get ss k)
+section_laid l f at [] k = refl
+section_laid l f at (s ∷ ss) zero = ap (section_of l) (part_laid l f at s)
+section_laid l f at (s ∷ ss) (suc k) = section_laid l f (behind at (kept_size l f s)) ss k
+
+output_laid : (l : Layout) (at : ℕ) (f : File) (p : Place) → output_section l (Some (laid_file l at f)) p ≡ output_section l (Some f) p
+output_laid l at f (places.Section k) = section_laid l f at f.sections k
+output_laid l at f other = refl
+
+entry_laid : (l : Layout) (at : ℕ) (f : File) (x : TableSymbol) → named_entry l (laid_file l at f) x ≡ named_entry l f x
+unfolding table_fields
+entry_laid l at f x = ap (λ (r : Result TableFields Fault). record { name = item_name x; local = is_local x; fields = or_none_in_table r }) (by_named x.named)
+  where
+    by_named : (n : Named) → fields_of l (laid_file l at f) n x.index x.symbol ≡ fields_of l f n x.index x.symbol
+    by_named named.Itself = ap (table_by l x.index f.role x.symbol) (output_laid l at f x.symbol.place)
+    by_named other = refl
+
+entries_laid : (l : Layout) (at : ℕ) (f : File) (xs : List TableSymbol) → map (named_entry l (laid_file l at f)) xs ≡ map (named_entry l f) xs
+entries_laid l at f [] = refl
+entries_laid l at f (x ∷ xs) = ap (λ (n : NamedEntry). n ∷ map (named_entry l (laid_file l at f)) xs) (entry_laid l at f x) ∙ ap (λ (ns : List NamedEntry). named_entry l f x ∷ ns) (entries_laid l at f xs)
+
+indexes_laid : (l : Layout) (local : Bool) (at : ℕ) (f : File) → spelled_of local (file_table l (laid_file l at f)) ≡ spelled_of local (file_table l f)
+unfolding file_items
+indexes_laid l local at f = ap (λ (ns : List NamedEntry). spelled_of local (null_entries l f ++ ns)) (entries_laid l at f (file_items l f))
 
 group_indexes : (l : Layout) (local : Bool) (g : Group) → has_long l (index_role local) ≡ true → content l (index_role local) g ≡ spelled_of local (group_table l g)
 unfolding group_table
 group_indexes l local g has =
     by_files l local g
-    ∙ flat_map-same (file_content l (index_role local)) (λ (f : File). spelled_of local (file_table l f)) g.files (λ f. file_indexes l local f has)
+    ∙ flat_map-same (file_content l (index_role local)) (λ (f : File). spelled_of local (file_table l f)) (laid_files l g) (λ f. file_indexes l local f has)
+    ∙ laid_same (λ (f : File). spelled_of local (file_table l f)) l g (indexes_laid l local)
     ∙ sym (flat_map-flat_map spelled (λ (f : File). filter (is_side local) (file_table l f)) g.files)
     ∙ ap (flat_map spelled) (sym (filter-flat_map (is_side local) (file_table l) g.files))
 

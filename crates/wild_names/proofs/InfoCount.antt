@@ -1,4 +1,6 @@
 -- How many local symbols the table of all symbols has: as many as its part has room for, and fewer than 2^32.
+use Rattle.wild_geometry.proofs.StoodSections.{laid_same}
+use Rattle.wild_laid.specs.Laid.{laid_files, laid_file}
 use Rattle.std.proofs.Common.{◌≡◌, ℕ, ◌+◌, ◌*◌, ◌/◌, ◌%◌, ◌^◌, ◌<◌, ◌≤◌, not, true, List, [], ◌∷◌, length, map, filter, flat_map, refl, sym, ap, ◌∙◌, arith, subst}
 use Rattle.std.proofs.lemmas.List.{length-append, length-map}
 use Rattle.std.proofs.lemmas.List.Elements.{All-contains}
@@ -16,7 +18,7 @@ use Rattle.wild_needs.specs.DynamicStrings.{text_room}
 use Rattle.wild_types.specs.FileRoles.{is_prelude}
 use Rattle.wild_types.specs.Lists.{total}
 use Rattle.wild_needs.specs.Needs.{share, group_share}
-use Rattle.wild_needs.specs.TableSymbols.{table_strings}
+use Rattle.wild_needs.specs.TableSymbols.{table_strings, file_items}
 use Rattle.wild_symbols.specs.Symbols.{symbol_bytes}
 use Rattle.wild_symbols.specs.TableEntries.{NamedEntry, is_side, group_table, table_entries}
 use Rattle.wild_symbols.specs.TableLaws.{LengthsOfSides, NamesOfGroups}
@@ -36,7 +38,7 @@ no_file_bytes : (l : Layout) (f : File) → file_content l role.SymtabLocal f �
 no_file_bytes l f = rw (nil_if (is_prelude f.role)) refl
 
 group_bytes_are : (l : Layout) (g : Group) → content l role.SymtabLocal g ≡ symbol_bytes (table_entries l true g)
-group_bytes_are l g = rw (none_joined (file_content l role.SymtabLocal) g.files (no_file_bytes l)) refl
+group_bytes_are l g = rw (none_joined (file_content l role.SymtabLocal) (laid_files l g) (no_file_bytes l)) refl
 
 as_many_entries : LengthsOfSides → (l : Layout) (g : Group) → length (table_entries l true g) ≡ length (filter (is_side true) (group_table l g))
 unfolding table_entries
@@ -77,14 +79,19 @@ few_of_files l (f ∷ fs) =
     let c = few_of_files l fs in
     omega (arith, a, b, c)
 
+strings_laid : (l : Layout) (at : ℕ) (f : File) → table_strings l (laid_file l at f) ≡ table_strings l f
+unfolding table_strings file_items
+strings_laid l at f = refl
+
 few_of_group : NamesOfGroups → (l : Layout) (g : Group) → length (map said (locals l g)) ≤ group_share l role.Strtab g
 few_of_group names l g =
     let a = length-map (locals l g) said in
     let b = length-filter_both (is_side true) (λ (n : NamedEntry). not (is_side true n)) (λ _. refl) (group_table l g) in
     let c = length-map (group_table l g) (λ (n : NamedEntry). n.name) in
     let d = ap (λ (ss : List (List ℕ)). length ss) (names l g) in
-    let e = few_of_files l g.files in
-    omega (arith, a, b, c, d, e)
+    let e = few_of_files l (laid_files l g) in
+    let same = ap (λ (ss : List (List ℕ)). length ss) (laid_same (table_strings l) l g (strings_laid l)) in
+    omega (arith, a, b, c, d, e, same)
 
 few_of_groups : NamesOfGroups → (l : Layout) (gs : List Group) → length (flat_map (λ (g : Group). map said (locals l g)) gs) ≤ total (group_share l role.Strtab) gs
 few_of_groups names l [] = omega arith

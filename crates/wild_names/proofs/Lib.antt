@@ -25,6 +25,7 @@ pub mod ImageTables
 pub mod PartBytes
 pub mod ShapeLemmas
 pub mod HashBytes
+pub mod NoteBytes
 pub mod NumberedLemmas
 pub mod FoundParts
 pub mod LookUps

@@ -1,4 +1,6 @@
 -- What files and groups give, whose strings stand one behind the other.
+use Rattle.wild_laid.specs.Laid.{laid_files, laid_file}
+use Rattle.wild_geometry.proofs.StoodSections.{laid_same}
 use Rattle.std.proofs.Common.{◌≡◌, ℕ, suc, ◌+◌, ◌^◌, ◌<◌, ◌≤◌, true, List, [], ◌∷◌, ◌++◌, length, take, Some, slice_get, flat_map, refl, sym, ap, ◌∙◌, arith, subst}
 use Rattle.std.proofs.lemmas.List.{length-append, append-nil}
 use Rattle.wild_words.specs.Words.{Stands}
@@ -52,8 +54,15 @@ files_belong R give have l whole small each at (f ∷ fs) s =
 file_gives : (l : Layout) (f : File) → file_content l role.Dynstr f ≡ strings_of l f
 file_gives l f = rw (nil_if (is_prelude f.role)) (append-nil (strings_of l f))
 
+stood_gives : (l : Layout) (g : Group) → content l role.Dynstr g ≡ flat_map (strings_of l) (laid_files l g)
+stood_gives l g = append-nil (flat_map (file_content l role.Dynstr) (laid_files l g)) ∙ flat_map-same (file_content l role.Dynstr) (strings_of l) (laid_files l g) (file_gives l)
+
+strings_laid : (l : Layout) (at : ℕ) (f : File) → strings_of l (laid_file l at f) ≡ strings_of l f
+unfolding file_strings
+strings_laid l at f = refl
+
 pub group_gives : (l : Layout) (g : Group) → content l role.Dynstr g ≡ flat_map (strings_of l) g.files
-group_gives l g = append-nil (flat_map (file_content l role.Dynstr) g.files) ∙ flat_map-same (file_content l role.Dynstr) (strings_of l) g.files (file_gives l)
+group_gives l g = stood_gives l g ∙ laid_same (strings_of l) l g (strings_laid l)
 
 -- what each group gives, whose bytes of a role stand where it begins, belongs to what it has; so for groups whose bytes stand one
 -- behind the other
@@ -74,7 +83,7 @@ groups_along R of have l r start whole each at (g ∷ gs) starts s =
 
 -- no group has more strings than its share
 group_fits : (l : Layout) (g : Group) → length (content l role.Dynstr g) ≤ group_share l role.Dynstr g
-group_fits l g = let e = ap length (group_gives l g) in let n = fits g.files in omega arith
+group_fits l g = let e = ap length (stood_gives l g) in let n = fits (laid_files l g) in omega arith
   where
     fits : (fs : List File) → length (flat_map (strings_of l) fs) ≤ total (share l role.Dynstr) fs
     fits [] = omega arith

@@ -1,4 +1,6 @@
 -- The table of all symbols: its local ones in one part, and all others in another.
+use Rattle.wild_laid.specs.Laid.{laid_files, laid_file}
+use Rattle.wild_geometry.proofs.StoodSections.{laid_same}
 use Rattle.std.proofs.Common.{◌≡◌, ℕ, ◌+◌, ◌*◌, ◌^◌, ◌<◌, ◌≤◌, inl, inr, ◌==◌, ◌&&◌, Bool, true, false, List, [], ◌∷◌, ◌++◌, length, map, filter, replicate, Some, None, slice_get, flat_map, refl, sym, ap, ◌∙◌, arith, subst}
 use Rattle.std.proofs.lemmas.Bool.{cases_Bool, and_parts}
 use Rattle.std.proofs.lemmas.List.{append-nil, length-append}
@@ -63,10 +65,15 @@ file_text : (l : Layout) (f : File) → file_content l role.Strtab f ≡ string_
 file_text l f = rw (nil_if (is_prelude f.role)) (append-nil (string_bytes (table_strings l f)))
 
 -- a group's strings are the names of its symbols
+text_laid : (l : Layout) (at : ℕ) (f : File) → string_bytes (table_strings l (laid_file l at f)) ≡ string_bytes (table_strings l f)
+unfolding table_strings file_items
+text_laid l at f = refl
+
 group_text : (l : Layout) (g : Group) → NamesOfGroups → content l role.Strtab g ≡ string_bytes (names_of (group_table l g))
 group_text l g names =
-    append-nil (flat_map (file_content l role.Strtab) g.files)
-    ∙ flat_map-same (file_content l role.Strtab) (λ (f : File). string_bytes (table_strings l f)) g.files (file_text l)
+    append-nil (flat_map (file_content l role.Strtab) (laid_files l g))
+    ∙ flat_map-same (file_content l role.Strtab) (λ (f : File). string_bytes (table_strings l f)) (laid_files l g) (file_text l)
+    ∙ laid_same (λ (f : File). string_bytes (table_strings l f)) l g (text_laid l)
     ∙ sym (flat_map-flat_map string (table_strings l) g.files)
     ∙ ap string_bytes (sym (names l g))
 
@@ -83,8 +90,8 @@ groups_fit : (l : Layout) (gs : List Group) → length (flat_map (content l role
 groups_fit l [] = omega arith
 groups_fit l (g ∷ gs) =
     let a = length-append (content l role.Strtab g) (flat_map (content l role.Strtab) gs) in
-    let b = ap (λ (bs : List ℕ). length bs) (append-nil (flat_map (file_content l role.Strtab) g.files)) in
-    let c = files_fit l g.files in
+    let b = ap (λ (bs : List ℕ). length bs) (append-nil (flat_map (file_content l role.Strtab) (laid_files l g))) in
+    let c = files_fit l (laid_files l g) in
     let d = groups_fit l gs in
     omega arith
 
@@ -111,8 +118,8 @@ no_table l true f = rw (nil_if (is_prelude f.role)) refl
 no_table l false f = rw (nil_if (is_prelude f.role)) refl
 
 entries_given : (l : Layout) (local : Bool) (g : Group) → content l (table_role local) g ≡ symbol_bytes (table_entries l local g)
-entries_given l true g = rw (none_joined (file_content l role.SymtabLocal) g.files (no_table l true)) refl
-entries_given l false g = rw (none_joined (file_content l role.SymtabGlobal) g.files (no_table l false)) refl
+entries_given l true g = rw (none_joined (file_content l role.SymtabLocal) (laid_files l g) (no_table l true)) refl
+entries_given l false g = rw (none_joined (file_content l role.SymtabGlobal) (laid_files l g) (no_table l false)) refl
 
 entries_table : (l : Layout) (local : Bool) → symbol_bytes (all_entries l local) ≡ table_bytes l (table_role local)
 entries_table l local = flat_map-flat_map (λ (e : SymtabEntry). spell (symtab_entry_fields e)) (table_entries l local) l.groups ∙ sym (flat_map-same (content l (table_role local)) (λ (g : Group). symbol_bytes (table_entries l local g)) l.groups (entries_given l local))

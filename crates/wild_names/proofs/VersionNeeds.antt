@@ -1,4 +1,5 @@
 -- The versions that are needed of libraries: their records are what groups give, and names stand where they tell.
+use Rattle.wild_laid.specs.Laid.{laid_files}
 use Rattle.std.proofs.Common.{◌≡◌, ℕ, ◌%◌, ◌^◌, ◌<◌, Bool, true, if◌then◌else◌, List, [], ◌∷◌, ◌++◌, length, All, get_or, refl, sym, ap, ◌∙◌, arith, subst}
 use Rattle.std.specs.Prelude.{Option, Some, None}
 use Rattle.std.proofs.lemmas.List.{append-nil}
@@ -103,7 +104,7 @@ no_needs : (l : Layout) (f : File) → file_content l role.GnuVersionR f ≡ []
 no_needs l f = rw (nil_if (is_prelude f.role)) refl
 
 group_gives : (l : Layout) (g : Group) → content l role.GnuVersionR g ≡ group_needs l g
-group_gives l g = rw (none_joined (file_content l role.GnuVersionR) g.files (no_needs l)) refl
+group_gives l g = rw (none_joined (file_content l role.GnuVersionR) (laid_files l g) (no_needs l)) refl
 
 -- the table has just the bytes of all records
 pub needs_given : (l : Layout) → needs_dynsym l.kind ≡ true → needs_bytes (all_records l) ≡ table_bytes l role.GnuVersionR

@@ -1,4 +1,6 @@
 -- The table of the versions of dynamic symbols: that of the null one, those of each file, and those of the list.
+use Rattle.wild_laid.specs.Laid.{laid_files}
+use Rattle.wild_geometry.proofs.StoodSections.{laid_same}
 use Rattle.std.proofs.Common.{◌≡◌, ℕ, true, List, [], ◌∷◌, map, flat_map, refl, sym, ap, ◌∙◌}
 use Rattle.std.proofs.lemmas.List.{append-nil}
 use Rattle.wild_words.proofs.ListLemmas.{flat_map-same, flat_map-flat_map}
@@ -59,8 +61,9 @@ file_gives l f needs asked =
 
 group_gives : (l : Layout) (g : Group) → needs_dynsym l.kind ≡ true → l.options.versions ≡ true → content l role.GnuVersion g ≡ version_bytes (flat_map (file_versions l) g.files)
 group_gives l g needs asked =
-    append-nil (flat_map (file_content l role.GnuVersion) g.files)
-    ∙ flat_map-same (file_content l role.GnuVersion) (λ (f : File). version_bytes (file_versions l f)) g.files (λ f. file_gives l f needs asked)
+    append-nil (flat_map (file_content l role.GnuVersion) (laid_files l g))
+    ∙ flat_map-same (file_content l role.GnuVersion) (λ (f : File). version_bytes (file_versions l f)) (laid_files l g) (λ f. file_gives l f needs asked)
+    ∙ laid_same (λ (f : File). version_bytes (file_versions l f)) l g (λ at f. refl)
     ∙ sym (flat_map-flat_map spelled (file_versions l) g.files)
 
 pub version_table : (l : Layout) → IsLaidOut l → needs_dynsym l.kind ≡ true → l.options.versions ≡ true → table_bytes l role.GnuVersion ≡ version_bytes (all_versions l)

@@ -6,6 +6,7 @@ ghost use Rattle.wild_names.specs.IndexLaws.{LongIndexesStand};
 ghost use Rattle.wild_names.specs.Laws.{LibrariesStand, SymbolTablesAreThere, SymbolsStand, TableSymbolsStand};
 ghost use Rattle.wild_names.specs.VersionLaws.{DefinitionsStand, NeedsStand, VersionsStand};
 ghost use Rattle.wild_names.specs.Below.{ImageLaws, NameLaws};
+ghost use Rattle.wild_names.specs.NoteLaws.{NotesStand, SearchTablesStand};
 ghost use Rattle.wild_names.specs.LookUpLaws.{GnuLookUpsFind, LookUpsWithoutTable, SysvLookUpsFind};
 
 use wild_geometry::{layouts_are_laid_out, tables_stand};
@@ -49,6 +50,15 @@ pub fn long_indexes_stand()
 {
     tables_stand();
     entries_are_counted();
+}
+
+/// The path of the interpreter, the note of the build id and that of the properties stand in their parts, and so does the search table of
+/// the frames of all files.
+pub fn notes_stand()
+    ensures notes { NotesStand }
+    ensures search { SearchTablesStand }
+{
+    tables_stand();
 }
 
 /// Each library has its entry in the dynamic section, and its name stands where the entry tells.

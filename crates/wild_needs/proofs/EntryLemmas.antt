@@ -17,7 +17,6 @@ use Rattle.wild_reloc.specs.declared.info.RelocationKind.{RelocationKind}
 use Rattle.wild_reloc.specs.declared.info.RelocationKind.TheVariants as kinds
 use Rattle.wild_reloc.specs.declared.info.RelocationKindInfo.{RelocationKindInfo}
 use Rattle.wild_types.specs.declared.input.InputRelocation.{InputRelocation}
-use Rattle.wild_types.specs.declared.input.InputSection.{InputSection}
 use Rattle.wild_types.specs.declared.kind.Machine.{Machine}
 use Rattle.wild_types.specs.declared.kind.Machine.TheVariants as machine
 use Rattle.wild_types.specs.declared.layout.Layout.{Layout}
@@ -59,25 +58,25 @@ never true h = absurd (h refl)
 never false h = refl
 
 -- the section is allocated
-entry_room : (l : Layout) (s : InputSection) (symbol : Option ℕ) (row : RelocationKindInfo) (t : Treatment) → Says l s.flags symbol row t → is_left_to_entry t ≡ true → allocated s.flags ≡ true
-entry_room l s symbol row (Symbolic i) h e = h.0.room
-entry_room l s symbol row (Indirect i) h e = h.0.room
-entry_room l s symbol row (Extent r i) h e = h.1.room
-entry_room l s symbol row other h e = cc
+entry_room : (l : Layout) (flags : ℕ) (symbol : Option ℕ) (row : RelocationKindInfo) (t : Treatment) → Says l flags symbol row t → is_left_to_entry t ≡ true → allocated flags ≡ true
+entry_room l flags symbol row (Symbolic i) h e = h.0.room
+entry_room l flags symbol row (Indirect i) h e = h.0.room
+entry_room l flags symbol row (Extent r i) h e = h.1.room
+entry_room l flags symbol row other h e = cc
 
-row_keeps : (l : Layout) (s : InputSection) (n : ℕ) (o : Option ℕ) (row : Option RelocationKindInfo) → allocated s.flags ≡ false → is_left_to_entry (row_treatment l s.flags n o row) ≡ false
+row_keeps : (l : Layout) (flags : ℕ) (n : ℕ) (o : Option ℕ) (row : Option RelocationKindInfo) → allocated flags ≡ false → is_left_to_entry (row_treatment l flags n o row) ≡ false
 unfolding row_treatment
-row_keeps l s n o None h = refl
-row_keeps l s n o (Some row) h = never _ (λ e. (let both : true ≡ false = sym (entry_room l s o row (row_treatment l s.flags n o (Some row)) (row_said l s.flags n o row) e) ∙ h in cc))
+row_keeps l flags n o None h = refl
+row_keeps l flags n o (Some row) h = never _ (λ e. (let both : true ≡ false = sym (entry_room l flags o row (row_treatment l flags n o (Some row)) (row_said l flags n o row) e) ∙ h in cc))
 
-keeps : (l : Layout) (s : InputSection) (r : InputRelocation) → allocated s.flags ≡ false → is_left_to_entry (treatment l s.flags r) ≡ false
+keeps : (l : Layout) (flags : ℕ) (r : InputRelocation) → allocated flags ≡ false → is_left_to_entry (treatment l flags r) ≡ false
 unfolding treatment
-keeps l s r h = row_keeps l s r.number r.symbol (suited l.machine r (row_of l.machine r.number)) h
+keeps l flags r h = row_keeps l flags r.number r.symbol (suited l.machine r (row_of l.machine r.number)) h
 
 -- in a section that is not loaded none is
-pub none_left : (l : Layout) (s : InputSection) (rs : List InputRelocation) → allocated s.flags ≡ false → length (filter (λ r. is_left_to_entry (treatment l s.flags r)) rs) ≡ 0
-none_left l s [] h = refl
-none_left l s (r ∷ rs) h = let e = keeps l s r h in rw e (none_left l s rs h)
+pub none_left : (l : Layout) (flags : ℕ) (rs : List InputRelocation) → allocated flags ≡ false → length (filter (λ r. is_left_to_entry (treatment l flags r)) rs) ≡ 0
+none_left l flags [] h = refl
+none_left l flags (r ∷ rs) h = let e = keeps l flags r h in rw e (none_left l flags rs h)
 
 -- ---- types whose fields entries fill
 
@@ -109,22 +108,22 @@ last_left true b h = refl
 last_left false b h = h
 
 -- an address that an entry fills has that number, and stands where the program may write
-address_number : (s : InputSection) (symbol : Option ℕ) (row : RelocationKindInfo) (i n : ℕ) → has_number row.kind (field_width row) n ≡ true → IsLeftBy s.flags symbol row i → writable s.flags ≡ true → may_be_left s n ≡ true
-address_number s symbol row i n h by writes =
+address_number : (flags : ℕ) (symbol : Option ℕ) (row : RelocationKindInfo) (i n : ℕ) → has_number row.kind (field_width row) n ≡ true → IsLeftBy flags symbol row i → writable flags ≡ true → may_be_left flags n ≡ true
+address_number flags symbol row i n h by writes =
     let number : has_number kinds.Absolute (field_width row) n ≡ true = subst (λ (k : RelocationKind). has_number k (field_width row) n ≡ true) by.kind h in
-    first_left (n == r_x86_64_64 || n == r_aarch64_abs64) (writable s.flags) (n == r_x86_64_size32 || n == r_x86_64_size64) (number_known (field_width row == 8) (n == r_x86_64_64 || n == r_aarch64_abs64) (eq-eqb (field_width row) 8 by.width) number) writes
+    first_left (n == r_x86_64_64 || n == r_aarch64_abs64) (writable flags) (n == r_x86_64_size32 || n == r_x86_64_size64) (number_known (field_width row == 8) (n == r_x86_64_64 || n == r_aarch64_abs64) (eq-eqb (field_width row) 8 by.width) number) writes
 
-entry_number : (l : Layout) (s : InputSection) (symbol : Option ℕ) (row : RelocationKindInfo) (n : ℕ) (t : Treatment) → has_number row.kind (field_width row) n ≡ true → Says l s.flags symbol row t → is_left_to_entry t ≡ true → may_be_left s n ≡ true
-entry_number l s symbol row n (Symbolic i) h says e = address_number s symbol row i n h says.0 (writes_there (allocated s.flags) (writable s.flags) (field_width row == 8) (interposable (flags_at l i)) says.1)
-entry_number l s symbol row n (Indirect i) h says e = address_number s symbol row i n h says.0 (writes_there (allocated s.flags) (writable s.flags) (is_position_independent l.kind) (has_flag (flags_at l i) ifunc) says.1.chosen)
-entry_number l s symbol row n (Extent r i) h says e = last_left ((n == r_x86_64_64 || n == r_aarch64_abs64) && writable s.flags) (n == r_x86_64_size32 || n == r_x86_64_size64) (subst (λ (k : RelocationKind). has_number k (field_width row) n ≡ true) says.1.kind h)
-entry_number l s symbol row n other h says e = cc
+entry_number : (l : Layout) (flags : ℕ) (symbol : Option ℕ) (row : RelocationKindInfo) (n : ℕ) (t : Treatment) → has_number row.kind (field_width row) n ≡ true → Says l flags symbol row t → is_left_to_entry t ≡ true → may_be_left flags n ≡ true
+entry_number l flags symbol row n (Symbolic i) h says e = address_number flags symbol row i n h says.0 (writes_there (allocated flags) (writable flags) (field_width row == 8) (interposable (flags_at l i)) says.1)
+entry_number l flags symbol row n (Indirect i) h says e = address_number flags symbol row i n h says.0 (writes_there (allocated flags) (writable flags) (is_position_independent l.kind) (has_flag (flags_at l i) ifunc) says.1.chosen)
+entry_number l flags symbol row n (Extent r i) h says e = last_left ((n == r_x86_64_64 || n == r_aarch64_abs64) && writable flags) (n == r_x86_64_size32 || n == r_x86_64_size64) (subst (λ (k : RelocationKind). has_number k (field_width row) n ≡ true) says.1.kind h)
+entry_number l flags symbol row n other h says e = cc
 
-row_stays : (l : Layout) (s : InputSection) (o : Option ℕ) (n : ℕ) (row : Option RelocationKindInfo) → ((r : RelocationKindInfo) → row ≡ Some r → has_number r.kind (field_width r) n ≡ true) → may_be_left s n ≡ false → is_left_to_entry (row_treatment l s.flags n o row) ≡ false
+row_stays : (l : Layout) (flags : ℕ) (o : Option ℕ) (n : ℕ) (row : Option RelocationKindInfo) → ((r : RelocationKindInfo) → row ≡ Some r → has_number r.kind (field_width r) n ≡ true) → may_be_left flags n ≡ false → is_left_to_entry (row_treatment l flags n o row) ≡ false
 unfolding row_treatment
-row_stays l s o n None known m = refl
-row_stays l s o n (Some row) known m =
-    never _ (λ e. (let both : true ≡ false = sym (entry_number l s o row n (row_treatment l s.flags n o (Some row)) (known row refl) (row_said l s.flags n o row) e) ∙ m in cc))
+row_stays l flags o n None known m = refl
+row_stays l flags o n (Some row) known m =
+    never _ (λ e. (let both : true ≡ false = sym (entry_number l flags o row n (row_treatment l flags n o (Some row)) (known row refl) (row_said l flags n o row) e) ∙ m in cc))
 
 number_here : (k : Machine) (n : ℕ) (row : RelocationKindInfo) → row_of k n ≡ Some row → has_number row.kind (field_width row) n ≡ true
 unfolding row_of x86_64_row static_row thread_row
@@ -132,9 +131,9 @@ number_here machine.X86_64 n row known = entry_passes (λ (k : ℕ) (r : Relocat
 number_here machine.AArch64 n row known = parts_pass (λ (k : ℕ) (r : RelocationKindInfo). has_number r.kind (field_width r) k) static_rows thread_rows refl refl n row known
 
 -- the field of a relocation of another type is left to none
-pub others_stay : (l : Layout) (s : InputSection) (r : InputRelocation) → may_be_left s r.number ≡ false → is_left_to_entry (treatment l s.flags r) ≡ false
+pub others_stay : (l : Layout) (flags : ℕ) (r : InputRelocation) → may_be_left flags r.number ≡ false → is_left_to_entry (treatment l flags r) ≡ false
 unfolding treatment
-others_stay l s r m = row_stays l s r.symbol r.number (suited l.machine r (row_of l.machine r.number)) (λ row h. number_here l.machine r.number row (suited_is l.machine r (row_of l.machine r.number) row h)) m
+others_stay l flags r m = row_stays l flags r.symbol r.number (suited l.machine r (row_of l.machine r.number)) (λ row h. number_here l.machine r.number row (suited_is l.machine r (row_of l.machine r.number) row h)) m
 
 -- ---- symbols that entries do not name
 
@@ -154,18 +153,18 @@ open_one true b h = refl
 open_one false b h = cc
 
 -- others may define the symbol, or a resolver chooses it
-entry_symbol : (l : Layout) (s : InputSection) (symbol : Option ℕ) (row : RelocationKindInfo) (t : Treatment) → Says l s.flags symbol row t → is_left_to_entry t ≡ true → may_have_entry l symbol ≡ true
-entry_symbol l s symbol row (Symbolic i) h e = rw h.0.named (open_one (interposable (flags_at l i)) (has_flag (flags_at l i) ifunc) (last_true (allocated s.flags) (writable s.flags) (field_width row == 8) (interposable (flags_at l i)) h.1))
-entry_symbol l s symbol row (Indirect i) h e = rw h.0.named (last_left (interposable (flags_at l i)) (has_flag (flags_at l i) ifunc) (last_true (allocated s.flags) (writable s.flags) (is_position_independent l.kind) (has_flag (flags_at l i) ifunc) h.1.chosen))
-entry_symbol l s symbol row (Extent r i) h e = rw h.1.named (open_one (interposable (flags_at l i)) (has_flag (flags_at l i) ifunc) (second_true (allocated s.flags) (interposable (flags_at l i)) (has_flag (flags_at l i) dynamic || is_shared_object l.kind) h.1.sized))
-entry_symbol l s symbol row other h e = cc
+entry_symbol : (l : Layout) (flags : ℕ) (symbol : Option ℕ) (row : RelocationKindInfo) (t : Treatment) → Says l flags symbol row t → is_left_to_entry t ≡ true → may_have_entry l symbol ≡ true
+entry_symbol l flags symbol row (Symbolic i) h e = rw h.0.named (open_one (interposable (flags_at l i)) (has_flag (flags_at l i) ifunc) (last_true (allocated flags) (writable flags) (field_width row == 8) (interposable (flags_at l i)) h.1))
+entry_symbol l flags symbol row (Indirect i) h e = rw h.0.named (last_left (interposable (flags_at l i)) (has_flag (flags_at l i) ifunc) (last_true (allocated flags) (writable flags) (is_position_independent l.kind) (has_flag (flags_at l i) ifunc) h.1.chosen))
+entry_symbol l flags symbol row (Extent r i) h e = rw h.1.named (open_one (interposable (flags_at l i)) (has_flag (flags_at l i) ifunc) (second_true (allocated flags) (interposable (flags_at l i)) (has_flag (flags_at l i) dynamic || is_shared_object l.kind) h.1.sized))
+entry_symbol l flags symbol row other h e = cc
 
-row_plain : (l : Layout) (s : InputSection) (n : ℕ) (o : Option ℕ) (row : Option RelocationKindInfo) → may_have_entry l o ≡ false → is_left_to_entry (row_treatment l s.flags n o row) ≡ false
+row_plain : (l : Layout) (flags : ℕ) (n : ℕ) (o : Option ℕ) (row : Option RelocationKindInfo) → may_have_entry l o ≡ false → is_left_to_entry (row_treatment l flags n o row) ≡ false
 unfolding row_treatment
-row_plain l s n o None h = refl
-row_plain l s n o (Some row) h = never _ (λ e. (let both : true ≡ false = sym (entry_symbol l s o row (row_treatment l s.flags n o (Some row)) (row_said l s.flags n o row) e) ∙ h in cc))
+row_plain l flags n o None h = refl
+row_plain l flags n o (Some row) h = never _ (λ e. (let both : true ≡ false = sym (entry_symbol l flags o row (row_treatment l flags n o (Some row)) (row_said l flags n o row) e) ∙ h in cc))
 
 -- the field of a relocation of another symbol is left to none
-pub plain_stay : (l : Layout) (s : InputSection) (r : InputRelocation) → may_have_entry l r.symbol ≡ false → is_left_to_entry (treatment l s.flags r) ≡ false
+pub plain_stay : (l : Layout) (flags : ℕ) (r : InputRelocation) → may_have_entry l r.symbol ≡ false → is_left_to_entry (treatment l flags r) ≡ false
 unfolding treatment
-plain_stay l s r h = row_plain l s r.number r.symbol (suited l.machine r (row_of l.machine r.number)) h
+plain_stay l flags r h = row_plain l flags r.number r.symbol (suited l.machine r (row_of l.machine r.number)) h

@@ -1,9 +1,12 @@
 pub mod DynamicLemmas
 pub mod EntryLemmas
+pub mod RoomLemmas
 pub mod RunLemmas
 pub mod ShareLemmas
 pub mod SlotBlockLemmas
 pub mod SlotShareLemmas
+pub mod StandingShares
 pub mod StringLemmas
 pub mod TableLemmas
+pub mod TallyLemmas
 pub mod UndefinedLemmas

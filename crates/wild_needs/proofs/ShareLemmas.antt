@@ -1,7 +1,7 @@
 -- What files have to write where nothing is needed.
 use Rattle.std.proofs.Common.{◌≡◌, ℕ, ◌+◌, ◌-◌, ◌*◌, ◌^◌, min, inl, inr, Bool, true, false, List, [], ◌∷◌, length, refl, sym, ap, ◌∙◌, arith}
 use Rattle.std.specs.Prelude.{if◌then◌else◌, not, ◌&&◌, ◌==◌, Option}
-use Rattle.std.specs.List.{list_all, flat_map}
+use Rattle.std.specs.List.{list_all, list_any, flat_map}
 use Rattle.std.proofs.lemmas.Bool.{cases_Bool, and_parts, eqb-true}
 use Rattle.wild_relr.specs.Packed.{packed, block}
 use Rattle.wild_types.specs.declared.file.File.{File}
@@ -18,7 +18,8 @@ use Rattle.wild_types.specs.Kinds.{is_position_independent, needs_dynamic}
 use Rattle.wild_types.specs.Lists.{total}
 use Rattle.wild_types.specs.Lookups.{has_table}
 use Rattle.wild_needs.specs.TableSymbols.{has_long, file_items, local_count, global_count, table_strings}
-use Rattle.wild_needs.specs.Needs.{whole_of, long_room, own_of, share, group_share, has_plain_role, is_plain, total_share}
+use Rattle.wild_laid.specs.Laid.{behind, file_frames, frames_at, laid_file, laid_from, laid_files, processed}
+use Rattle.wild_needs.specs.Needs.{last_of, build_id_room, properties_room, frames_room, whole_of, long_room, own_of, is_static, share, last_share, group_share, has_plain_role, is_plain, total_share}
 use Rattle.wild_types.specs.FileRoles.{is_prelude, is_epilogue}
 use Rattle.wild_types.specs.SymbolSlots.{is_without}
 use Rattle.wild_types.specs.FileSymbols.{own_symbols}
@@ -36,7 +37,7 @@ no_moved l s f h = rw h refl
 
 no_entries : (l : Layout) (f : File) → is_position_independent l.kind ≡ false → entry_count l f ≡ 0
 unfolding listed_places
-no_entries l f h = total-none (λ (s : InputSection). length (listed_places l s)) f.sections (λ s. ap length (no_moved l s (listed_place l s) h))
+no_entries l f h = total-none (λ (s : InputSection). length (listed_places l s)) (processed l f) (λ s. ap length (no_moved l s (listed_place l s) h))
 
 no_words : (l : Layout) (f : File) → is_position_independent l.kind ≡ false → word_count l f ≡ 0
 unfolding packed_places
@@ -77,13 +78,16 @@ no_indexes l r n h =
 
 -- ---- shares
 
--- the entries of a file that name symbols or resolvers, where they stand in parts of the role
-abbrev general_of : Layout → Role → File → ℕ
-general_of l role.RelaDynGeneral f = general_count l f
-general_of l other f = 0
+-- what a file has to write in an output that no loader relocates and that has no table of all symbols
+abbrev static_of : Layout → Role → File → ℕ
+static_of l role.RelaDynGeneral f = general_count l f
+static_of l role.EhFrame f = frames_room l f
+static_of l role.BuildId f = last_of f.role (build_id_room l.build_id)
+static_of l role.Property f = last_of f.role (properties_room l.properties)
+static_of l other f = 0
 
 -- without these an output without a dynamic section and a table of all symbols has nothing of its own
-own_none : (l : Layout) (r : Role) (f : File) → needs_dynamic l.kind ≡ false → has_table l ≡ false → general_of l r f ≡ 0 → own_of l r f ≡ 0
+own_none : (l : Layout) (r : Role) (f : File) → needs_dynamic l.kind ≡ false → has_table l ≡ false → static_of l r f ≡ 0 → own_of l r f ≡ 0
 own_none l role.RelaDynRelative f d t g = let e = no_entries l f (plain_still l.kind d) in rw e refl
 own_none l role.RelaDynGeneral f d t g = rw g refl
 own_none l role.RelrDyn f d t g = let e = no_words l f (plain_still l.kind d) in rw e refl
@@ -108,12 +112,18 @@ own_none l role.SymtabGlobal f d t g = let e = no_globals l f t in rw e refl
 own_none l role.SymtabShndxLocal f d t g = no_indexes l role.SymtabShndxLocal (local_count l f) (no_locals l f t)
 own_none l role.SymtabShndxGlobal f d t g = no_indexes l role.SymtabShndxGlobal (global_count l f) (no_globals l f t)
 own_none l role.Strtab f d t g = let e = no_names l f t in rw e refl
+own_none l role.EhFrame f d t g = g
+own_none l role.BuildId f d t g = g
+own_none l role.Property f d t g = g
 own_none l other f d t g = refl
 
 -- parts of other roles have none of them
-none_of_others : (l : Layout) (r : Role) (f : File) → is_of_slots r ≡ false → general_of l r f ≡ 0
-none_of_others l role.RelaDynGeneral f h = cc
-none_of_others l other f h = refl
+none_of_others : (l : Layout) (r : Role) (f : File) → is_of_slots r ≡ false → is_static r ≡ false → static_of l r f ≡ 0
+none_of_others l role.RelaDynGeneral f h k = cc
+none_of_others l role.EhFrame f h k = cc
+none_of_others l role.BuildId f h k = cc
+none_of_others l role.Property f h k = cc
+none_of_others l other f h k = refl
 
 -- what stands once beside slots
 no_header : (l : Layout) (r : Role) → is_of_slots r ≡ false → header_share l r ≡ 0
@@ -125,9 +135,13 @@ no_block : (l : Layout) (r : Role) (g : Group) → is_of_slots r ≡ false → b
 no_block l role.RelrDyn g h = cc
 no_block l other g h = refl
 
-share_none : (l : Layout) (r : Role) (f : File) → needs_dynamic l.kind ≡ false → has_table l ≡ false → is_of_slots r ≡ false → whole_of l r ≡ 0 → share l r f ≡ 0
-share_none l r f d t s w =
-    let own = own_none l r f d t (none_of_others l r f s) in
+no_last : (l : Layout) (r : Role) (g : Group) → is_of_slots r ≡ false → last_share l r g ≡ 0
+no_last l role.RelrDyn g h = cc
+no_last l other g h = refl
+
+share_none : (l : Layout) (r : Role) (f : File) → needs_dynamic l.kind ≡ false → has_table l ≡ false → is_of_slots r ≡ false → is_static r ≡ false → whole_of l r ≡ 0 → share l r f ≡ 0
+share_none l r f d t s k w =
+    let own = own_none l r f d t (none_of_others l r f s k) in
     let slots = others_share l r f s in
     let header = no_header l r s in
     elim (cases_Bool (is_prelude f.role)) [
@@ -135,11 +149,12 @@ share_none l r f d t s w =
       | inr later ↦ rw (later, own, slots) refl
     ]
 
--- where nothing stands once in the image, an output without a dynamic section and a table of all symbols needs nothing but for slots
-pub no_share : (l : Layout) (r : Role) (n : ℕ) → n ≡ min (2 ^ 64 - 1) (whole_of l r) → needs_dynamic l.kind ≡ false → has_table l ≡ false → is_of_slots r ≡ false → n ≡ 0 → total_share l r ≡ 0
-no_share l r n is d t s none =
+-- where nothing stands once in the image, an output without a dynamic section and a table of all symbols needs nothing but for slots, frames
+-- and notes
+pub no_share : (l : Layout) (r : Role) (n : ℕ) → n ≡ min (2 ^ 64 - 1) (whole_of l r) → needs_dynamic l.kind ≡ false → has_table l ≡ false → is_of_slots r ≡ false → is_static r ≡ false → n ≡ 0 → total_share l r ≡ 0
+no_share l r n is d t s k none =
     let w : whole_of l r ≡ 0 = least (whole_of l r) n is none in
-    total-none (group_share l r) l.groups (λ g. let files = total-none (share l r) g.files (λ f. share_none l r f d t s w) in let block = no_block l r g s in rw (files, block) refl)
+    total-none (group_share l r) l.groups (λ g. let files = total-none (share l r) (laid_files l g) (λ f. share_none l r f d t s k w) in let block = no_block l r g s in let last = no_last l r g s in rw (files, block, last) refl)
   where
     least : (k n : ℕ) → n ≡ min (2 ^ 64 - 1) k → n ≡ 0 → k ≡ 0
     least k n e z = omega (arith, e, z)
@@ -151,30 +166,44 @@ pub record Tests (l : Layout) (f : File) : Type 0 where
   pub static : needs_dynamic l.kind ≡ false
   pub stripped : has_table l ≡ false
   pub first : is_prelude f.role ≡ false
+  pub last : is_epilogue f.role ≡ false
   pub without : list_all is_without (own_symbols l f) ≡ true
   pub none : general_count l f ≡ 0
+  pub frameless : frames_room l f ≡ 0
 
 tests_of : (l : Layout) (f : File) → is_plain l f ≡ true → Tests l f
 tests_of l f h =
-    let p = and_parts (has_plain_role l f) (list_all is_without (own_symbols l f) && general_count l f == 0) h in
-    let q = and_parts (list_all is_without (own_symbols l f)) (general_count l f == 0) p.1 in
+    let p = and_parts (has_plain_role l f) (list_all is_without (own_symbols l f) && (general_count l f == 0 && frames_room l f == 0)) h in
+    let q = and_parts (list_all is_without (own_symbols l f)) (general_count l f == 0 && frames_room l f == 0) p.1 in
+    let e = and_parts (general_count l f == 0) (frames_room l f == 0) q.1 in
     let a = and_parts (not (needs_dynamic l.kind) && not (has_table l) && not (is_prelude f.role)) (not (is_epilogue f.role)) p.0 in
     let b = and_parts (not (needs_dynamic l.kind) && not (has_table l)) (not (is_prelude f.role)) a.0 in
     let c = and_parts (not (needs_dynamic l.kind)) (not (has_table l)) b.0 in
-    record { static = no (needs_dynamic l.kind) c.0; stripped = no (has_table l) c.1; first = no (is_prelude f.role) b.1; without = q.0; none = eqb-true _ _ q.1 }
+    record {
+      static = no (needs_dynamic l.kind) c.0;
+      stripped = no (has_table l) c.1;
+      first = no (is_prelude f.role) b.1;
+      last = no (is_epilogue f.role) a.1;
+      without = q.0;
+      none = eqb-true _ _ e.0;
+      frameless = eqb-true _ _ e.1;
+    }
   where
     no : (b : Bool) → not b ≡ true → b ≡ false
     no true h = cc
     no false h = refl
 
-general_none : (l : Layout) (r : Role) (f : File) → general_count l f ≡ 0 → general_of l r f ≡ 0
-general_none l role.RelaDynGeneral f h = h
-general_none l other f h = refl
+static_none : (l : Layout) (r : Role) (f : File) → Tests l f → static_of l r f ≡ 0
+static_none l role.RelaDynGeneral f t = t.none
+static_none l role.EhFrame f t = t.frameless
+static_none l role.BuildId f t = rw t.last refl
+static_none l role.Property f t = rw t.last refl
+static_none l other f t = refl
 
 share_plain : (l : Layout) (r : Role) (f : File) → is_plain l f ≡ true → share l r f ≡ 0
 share_plain l r f h =
     let t = tests_of l f h in
-    let own = own_none l r f t.static t.stripped (general_none l r f t.none) in
+    let own = own_none l r f t.static t.stripped (static_none l r f t) in
     let slots = slots_plain l r f t.without in
     rw (t.first, own, slots) refl
 
@@ -188,21 +217,39 @@ total_plain l r (f ∷ files) h =
     omega (arith, a, b)
 
 -- none of their words is in the group's block
-places_plain : (l : Layout) (files : List File) → list_all (is_plain l) files ≡ true → flat_map (λ (f : File). flat_map (block_places l) (own_symbols l f)) files ≡ []
-places_plain l [] h = refl
-places_plain l (f ∷ files) h =
-    let p = and_parts (is_plain l f) (list_all (is_plain l) files) h in
-    let t = tests_of l f p.0 in
-    rw (places_without l (own_symbols l f) t.without) (places_plain l files p.1)
+places_plain : (l : Layout) (at : ℕ) (files : List File) → list_all (is_plain l) (laid_from l at files) ≡ true → flat_map (λ (f : File). flat_map (block_places l) (own_symbols l f)) files ≡ []
+places_plain l at [] h = refl
+places_plain l at (f ∷ files) h =
+    let p = and_parts (is_plain l (laid_file l at f)) (list_all (is_plain l) (laid_from l (behind at (file_frames l f)) files)) h in
+    let t = tests_of l (laid_file l at f) p.0 in
+    rw (places_without l (own_symbols l f) t.without) (places_plain l (behind at (file_frames l f)) files p.1)
 
-pub block_plain : (l : Layout) (r : Role) (g : Group) → list_all (is_plain l) g.files ≡ true → block_share l r g ≡ 0
-unfolding group_block block
-block_plain l role.RelrDyn g h = let e = places_plain l g.files h in rw e refl
+block_plain : (l : Layout) (r : Role) (g : Group) → list_all (is_plain l) (laid_files l g) ≡ true → block_share l r g ≡ 0
+unfolding group_block block laid_files
+block_plain l role.RelrDyn g h = let e = places_plain l (frames_at l g) g.files h in rw e refl
 block_plain l other g h = refl
 
--- a test that told it
-pub plain_needs : (l : Layout) (files : List File) (told : Bool) → told ≡ list_all (is_plain l) files → told ≡ true → (r : Role) → total (share l r) files ≡ 0
-plain_needs l files told is h = λ r. total_plain l r files (sym is ∙ h)
+-- none of them is the last
+none_last : (l : Layout) (at : ℕ) (files : List File) → list_all (is_plain l) (laid_from l at files) ≡ true → list_any (λ (f : File). is_epilogue f.role) files ≡ false
+none_last l at [] h = refl
+none_last l at (f ∷ files) h =
+    let p = and_parts (is_plain l (laid_file l at f)) (list_all (is_plain l) (laid_from l (behind at (file_frames l f)) files)) h in
+    let t = tests_of l (laid_file l at f) p.0 in
+    let rest = none_last l (behind at (file_frames l f)) files p.1 in
+    rw (t.last, rest) refl
 
-pub plain_block : (l : Layout) (g : Group) (told : Bool) → told ≡ list_all (is_plain l) g.files → told ≡ true → (r : Role) → block_share l r g ≡ 0
-plain_block l g told is h = λ r. block_plain l r g (sym is ∙ h)
+last_plain : (l : Layout) (r : Role) (g : Group) → list_all (is_plain l) (laid_files l g) ≡ true → last_share l r g ≡ 0
+unfolding laid_files
+last_plain l role.RelrDyn g h = let e = none_last l (frames_at l g) g.files h in rw e refl
+last_plain l other g h = refl
+
+group_plain : (l : Layout) (r : Role) (g : Group) → list_all (is_plain l) (laid_files l g) ≡ true → group_share l r g ≡ 0
+group_plain l r g h =
+    let files = total_plain l r (laid_files l g) h in
+    let block = block_plain l r g h in
+    let last = last_plain l r g h in
+    omega (arith, files, block, last)
+
+-- a test that told it
+pub plain_needs : (l : Layout) (g : Group) (told : Bool) → told ≡ list_all (is_plain l) (laid_files l g) → told ≡ true → (r : Role) → group_share l r g ≡ 0
+plain_needs l g told is h = λ r. group_plain l r g (sym is ∙ h)

@@ -1,9 +1,11 @@
 -- The addresses of a movable output that a loader adds its base to: by an entry with an addend, or by a word of packed
 -- relocations (gABI, "Relocation", "Relative Relocation Table").
+--   is_moved_by l flags r           the address that a relocation writes in a section with such flags moves
+--   listed_at, packed_at            the place of a relocation of a section at an address, where that has an entry, where it is packed
 --   listed_places, packed_places    the places of a section's addresses that move: those that have an entry, and those
 --                                   that are packed
 --   entry_count l f, word_count l f   how many entries, and how many words, a file has
---   may_be_left s n                 an entry that names a symbol or a resolver can fill the field of a relocation of type n
+--   may_be_left flags n             an entry that names a symbol or a resolver can fill the field of a relocation of type n
 --   may_have_entry l symbol         it can name that symbol, or its resolver
 --   left_relocations l s            the relocations of a section whose fields are left to entries that name a symbol or a resolver
 --   general_count l f               how many entries a file has for these, and for the symbols that it has copied
@@ -22,22 +24,32 @@ use Rattle.wild_types.specs.Lists.{total}
 use Rattle.wild_types.specs.Lookups.{is_read, writable, place_of, packs, has_moved}
 use Rattle.wild_slot.specs.Treatment.{flags_at, treatment}
 use Rattle.wild_types.specs.FileSymbols.{copies_of}
+use Rattle.wild_laid.specs.Laid.{processed, sorted_sections}
 
 abbrev pub is_base_relative : Treatment → Bool
 is_base_relative BaseRelative = true
 is_base_relative other = false
 
--- the address that the relocation writes moves
-abbrev pub is_moved : Layout → InputSection → InputRelocation → Bool
-is_moved l s r = is_base_relative (treatment l s.flags r)
+-- the address that the relocation writes moves, in a section with such flags
+abbrev pub is_moved_by : Layout → ℕ → InputRelocation → Bool
+is_moved_by l flags r = is_base_relative (treatment l flags r)
 
--- its place, where that has an entry
+abbrev pub is_moved : Layout → InputSection → InputRelocation → Bool
+is_moved l s r = is_moved_by l s.flags r
+
+-- its place, of a section with such flags at an address, where that has an entry
+abbrev pub listed_at : Layout → ℕ → ℕ → InputRelocation → Option ℕ
+listed_at l flags address r = if is_moved_by l flags r && not (packs l (place_of address r)) then Some (place_of address r) else None
+
 abbrev pub listed_place : Layout → InputSection → InputRelocation → Option ℕ
-listed_place l s r = if is_moved l s r && not (packs l (place_of s.address r)) then Some (place_of s.address r) else None
+listed_place l s r = listed_at l s.flags s.address r
 
 -- its place, where that is packed
+abbrev pub packed_at : Layout → ℕ → ℕ → InputRelocation → Option ℕ
+packed_at l flags address r = if is_moved_by l flags r && packs l (place_of address r) then Some (place_of address r) else None
+
 abbrev pub packed_place : Layout → InputSection → InputRelocation → Option ℕ
-packed_place l s r = if is_moved l s r && packs l (place_of s.address r) then Some (place_of s.address r) else None
+packed_place l s r = packed_at l s.flags s.address r
 
 -- what the relocations of a section give, where it may have addresses that move
 abbrev pub moved_of : {X : Type 0} → Layout → InputSection → (InputRelocation → Option X) → List X
@@ -55,13 +67,17 @@ packed_places l s = moved_of l s (packed_place l s)
 abbrev pub words_of : Layout → InputSection → List ℕ
 words_of l s = packed (packed_places l s)
 
--- how many entries a file has
+-- how many entries a file has whose sections are as they stand
 abbrev pub entry_count : Layout → File → ℕ
-entry_count l f = total (λ s. length (listed_places l s)) f.sections
+entry_count l f = total (λ s. length (listed_places l s)) (processed l f)
 
--- how many words
+-- how many words of its own sections
 abbrev pub word_count : Layout → File → ℕ
 word_count l f = total (λ s. length (words_of l s)) f.sections
+
+-- the words of the sorted sections, each section's a run of its own
+abbrev pub sorted_words : Layout → List ℕ
+sorted_words l = flat_map (words_of l) (sorted_sections l)
 
 -- ---- entries that name a symbol or a resolver
 
@@ -73,8 +89,8 @@ is_left_to_entry (Extent row i) = true
 is_left_to_entry other = false
 
 -- no other type has a field that such an entry fills: an address of 8 bytes, where the program may write, and a size
-abbrev pub may_be_left : InputSection → ℕ → Bool
-may_be_left s n = (n == r_x86_64_64 || n == r_aarch64_abs64) && writable s.flags || (n == r_x86_64_size32 || n == r_x86_64_size64)
+abbrev pub may_be_left : ℕ → ℕ → Bool
+may_be_left flags n = (n == r_x86_64_64 || n == r_aarch64_abs64) && writable flags || (n == r_x86_64_size32 || n == r_x86_64_size64)
 
 -- nor is a field of a symbol that only this output defines, which is no IFUNC
 abbrev pub may_have_entry : Layout → Option ℕ → Bool
@@ -87,4 +103,4 @@ left_relocations l s = if is_read s then filter (λ r. is_left_to_entry (treatme
 
 -- how many entries a file has for copies and for fields
 unfoldable pub general_count : Layout → File → ℕ
-general_count l f = length (copies_of f) + total (λ s. length (left_relocations l s)) f.sections
+general_count l f = length (copies_of f) + total (λ s. length (left_relocations l s)) (processed l f)

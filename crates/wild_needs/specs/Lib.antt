@@ -11,4 +11,5 @@ pub mod SlotShares
 pub mod TableCounts
 pub mod TableSymbols
 pub mod UndefinedCounts
+pub mod Tallies
 pub mod Versions

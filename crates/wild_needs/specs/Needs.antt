@@ -3,8 +3,8 @@
 --   needs l part group  the group's share of the part, at most 2^64 - 1
 --   is_plain l f        the file writes nothing in any part but raw ones, as far as its role and its symbols' slots tell
 --   total_share l r      what all groups need of the part of a role
-use Rattle.std.specs.Prelude.{ℕ, ◌-◌, ◌^◌, ◌==◌, Bool, ◌&&◌, length, ◌+◌, ◌*◌, if◌then◌else◌, not, min, Option, Some, None, slice_get, slice_index_or}
-use Rattle.std.specs.List.{list_all}
+use Rattle.std.specs.Prelude.{ℕ, ◌-◌, ◌^◌, ◌==◌, Bool, true, false, ◌&&◌, List, length, ◌+◌, ◌*◌, if◌then◌else◌, not, min, Option, Some, None, slice_get, slice_index_or}
+use Rattle.std.specs.List.{list_all, list_any}
 use Rattle.wild_types.specs.declared.layout.Layout.{Layout}
 use Rattle.wild_types.specs.declared.part.Role.{Role}
 use Rattle.wild_types.specs.declared.part.Role.TheVariants as role
@@ -23,11 +23,19 @@ use Rattle.wild_records.specs.Dynamic.{dynamic_entry_size}
 use Rattle.wild_records.specs.SymtabEntry.{symtab_entry_size}
 use Rattle.wild_records.specs.Versyms.{versym_size}
 use Rattle.wild_records.specs.HashTables.{gnu_hash_header_size}
+use Rattle.wild_records.specs.Frames.{eh_frame_hdr_size, eh_frame_hdr_entry_size}
+use Rattle.wild_records.specs.Notes.{note_header_size}
+use Rattle.wild_types.specs.declared.layout.Property.{Property}
+use Rattle.wild_types.specs.declared.layout.PropertyValue.{PropertyValue}
+use Rattle.wild_types.specs.declared.layout.PropertyValue.TheVariants as values
+use Rattle.wild_types.specs.declared.input.InputSection.{InputSection}
+use Rattle.wild_types.specs.Lookups.{is_frame}
+use Rattle.wild_laid.specs.Laid.{laid_files, all_fdes}
 use Rattle.wild_types.specs.declared.layout.SysvHash.{SysvHash}
 use Rattle.wild_types.specs.declared.layout.GnuHash.{GnuHash}
-use Rattle.wild_types.specs.Kinds.{needs_dynamic, needs_dynsym}
+use Rattle.wild_types.specs.Kinds.{is_position_independent, needs_dynamic, needs_dynsym}
 use Rattle.wild_types.specs.FileRoles.{is_prelude, is_epilogue}
-use Rattle.wild_needs.specs.Entries.{entry_count, word_count, general_count}
+use Rattle.wild_needs.specs.Entries.{entry_count, word_count, sorted_words, general_count}
 use Rattle.wild_needs.specs.SlotShares.{slot_share, header_share, block_share}
 use Rattle.wild_types.specs.FileSymbols.{own_symbols}
 use Rattle.wild_types.specs.SymbolSlots.{is_without}
@@ -40,12 +48,50 @@ use Rattle.wild_needs.specs.DynamicStrings.{text_room, entry_names, strings_room
 abbrev pub name_bytes : Layout → ℕ
 name_bytes l = total (λ s. length s.name + 1) l.sections
 
+-- what stands behind all else, of the last file
+abbrev pub last_of : FileRole → ℕ → ℕ
+last_of f size = if is_epilogue f then size else 0
+
+-- the search table of frames: its header, and an entry an FDE that is kept (LSB, "The .eh_frame_hdr section")
+abbrev pub search_table_room : Layout → ℕ
+search_table_room l = if l.options.eh_frame_hdr then eh_frame_hdr_size + eh_frame_hdr_entry_size * all_fdes l else 0
+
+-- a note of GNU: its header, and the name with a zero (gABI, "Note Section")
+abbrev pub gnu_note_size : ℕ
+gnu_note_size = note_header_size + 4
+
+-- the note of a build id
+abbrev pub build_id_room : Option (List ℕ) → ℕ
+build_id_room None = 0
+build_id_room (Some id) = gnu_note_size + length id
+
+-- a property: its type and size, and a value in multiples of 8 bytes (x86-64 psABI, "Program Property"; aaelf64, "Program Property")
+abbrev pub value_room : PropertyValue → ℕ
+value_room (values.Word v) = 16
+value_room (values.PointerAuthentication platform version) = 24
+
+abbrev pub property_room : Property → ℕ
+property_room p = value_room p.value
+
+-- the note of the properties, where there are some
+abbrev pub properties_room : List Property → ℕ
+properties_room ps = if length ps == 0 then 0 else gnu_note_size + total property_room ps
+
+-- the frames of a file whose sections are as they stand, and behind those of the last file a length of zero, where the option asks for one
+abbrev pub frame_room : InputSection → ℕ
+frame_room s = if is_frame s.slot then s.size else 0
+
+abbrev pub frames_room : Layout → File → ℕ
+frames_room l f = total frame_room f.sections + (if l.options.terminator then last_of f.role 4 else 0)
+
 -- what stands once in an image, by role; parts of other roles are empty
 abbrev pub whole_of : Layout → Role → ℕ
 whole_of l role.FileHeader = file_header_size
 whole_of l role.ProgramHeaders = program_header_size * length l.segments
 whole_of l role.SectionHeaders = section_header_size * length l.sections
 whole_of l role.Shstrtab = name_bytes l
+whole_of l role.EhFrameHdr = search_table_room l
+whole_of l role.Interp = length l.interp
 whole_of l other = 0
 
 -- how many entries a file has in the dynamic symbol table, which begins with an entry of zeros (gABI, "Symbol Table")
@@ -55,10 +101,6 @@ dynsym_count l f = if needs_dynsym l.kind then (if is_prelude f.role then 1 else
 -- how many symbols of a file have a version, where the option asks for versions
 abbrev pub version_count : Layout → File → ℕ
 version_count l f = if l.options.versions then dynsym_count l f else 0
-
--- what stands behind all else, of the last file
-abbrev pub last_of : FileRole → ℕ → ℕ
-last_of f size = if is_epilogue f then size else 0
 
 -- a hash table of that shape, of an output with dynamic symbols: the counts, a word a bucket, and one a symbol (gABI, "Hash Table")
 abbrev pub sysv_room : Layout → Option SysvHash → ℕ
@@ -102,7 +144,31 @@ own_of l role.SymtabGlobal f = symtab_entry_size * global_count l f
 own_of l role.SymtabShndxLocal f = long_room l role.SymtabShndxLocal (local_count l f)
 own_of l role.SymtabShndxGlobal f = long_room l role.SymtabShndxGlobal (global_count l f)
 own_of l role.Strtab f = total text_room (table_strings l f)
+own_of l role.EhFrame f = frames_room l f
+own_of l role.BuildId f = last_of f.role (build_id_room l.build_id)
+own_of l role.Property f = last_of f.role (properties_room l.properties)
 own_of l other f = 0
+
+-- of these roles a file's sections tell what it has to write
+abbrev pub reads_sections : Role → Bool
+reads_sections role.RelaDynRelative = true
+reads_sections role.RelaDynGeneral = true
+reads_sections role.RelrDyn = true
+reads_sections role.EhFrame = true
+reads_sections other = false
+
+-- and where they stand
+abbrev pub reads_places : Layout → Role → Bool
+reads_places l role.RelaDynRelative = is_position_independent l.kind && l.options.relr
+reads_places l role.RelrDyn = is_position_independent l.kind && l.options.relr
+reads_places l other = false
+
+-- frames and notes: an output that no loader relocates has such parts too
+abbrev pub is_static : Role → Bool
+is_static role.EhFrame = true
+is_static role.BuildId = true
+is_static role.Property = true
+is_static other = false
 
 -- what the first file writes: what stands once
 abbrev pub first_share : Layout → Role → ℕ
@@ -116,13 +182,23 @@ share l r f = (if is_prelude f.role then first_share l r else 0) + own_of l r f 
 abbrev pub has_plain_role : Layout → File → Bool
 has_plain_role l f = not (needs_dynamic l.kind) && not (has_table l) && not (is_prelude f.role) && not (is_epilogue f.role)
 
--- such a file without entries, none of whose symbols has a slot: it writes nothing in any part but raw ones
+-- such a file without entries and frames, none of whose symbols has a slot: it writes nothing in any part but raw ones
 abbrev pub is_plain : Layout → File → Bool
-is_plain l f = has_plain_role l f && (list_all is_without (own_symbols l f) && general_count l f == 0)
+is_plain l f = has_plain_role l f && (list_all is_without (own_symbols l f) && (general_count l f == 0 && frames_room l f == 0))
 
--- what a group has to write in a part of that role: what its files have, and the words that pack its block of slots
+-- the group has the last file
+abbrev pub has_last : Group → Bool
+has_last g = list_any (λ (f : File). is_epilogue f.role) g.files
+
+-- what stands behind all else of the group with the last file: the words of the sorted sections, behind those of the group's block of slots
+abbrev pub last_share : Layout → Role → Group → ℕ
+last_share l role.RelrDyn g = if has_last g then relr_size * length (sorted_words l) else 0
+last_share l other g = 0
+
+-- what a group has to write in a part of that role: what its files have, as their sections stand, the words that pack its block of slots, and what
+-- stands behind those
 abbrev pub group_share : Layout → Role → Group → ℕ
-group_share l r g = total (share l r) g.files + block_share l r g
+group_share l r g = total (share l r) (laid_files l g) + (block_share l r g + last_share l r g)
 
 -- a raw part's input sections are given their room by the layout itself
 abbrev pub needs_of : Layout → Role → ℕ → Group → ℕ

@@ -5,20 +5,23 @@ mod dynamic;
 mod dynsyms;
 mod entries;
 mod entry;
+mod rooms;
 mod share;
 mod slot_shares;
 mod strings;
 mod table;
+mod tally;
 mod versions;
 mod walk;
 
 pub use dynamic::{DynamicTag, dynamic_count, dynamic_entries_fit, dynamic_entry};
 pub use dynsyms::{dynsym_of, is_undefined_entry, table_length, undefined_count};
 pub use entries::{
-    entry_count, general_count, is_left_to_entry, is_moved, packed_place, word_count,
+    entry_count, general_count, is_left_by, is_left_to_entry, is_moved, is_moved_by, packed_at,
+    packed_place, sorted_word_count, word_count,
 };
 pub use entry::elf_entry_address;
-pub use share::{is_plain_group, name_bytes, needs, total_share, whole_of};
+pub use share::{has_last, is_plain_group, name_bytes, needs, total_share, whole_of};
 pub use slot_shares::{Block, group_block, pair_words, words_in};
 pub use strings::{
     behind_file, entry_name_count, entry_room, epilogue_string_bytes, lead_room, needed_count,

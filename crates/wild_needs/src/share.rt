@@ -1,21 +1,23 @@
 //! How many bytes of a part a group needs.
-ghost use Rattle.std.specs.Prelude.{◌≡◌, ℕ, ◌+◌, ◌-◌, ◌^◌, min, true, if◌then◌else◌};
+ghost use Rattle.std.specs.Prelude.{◌≡◌, ℕ, ◌+◌, ◌-◌, ◌^◌, min, true, false, if◌then◌else◌};
 ghost use Rattle.std.specs.List.{list_all};
 ghost use Rattle.wild_types.specs.declared.part.Role.{Role};
-ghost use Rattle.wild_needs.specs.Needs.{total_share, name_bytes, whole_of, dynsym_count, version_count, last_of, sysv_room, gnu_room, last_dynamic, own_of, first_share, share, group_share, needs_of, needs, is_plain};
+ghost use Rattle.wild_needs.specs.Needs.{total_share, name_bytes, whole_of, dynsym_count, version_count, last_of, sysv_room, gnu_room, last_dynamic, reads_sections, reads_places, own_of, is_static, first_share, share, has_last, last_share, group_share, needs_of, needs, is_plain};
+ghost use Rattle.wild_laid.specs.Laid.{behind, file_frames, laid_file, laid_files};
 ghost use Rattle.wild_types.specs.Lists.{total};
-ghost use Rattle.wild_needs.specs.SlotShares.{block_share};
 ghost use Rattle.wild_needs.specs.Dynamic.{dynamic_count};
 ghost use Rattle.wild_needs.specs.DynamicStrings.{needed_count};
 ghost use Rattle.wild_types.specs.FileRoles.{is_prelude};
 
 use crate::dynamic::dynamic_count;
 use crate::dynsyms::table_length;
-use crate::entries::{entry_count, general_count, word_count};
+use crate::entries::{entry_count, general_count, sorted_word_count, word_count};
+use crate::rooms::{build_id_share, frames_room, property_share, search_table_room};
 use crate::slot_shares::{block_share, header_share, is_of_slots, slot_share};
 use crate::strings::{entry_name_count, needed_count, strings_room};
 use crate::table::{global_count, has_long, local_count, table_room};
 use crate::versions::{definitions_room, needs_room};
+use wild_laid::{file_frames, frames_at};
 use wild_records::{
     DynamicEntry, FileHeader, GnuHashHeader, ProgramHeader, Rela, Relr, SectionHeader, SymtabEntry,
     Versym,
@@ -45,6 +47,8 @@ pub fn whole_of(layout: &Layout, role: Role) -> u64
         Role::ProgramHeaders => ProgramHeader::SIZE as u128 * layout.segments.len() as u128,
         Role::SectionHeaders => SectionHeader::SIZE as u128 * layout.sections.len() as u128,
         Role::Shstrtab => name_bytes(layout),
+        Role::EhFrameHdr => u128::from(search_table_room(layout)),
+        Role::Interp => layout.interp.len() as u128,
         _ => 0,
     };
     u128::from(u64::MAX).min(bytes) as u64
@@ -148,14 +152,46 @@ fn gnu_share(layout: &Layout, file: &File) -> u64
     }
 }
 
-/// What a file has to write for a loader, and of the table of all symbols, at most 2^64 - 1.
-fn own_of(layout: &Layout, role: Role, file: &File) -> u64
-    ensures { result ≡ min (2 ^ 64 - 1) (own_of layout.now role file.now) }
+/// Whether what a file has to write in parts of that role is told by its sections.
+fn reads_sections(role: Role) -> bool
+    ensures { result ≡ reads_sections role }
+{
+    matches!(
+        role,
+        Role::RelaDynRelative | Role::RelaDynGeneral | Role::RelrDyn | Role::EhFrame
+    )
+}
+
+/// Whether it is told by where they stand.
+fn reads_places(layout: &Layout, role: Role) -> bool
+    ensures { result ≡ reads_places layout.now role }
 {
     match role {
-        Role::RelaDynRelative => entry_count(layout, file).saturating_mul(Rela::SIZE as u64),
-        Role::RelaDynGeneral => general_count(layout, file).saturating_mul(Rela::SIZE as u64),
-        Role::RelrDyn => word_count(layout, file).saturating_mul(Relr::SIZE as u64),
+        Role::RelaDynRelative | Role::RelrDyn => {
+            layout.kind.is_position_independent() && layout.options.relr
+        }
+        _ => false,
+    }
+}
+
+/// What a file, whose frames begin at an address, has to write by its sections, at most 2^64 - 1.
+fn told_by_sections(layout: &Layout, at: u64, role: Role, file: &File) -> u64
+    ensures { reads_sections role ≡ true → result ≡ min (2 ^ 64 - 1) (own_of layout.now role (laid_file layout.now at file.now)) }
+{
+    match role {
+        Role::RelaDynRelative => entry_count(layout, at, file).saturating_mul(Rela::SIZE as u64),
+        Role::RelaDynGeneral => general_count(layout, at, file).saturating_mul(Rela::SIZE as u64),
+        Role::RelrDyn => word_count(layout, at, file).saturating_mul(Relr::SIZE as u64),
+        Role::EhFrame => frames_room(layout, file),
+        _ => 0,
+    }
+}
+
+/// What a file has to write for a loader, and of the table of all symbols, that its sections do not tell, at most 2^64 - 1.
+fn told_otherwise(layout: &Layout, role: Role, file: &File) -> u64
+    ensures { reads_sections role ≡ false → result ≡ min (2 ^ 64 - 1) (own_of layout.now role file.now) }
+{
+    match role {
         Role::Dynsym => dynsym_count(layout, file).saturating_mul(SymtabEntry::SIZE as u64),
         Role::Dynstr => strings_room(layout, file),
         Role::GnuVersion => version_count(layout, file).saturating_mul(Versym::SIZE as u64),
@@ -173,20 +209,34 @@ fn own_of(layout: &Layout, role: Role, file: &File) -> u64
             global_count(layout, file).saturating_mul(LONG_INDEX_SIZE)
         }
         Role::Strtab => table_room(layout, file),
+        Role::BuildId => build_id_share(layout, file),
+        Role::Property => property_share(layout, file),
         _ => 0,
     }
 }
 
+/// What a file, whose frames begin at an address, has to write for a loader and other readers, at most 2^64 - 1.
+#[tactic(auto, using(crate::proofs::StandingShares::own_stands))]
+fn own_of(layout: &Layout, at: u64, role: Role, file: &File) -> u64
+    ensures { result ≡ min (2 ^ 64 - 1) (own_of layout.now role (laid_file layout.now at file.now)) }
+{
+    if reads_sections(role) {
+        told_by_sections(layout, at, role, file)
+    } else {
+        told_otherwise(layout, role, file)
+    }
+}
+
 /// A file writes nothing in any part but raw ones: it is neither the first nor the last, in an output without a dynamic section
-/// and a table of all symbols, and no slots of its symbols and no entries tell otherwise. Relocations are read only where the
-/// rest is so.
+/// and a table of all symbols, and no slots of its symbols, no entries and no frames tell otherwise. Relocations are read only where
+/// the rest is so. Where its frames begin changes nothing of it.
 #[derive(Clone, Copy)]
 struct IsPlain<'a> {
     layout: &'a Layout,
 }
 
 impl Test<File> for IsPlain<'_> {
-    ghost test = { λ t. is_plain t.layout.now };
+    ghost test = { λ t f. is_plain t.layout.now (laid_file t.layout.now 0 f) };
 
     fn passes(&self, file: &File) -> bool {
         let layout = self.layout;
@@ -195,15 +245,15 @@ impl Test<File> for IsPlain<'_> {
             && !file.role.is_prelude()
             && !file.role.is_epilogue()
             && all_pass(&IsWithout, layout.own_symbols(file))
-            && general_count(layout, file) == 0
+            && general_count(layout, 0, file) == 0
+            && frames_room(layout, file) == 0
     }
 }
 
-/// Whether all files of a group are plain. Then the group needs nothing.
+/// Whether all files of a group are plain, as their sections stand. Then the group needs nothing.
 pub fn is_plain_group(layout: &Layout, group: &Group) -> bool
-    ensures plain { result ≡ list_all (is_plain layout.now) group.now.files }
-    ensures none { result ≡ true → (r : Role) → total (share layout.now r) group.now.files ≡ 0 }
-    ensures block { result ≡ true → (r : Role) → block_share layout.now r group.now ≡ 0 }
+    ensures plain { result ≡ list_all (is_plain layout.now) (laid_files layout.now group.now) }
+    ensures none { result ≡ true → (r : Role) → group_share layout.now r group.now ≡ 0 }
 {
     all_pass(&IsPlain { layout }, group.files.as_slice())
 }
@@ -219,32 +269,71 @@ fn first_share(layout: &Layout, role: Role, file: &File) -> u64
     }
 }
 
-/// What a file has to write in a part of that role, at most 2^64 - 1.
-fn share(layout: &Layout, role: Role, file: &File) -> u64
-    ensures { result ≡ min (2 ^ 64 - 1) (share layout.now role file.now) }
+/// What a file, whose frames begin at an address, has to write in a part of that role, at most 2^64 - 1.
+#[tactic(auto, using(crate::proofs::StandingShares::slots_stand))]
+fn share(layout: &Layout, at: u64, role: Role, file: &File) -> u64
+    ensures { result ≡ min (2 ^ 64 - 1) (share layout.now role (laid_file layout.now at file.now)) }
 {
     first_share(layout, role, file)
-        .saturating_add(own_of(layout, role, file))
+        .saturating_add(own_of(layout, at, role, file))
         .saturating_add(slot_share(layout, role, file))
 }
 
-/// The sum of the files' shares, at most 2^64 - 1.
-pub(crate) fn total_of(layout: &Layout, role: Role, files: &[File]) -> u64
-    ensures { result ≡ min (2 ^ 64 - 1) (total (share layout.now role) files.now) }
+/// Where the frames behind those of a file begin, as far as parts of that role ask.
+fn behind_frames(layout: &Layout, at: u64, role: Role, file: &File) -> u64
+    ensures { reads_places layout.now role ≡ true → result ≡ behind at (file_frames layout.now file.now) }
+{
+    if reads_places(layout, role) {
+        at.wrapping_add(file_frames(layout, file))
+    } else {
+        at
+    }
+}
+
+/// The sum of the shares of a group's files, at most 2^64 - 1.
+#[tactic(auto, unfolding(wild_laid::specs::Laid::laid_files), using(crate::proofs::StandingShares::file_loops))]
+fn total_of(layout: &Layout, role: Role, group: &Group) -> u64
+    ensures { result ≡ min (2 ^ 64 - 1) (total (share layout.now role) (laid_files layout.now group.now)) }
 {
     let mut sum: u64 = 0;
-    for file in files {
-        sum = sum.saturating_add(share(layout, role, file));
+    let mut at = frames_at(layout, group);
+    for file in group.files.as_slice() {
+        sum = sum.saturating_add(share(layout, at, role, file));
+        at = behind_frames(layout, at, role, file);
     }
     sum
+}
+
+/// Whether the group has the last file.
+pub fn has_last(group: &Group) -> bool
+    ensures { result ≡ has_last group.now }
+{
+    group
+        .files
+        .as_slice()
+        .iter()
+        .any(|file| file.role.is_epilogue())
+}
+
+/// How many bytes stand behind all else of the group with the last file, at most 2^64 - 1.
+fn last_share(layout: &Layout, role: Role, group: &Group) -> u64
+    ensures { result ≡ min (2 ^ 64 - 1) (last_share layout.now role group.now) }
+{
+    match role {
+        Role::RelrDyn if has_last(group) => {
+            sorted_word_count(layout).saturating_mul(Relr::SIZE as u64)
+        }
+        _ => 0,
+    }
 }
 
 /// What a group has to write in a part of that role, at most 2^64 - 1.
 pub(crate) fn group_share(layout: &Layout, role: Role, group: &Group) -> u64
     ensures { result ≡ min (2 ^ 64 - 1) (group_share layout.now role group.now) }
 {
-    let files = total_of(layout, role, group.files.as_slice());
-    files.saturating_add(block_share(layout, role, group))
+    total_of(layout, role, group)
+        .saturating_add(block_share(layout, role, group))
+        .saturating_add(last_share(layout, role, group))
 }
 
 fn needs_of(layout: &Layout, role: Role, part: usize, group: &Group) -> u64
@@ -270,6 +359,13 @@ pub fn needs(layout: &Layout, part: usize, group: usize) -> u64
     }
 }
 
+/// Whether a part of that role has frames or notes: an output that no loader relocates has such parts too.
+fn is_static(role: Role) -> bool
+    ensures { result ≡ is_static role }
+{
+    matches!(role, Role::EhFrame | Role::BuildId | Role::Property)
+}
+
 /// Whether no group has anything to write in a part of that role, as far as that is known without a look at the files.
 #[tactic(auto, using(crate::proofs::ShareLemmas::no_share))]
 fn needs_nothing(layout: &Layout, role: Role) -> bool
@@ -278,6 +374,7 @@ fn needs_nothing(layout: &Layout, role: Role) -> bool
     !layout.kind.needs_dynamic()
         && !layout.has_table()
         && !is_of_slots(role)
+        && !is_static(role)
         && whole_of(layout, role) == 0
 }
 

@@ -59,6 +59,10 @@ use Rattle.wild_references.proofs.KnownRows.{RowFits, row_fits}
 use Rattle.wild_references.proofs.OwnSymbols.{own_symbol}
 use Rattle.wild_references.proofs.ValueKinds.{more}
 use Rattle.wild_references.proofs.Written.{IsBranchField}
+use Rattle.wild_meaning.proofs.StringLemmas.{referent_by}
+use Rattle.wild_meaning.specs.Strings.{NamesStrings}
+use Rattle.wild_references.proofs.MergedStrings.{names_none}
+use Rattle.wild_layout.specs.Merged.{names_merged}
 
 -- ---- the rows
 
@@ -181,20 +185,20 @@ flat : (x c q : ℕ) → ((x + c) % 2 ^ 64 + q) % 2 ^ 64 ≡ (x + c + q) % 2 ^ 6
 flat x c q = omega arith
 
 -- what stands for the symbol is where a branch may go
-branched : (l : Layout) (w : World) (m : Memory) (s : Item) (r : InputRelocation) (a : ℕ) → l.machine ≡ machine.AArch64 → IsReferent l.machine Distance l w m s r a → IsReferent l.machine StubDistance l w m s r a
-branched l w m s r a on h =
-    subst (λ (k : Machine). IsReferent k StubDistance l w m s r a) (sym on) (by_symbol r.symbol (subst (λ (k : Machine). IsReferent k Distance l w m s r a) on h))
+branched : (l : Layout) (w : World) (m : Memory) (s : Item) (r : InputRelocation) (a : ℕ) → l.machine ≡ machine.AArch64 → (NamesStrings l r → ⊥) → IsReferent l.machine Distance l w m s r a → IsReferent l.machine StubDistance l w m s r a
+branched l w m s r a on none h =
+    subst (λ (k : Machine). IsReferent k StubDistance l w m s r a) (sym on) (inr ((λ t. t.0), by_symbol r.symbol (referent_by machine.AArch64 Distance l w m s r a (λ t. none t.1) (subst (λ (k : Machine). IsReferent k Distance l w m s r a) on h))))
   where
     by_symbol : (o : Option ℕ) → IsReferentOnAArch64 Distance l w m s r o a → IsReferentOnAArch64 StubDistance l w m s r o a
     by_symbol None t = t
     by_symbol (Some i) (inl own) = inl own
     by_symbol (Some i) (inr there) = inr (there.0, record { symbol = a; denoted = there.1; comes = inl refl })
 
-goes_there : (l : Layout) (w : World) (m : Memory) (s : Item) (r : InputRelocation) (v : ℕ) → l.machine ≡ machine.AArch64 → Gives Distance l w m s r v → Gives StubDistance l w m s r v
-goes_there l w m s r v on g =
+goes_there : (l : Layout) (w : World) (m : Memory) (s : Item) (r : InputRelocation) (v : ℕ) → l.machine ≡ machine.AArch64 → (NamesStrings l r → ⊥) → Gives Distance l w m s r v → Gives StubDistance l w m s r v
+goes_there l w m s r v on none g =
     let sum : IsSum Distance l w m s r g.0 = g.1 in
     let at = 2 ^ 64 - place_at w s r.offset in
-    (sum.symbol, branched l w m s r sum.symbol on sum.denoted, g.2 ∙ ap (λ (t : ℕ). (t + at) % 2 ^ 64) sum.sum ∙ flat sum.symbol (more r) at)
+    (sum.symbol, branched l w m s r sum.symbol on none sum.denoted, g.2 ∙ ap (λ (t : ℕ). (t + at) % 2 ^ 64) sum.sum ∙ flat sum.symbol (more r) at)
 
 -- what a row of the table that keeps the bytes says: its goal is the symbol where that is the output's own, and not of a conditional branch
 pub record GoesWell (l : Layout) (s : Item) (r : InputRelocation) (d : Branch) (goal : Goal) : Type 0 where
@@ -203,6 +207,7 @@ pub record GoesWell (l : Layout) (s : Item) (r : InputRelocation) (d : Branch) (
   pub named : r.symbol ≡ Some symbol
   pub own : goal ≡ goals.Symbol → (goes_far d ≡ true) × IsFollowed l r Distance
   pub weak : goes_far d ≡ false → IsWeakBranch l s r symbol
+  pub plain : names_merged l r.symbol ≡ false
 
 -- whichever module has the symbol
 followed_goal : (l : Layout) (s : Item) (r : InputRelocation) (d : Branch) (goal : Goal) → GoesWell l s r d goal → IsFollowed l r (value_by_row (new_row d goal))
@@ -214,16 +219,16 @@ followed_goal l s r d goals.Symbol g = subst (λ (q : Value). IsFollowed l r q) 
 gives_goal : (l : Layout) (w : World) (m : Memory) (s : Item) (r : InputRelocation) (d : Branch) (goal : Goal) (v : ℕ) → KindLaws → GoesWell l s r d goal → HasTerm l w m s r (new_row d goal) v → Gives (expressed_of d) l w m s r v
 gives_goal l w m s r d goals.Stub v laws g there =
     elim (cases_Bool (goes_far d)) [
-      | inr near ↦ subst (λ (q : Value). Gives q l w m s r v) (sym (near_value d near)) (laws.stands (new_row d goals.Stub) refl l w m s r v g.on there)
+      | inr near ↦ subst (λ (q : Value). Gives q l w m s r v) (sym (near_value d near)) (laws.stands (new_row d goals.Stub) refl l w m s r v g.on (names_none l r g.plain) there)
       | inl far ↦ subst (λ (q : Value). Gives q l w m s r v) (stub_value d ∙ sym (far_value d far)) (laws.stub (new_row d goals.Stub) refl refl l w m s r v there (followed_goal l s r d goals.Stub g))
     ]
 gives_goal l w m s r d goals.Symbol v laws g there =
-    subst (λ (q : Value). Gives q l w m s r v) (sym (far_value d (g.own refl).0)) (goes_there l w m s r v g.on (subst (λ (q : Value). Gives q l w m s r v) (symbol_value d) (laws.symbol (new_row d goals.Symbol) refl refl l w m s r v there (followed_goal l s r d goals.Symbol g))))
+    subst (λ (q : Value). Gives q l w m s r v) (sym (far_value d (g.own refl).0)) (goes_there l w m s r v g.on (names_none l r g.plain) (subst (λ (q : Value). Gives q l w m s r v) (symbol_value d) (laws.symbol (new_row d goals.Symbol) refl refl l w m s r v there (followed_goal l s r d goals.Symbol g))))
 
 -- or the distance of a thunk
 carried_goal : (l : Layout) (w : World) (m : Memory) (s : Item) (r : InputRelocation) (d : Branch) (goal : Goal) (x v : ℕ) → KindLaws → EachThunkGoesOn l w m → GoesWell l s r d goal → HasTerm l w m s r (new_row d goal) x → IsCarried l s r (new_row d goal) x v → Gives (expressed_of d) l w m s r v
 carried_goal l w m s r d goal x v laws thunks g there t =
-    let gives = laws.thunk (new_row d goal) (carries_goal d goal t.thunkable) l w m s r x t.thunk g.on there thunks (followed_goal l s r d goal g) t.far t.found t.alone in
+    let gives = laws.thunk (new_row d goal) (carries_goal d goal t.thunkable) l w m s r x t.thunk g.on there thunks (λ k. g.plain) (followed_goal l s r d goal g) t.far t.found t.alone in
     subst (λ (q : Value). Gives q l w m s r v) (sym (far_value d far)) (subst (λ (n : ℕ). Gives StubDistance l w m s r n) t.distance gives)
   where
     far : goes_far d ≡ true
@@ -254,7 +259,7 @@ pub branch_reads : (l : Layout) (w : World) (m : Memory) (s : Item) (i : ℕ) (r
 branch_reads l w m s i r h asked f = record {
   distance = d;
   goal = goal;
-  goes = record { on = c.machine; symbol = c.symbol; named = c.named; own = own; weak = weak };
+  goes = record { on = c.machine; symbol = c.symbol; named = c.named; own = own; weak = weak; plain = c.plain };
   number = c.number ∙ goes.number;
   formula = fits.formula;
   known = fits.known;
@@ -359,6 +364,7 @@ branch_reads l w m s i r h asked f = record {
       value = refl;
       place = place_is l w m s i r old.size h f.has.listed field;
       ends = place_ends l w m s i r old.size h f.has.listed field;
+      addend = λ some. absurd (let none = c.plain in let both : true ≡ false = sym some ∙ none in cc);
       asked = λ relative movable j named absolute. asked (record {
         movable = movable;
         symbol = j;

@@ -48,6 +48,7 @@ use Rattle.wild_references.proofs.BranchFields.{new_row, far_value, near_value, 
 use Rattle.wild_references.proofs.Fields.{LinkedLaws}
 use Rattle.wild_references.proofs.OwnSymbols.{own_symbol}
 use Rattle.wild_references.proofs.Symbols.{replaceable_is, flag_at}
+use Rattle.wild_references.proofs.MergedStrings.{weak_plain}
 
 -- ---- a branch that is decided of by itself
 
@@ -81,7 +82,7 @@ own_goes l s i r d k own listed room fit inside named whose g =
       room = omega (arith, room, offset);
     }) in
     let here : choice l s i ≡ choice_on l.machine l s i r = rw listed refl in
-    no_two (chosen_of l.machine q) chosen.0 (sym (around_choice l s i r k g.on listed named) ∙ here ∙ own.choice) (ap (λ (m : Machine). chosen_of m q) g.on ∙ chosen.1)
+    no_two (chosen_of l.machine q) chosen.0 (sym (around_choice l s i r k g.on listed named (weak_plain l r k named weak)) ∙ here ∙ own.choice) (ap (λ (m : Machine). chosen_of m q) g.on ∙ chosen.1)
 
 -- ---- a branch to a weak symbol that no module has
 
@@ -124,6 +125,7 @@ as_symbol l w m s r b none zero =
       value = sym (value_place l r b.distance b.goal t.term (place_of s.address r)) ∙ t.value;
       place = t.place;
       ends = t.ends;
+      addend = t.addend;
       asked = λ relative movable j named absolute. zero;
     }
 
@@ -133,7 +135,7 @@ near_links l w m s r laws b a zero near none =
     let there = subst (λ (n : ℕ). HasTerm l w m s r (new_row b.distance goals.Symbol) n) same (as_symbol l w m s r b none zero) in
     let is : b.formula.value ≡ Distance = b.is ∙ near_value b.distance near in
     let bare : IsStubbed l a.symbol → ⊥ = by (subst (λ (v : Value). TakesItself l s a.symbol (record { value = v; form = b.formula.form })) is (taken l s r b.formula b.known a)) in
-    let linked = laws.symbol (new_row b.distance goals.Symbol) refl refl l w m s r b.value a.symbol there zero a.named (inl bare) in
+    let linked = laws.symbol (new_row b.distance goals.Symbol) refl refl l w m s r b.value a.symbol there zero a.named a.replaceable (inl bare) in
     record {
       formula = b.formula;
       known = b.known;

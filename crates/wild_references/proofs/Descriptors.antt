@@ -22,7 +22,7 @@ use Rattle.wild_reloc.specs.declared.info.RelocationKind.TheVariants as kinds
 use Rattle.wild_relax.specs.declared.row.Row.{Row}
 use Rattle.wild_relax.specs.declared.table.TheConstants.{DESCRIPTOR, DESCRIPTOR_SLOT, DESCRIPTOR_2, DESCRIPTOR_SLOT_2, DESCRIPTOR_CALL}
 use Rattle.wild_relax.specs.Rows.{rows_x86_64, applies}
-use Rattle.wild_layout.specs.Choice.{question_of, choice_of}
+use Rattle.wild_layout.specs.Choice.{question_of, choice_of, is_thread_type}
 use Rattle.wild_layout.specs.SlotValues.{slot_of, behind_word, behind_pair}
 use Rattle.wild_layout.specs.Values.{term_of}
 use Rattle.wild_meaning.specs.Formula.{KnowsOffsets, HasOffsetMode}
@@ -65,17 +65,17 @@ rows_stand l x86 h = by_kind l.kind refl (subst (λ (k : Machine). KnowsOffsets 
 
 -- which of both rows stands is told by whose symbol it is
 lea_kept : (l : Layout) (s : Item) (r : InputRelocation) (next : Option InputRelocation) (own_row open_row : Row) (i a b : ℕ) → choice_of l s r next ≡ Ok None → r.symbol ≡ Some i
-    → slice_get rows_x86_64 a ≡ Some own_row → slice_get rows_x86_64 b ≡ Some open_row → (r.number == r_x86_64_pc32) ≡ false → (not (interposable (flags_at l i)) ≡ true → applies (question_of l s r i next) own_row ≡ true)
+    → slice_get rows_x86_64 a ≡ Some own_row → slice_get rows_x86_64 b ≡ Some open_row → (r.number == r_x86_64_pc32) ≡ false → is_thread_type r.number ≡ true → (not (interposable (flags_at l i)) ≡ true → applies (question_of l s r i next) own_row ≡ true)
     → (not (not (interposable (flags_at l i))) ≡ true → applies (question_of l s r i next) open_row ≡ true) → ⊥
-lea_kept l s r next own_row open_row i a b none named first second other own_stands open_stands =
+lea_kept l s r next own_row open_row i a b none named first second other thread own_stands open_stands =
     elim (cases_Bool (not (interposable (flags_at l i)))) [
       | inl own ↦
           (let stands = own_stands own in
-          let gone = unchosen l s r next i a own_row none named other first in
+          let gone = unchosen l s r next i a own_row none named other thread first in
           cc)
       | inr open_one ↦
           (let stands = open_stands (rw open_one refl) in
-          let gone = unchosen l s r next i b open_row none named other second in
+          let gone = unchosen l s r next i b open_row none named other thread second in
           cc)
     ]
 
@@ -103,11 +103,11 @@ descriptor_kept l s r next i term none x86 fit named number given inside h =
     let bytes = nothing_stands s.bytes r.offset inside in
     elim number [
       | inl e ↦
-          lea_kept l s r next DESCRIPTOR DESCRIPTOR_SLOT i 28 29 none named descriptor_at descriptor_slot_at (ap (λ (n : ℕ). n == r_x86_64_pc32) e)
+          lea_kept l s r next DESCRIPTOR DESCRIPTOR_SLOT i 28 29 none named descriptor_at descriptor_slot_at (ap (λ (n : ℕ). n == r_x86_64_pc32) e) (ap is_thread_type e)
           (λ own. row_applies q DESCRIPTOR (eq-eqb r.number r_x86_64_gotpc32_tlsdesc e) k.duty code direct k.program own refl bytes)
           (λ taken. row_applies q DESCRIPTOR_SLOT (eq-eqb r.number r_x86_64_gotpc32_tlsdesc e) k.duty code direct k.program taken refl bytes)
       | inr e ↦
-          lea_kept l s r next DESCRIPTOR_2 DESCRIPTOR_SLOT_2 i 30 31 none named descriptor_2_at descriptor_slot_2_at (ap (λ (n : ℕ). n == r_x86_64_pc32) e)
+          lea_kept l s r next DESCRIPTOR_2 DESCRIPTOR_SLOT_2 i 30 31 none named descriptor_2_at descriptor_slot_2_at (ap (λ (n : ℕ). n == r_x86_64_pc32) e) (ap is_thread_type e)
           (λ own. row_applies q DESCRIPTOR_2 (eq-eqb r.number r_x86_64_code_4_gotpc32_tlsdesc e) k.duty code direct k.program own refl bytes)
           (λ taken. row_applies q DESCRIPTOR_SLOT_2 (eq-eqb r.number r_x86_64_code_4_gotpc32_tlsdesc e) k.duty code direct k.program taken refl bytes)
     ]
@@ -119,5 +119,5 @@ call_kept l s r next i none x86 named number h =
     let q = question_of l s r i next in
     let k = rows_stand l x86 h.0 in
     let stands = row_applies q DESCRIPTOR_CALL (eq-eqb r.number r_x86_64_tlsdesc_call number) k.duty (code_bit s.flags h.1) refl k.program refl refl refl in
-    let gone = unchosen l s r next i 32 DESCRIPTOR_CALL none named (ap (λ (n : ℕ). n == r_x86_64_pc32) number) call_at in
+    let gone = unchosen l s r next i 32 DESCRIPTOR_CALL none named (ap (λ (n : ℕ). n == r_x86_64_pc32) number) (ap is_thread_type number) call_at in
     cc

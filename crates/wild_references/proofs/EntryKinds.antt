@@ -8,7 +8,7 @@ use Rattle.std.proofs.lemmas.Int.{of_z-to_z}
 use Rattle.wild_words.specs.Words.{word}
 use Rattle.wild_words.specs.Words as words
 use Rattle.wild_words.proofs.WordLemmas.{number-word, number-word_2, number-word_4}
-use Rattle.wild_words.proofs.Basics.{slice_get_inside}
+use Rattle.wild_words.proofs.Basics.{slice_get_inside, of_if}
 use Rattle.wild_records.specs.Abi.Relocation.{r_x86_64_size32, r_x86_64_size64}
 use Rattle.wild_records.proofs.FieldLemmas.{signed_fits}
 use Rattle.wild_types.specs.declared.fault.Fault.{Fault}
@@ -28,7 +28,7 @@ use Rattle.wild_types.specs.Lookups.{canonical, writable, allocated}
 use Rattle.wild_types.specs.Rows.{row_of}
 use Rattle.wild_slot.specs.SlotParts.{type_of}
 use Rattle.wild_slot.specs.Slots.{is_replaceable}
-use Rattle.wild_slot.specs.Treatment.{flags_at, is_left, is_chosen, address_treatment, kind_treatment, treatment}
+use Rattle.wild_slot.specs.Treatment.{flags_at, is_left, is_chosen, address_treatment, kind_treatment, treatment, is_barred, is_narrow, moves}
 use Rattle.wild_reloc.specs.Field.{allows, field_width}
 use Rattle.wild_reloc.specs.Formula.{Formula, formula, Form, Value, Full, Plain, Unsigned, Reads, Keeps, SymbolAddress, Size}
 use Rattle.wild_reloc.specs.FormulaX86_64.{x86_64_formula}
@@ -71,13 +71,15 @@ use Rattle.wild_references.proofs.KnownRows.{RowFits, row_fits, size_machine}
 use Rattle.wild_references.proofs.Referents.{address_referent}
 use Rattle.wild_references.proofs.OutputKinds.{library_is}
 use Rattle.wild_references.proofs.SlotFlags.{symbol_fits, resolver_own, listed_at}
-use Rattle.wild_references.proofs.Symbols.{IsResolvedBy, resolved, resolved_raw, flags_are, replaceable_at, flag_at, own_size_is}
+use Rattle.wild_references.proofs.Symbols.{IsResolvedBy, resolved, resolved_raw, flags_are, replaceable_at, flag_at, own_size_is, definition_there}
 use Rattle.wild_references.proofs.Treated.{treated_by, peeled}
 use Rattle.wild_references.proofs.ValueKinds.{more}
 use Rattle.wild_references.proofs.Written.{row_here, given_some}
 use Rattle.wild_meaning.specs.Linked.{processor_of}
 use Rattle.wild_loader.specs.declared.memory.Machine.{Machine as Processor}
 use Rattle.wild_geometry.proofs.MachineLemmas.{facts_of}
+use Rattle.wild_meaning.specs.Strings.{NamesStrings}
+use Rattle.wild_references.proofs.MergedStrings.{open_none, resolver_none}
 
 -- ---- what a decision says of the entry
 
@@ -164,9 +166,9 @@ symbol_change p w n d a c is low h =
     let same : changes.Word ((x.0.address + cast_unsigned w64 (cast_signed w64 a)) % 2 ^ 64) ≡ c = (let g : made_change (changes.Word ((x.0.address + cast_unsigned w64 (cast_signed w64 a)) % 2 ^ 64)) ≡ made_change c = x.2 in cc) in
     (record { answer = x.0; there = x.1 }, sym same ∙ ap (λ (n : ℕ). changes.Word ((x.0.address + n) % 2 ^ 64)) (of_z-to_z w64 a low))
 
-symbolic_given : (l : Layout) (w : World) (m : Memory) (s : Item) (r : InputRelocation) (i number symbol addend : ℕ) (z : RelocationSize) (bs : List ℕ) (f : Formula) → IsPlaced l w m → FitsSigned w64 r.addend → r.symbol ≡ Some i → f.value ≡ SymbolAddress → f.form ≡ Full
+symbolic_given : (l : Layout) (w : World) (m : Memory) (s : Item) (r : InputRelocation) (i number symbol addend : ℕ) (z : RelocationSize) (bs : List ℕ) (f : Formula) → IsPlaced l w m → FitsSigned w64 r.addend → r.symbol ≡ Some i → (NamesStrings l r → ⊥) → f.value ≡ SymbolAddress → f.form ≡ Full
     → left_to (ByteSize Eight) (type_of l.machine Absolute) r i (index_of l i) ≡ Ok (Left z number symbol addend) → ReadsLeft (processor_of l.machine) InMemory w z number symbol addend bs → IsGiven l w m s r f bs
-symbolic_given l w m s r i number symbol addend z bs f p fits named value full made reads =
+symbolic_given l w m s r i number symbol addend z bs f p fits named none value full made reads =
     let d = index_given (ByteSize Eight) z (type_of l.machine Absolute) number symbol addend r i (index_of l i) made in
     let by = index_resolved l i symbol d.0 in
     let is = subst (λ (k : ℕ). kind_of (processor_of l.machine) k ≡ Some works.SymbolPlus) d.1 ((facts_of l.machine).entries Absolute) in
@@ -176,7 +178,7 @@ symbolic_given l w m s r i number symbol addend z bs f p fits named value full m
     let a = answered_value l w i c.0.answer p.legal.symbols (has_answer l w i symbol by.0 by.1 by.2 c.0) in
     let target : IsTarget l w m r.symbol c.0.answer.address = subst (λ (o : Option ℕ). IsTarget l w m o c.0.answer.address) (sym named) (inl a) in
     let sum : x ≡ (c.0.answer.address + more r) % 2 ^ 64 = ap (λ (k : ℕ). (c.0.answer.address + k) % 2 ^ 64) (sym d.2) in
-    sum_given l w m s r f bs x value full (record { symbol = c.0.answer.address; denoted = address_referent l w m s r c.0.answer.address target; sum = sum }) (bytes_are bs reads.0 (changes.Word x) c.1 reads.2) (omega arith)
+    sum_given l w m s r f bs x value full (record { symbol = c.0.answer.address; denoted = address_referent l w m s r c.0.answer.address none target; sum = sum }) (bytes_are bs reads.0 (changes.Word x) c.1 reads.2) (omega arith)
 
 -- ---- what a resolver answers
 
@@ -248,7 +250,7 @@ indirect_given l w m s r i number symbol addend z bs f p listed chosen named val
     let target : IsTarget l w m r.symbol c.0 = subst (λ (o : Option ℕ). IsTarget l w m o c.0) (sym named) (inl (inr (chosen.own, a))) in
     let x = (c.0 + more r) % 2 ^ 64 in
     let bytes = bytes_are bs reads.0 (changes.Word c.0) c.2 reads.2 in
-    record { value = x; gives = subst (λ (v : Value). Gives v l w m s r x) (sym value) (record { symbol = c.0; denoted = address_referent l w m s r c.0 target; sum = refl }); reads = subst (λ (k : Form). Reads k bs x) (sym full) (ap words.number bytes ∙ (number_of_word c.0 ∙ sum_none c.0 (more r) d.2)); keeps = λ old. subst (λ (k : Form). Keeps k old bs) (sym full) tt }
+    record { value = x; gives = subst (λ (v : Value). Gives v l w m s r x) (sym value) (record { symbol = c.0; denoted = address_referent l w m s r c.0 (resolver_none l r i named chosen.chosen) target; sum = refl }); reads = subst (λ (k : Form). Reads k bs x) (sym full) (ap words.number bytes ∙ (number_of_word c.0 ∙ sum_none c.0 (more r) d.2)); keeps = λ old. subst (λ (k : Form). Keeps k old bs) (sym full) tt }
   where
     sum_none : (v a : ℕ) → a ≡ 0 → v % 2 ^ 64 ≡ (v + a) % 2 ^ 64
     sum_none v a e = omega (arith, e)
@@ -400,6 +402,23 @@ address_by l s r row i t inside is some known kind named =
     let b : kind_treatment l s.flags r.number r.symbol row kinds.Absolute ≡ t = subst (λ (k : RelocationKind). kind_treatment l s.flags r.number r.symbol row k ≡ t) kind a in
     peeled l row i (address_treatment l s.flags r.number row i) t inside (subst (λ (o : Option ℕ). kind_treatment l s.flags r.number o row kinds.Absolute ≡ t) named b)
 
+-- one that is left to an index is open
+left_open : (l : Layout) (flags n : ℕ) (row : RelocationKindInfo) (i : ℕ) → address_treatment l flags n row i ≡ treatments.Symbolic i → interposable (flags_at l i) ≡ true
+left_open l flags n row i h =
+    let P : Treatment → Type 0 = λ t. t ≡ treatments.Symbolic i → interposable (flags_at l i) ≡ true in
+    of_if P (is_barred l flags n i || is_narrow l flags n) _ _ (λ e. λ g. cc) (λ e.
+    of_if P (is_left l flags row i) _ _
+    (λ left. λ g. last_of_four (allocated flags) (writable flags) (field_width row == 8) (interposable (flags_at l i)) left)
+    (λ own. of_if P (is_chosen l flags i) _ _
+    (λ chosen. of_if P (field_width row == 8) _ _ (λ w. λ g. cc) (λ w. λ g. cc))
+    (λ e. of_if P (allocated flags && moves l i) _ _ (λ m. of_if P (field_width row == 8) _ _ (λ w. λ g. cc) (λ w. λ g. cc)) (λ m. λ g. cc)))) h
+  where
+    last_of_four : (a b c d : Bool) → (a && b && c && d) ≡ true → d ≡ true
+    last_of_four true true true d h = h
+    last_of_four true true false d h = cc
+    last_of_four true false c d h = cc
+    last_of_four false b c d h = cc
+
 -- a field with its formula
 pub record FieldGiven (l : Layout) (w : World) (m : Memory) (s : Item) (r : InputRelocation) (bs : List ℕ) : Type 0 where
   pub formula : Formula
@@ -416,7 +435,9 @@ left_given agrees l w m s r z number symbol addend bs p listed fits made reads =
         let k = known_symbolic l s.flags r i is in
         let f = row_fits agrees l.machine r.number k.0 k.1 (ap has_value k.2.kind) in
         let full = f.full k.2.kind k.2.width in
-        record { formula = f.formula; known = f.known; given = symbolic_given l w m s r i number symbol addend z bs f.formula p fits k.2.named full.0 full.1 h reads }
+        let there = address_by l s r k.0 i (treatments.Symbolic i) (definition_there l i p.symbols.named (listed i k.2.named)) is (λ e. cc) k.1 k.2.kind k.2.named in
+        let open_one = left_open l s.flags r.number k.0 i there in
+        record { formula = f.formula; known = f.known; given = symbolic_given l w m s r i number symbol addend z bs f.formula p fits k.2.named (open_none l r i k.2.named open_one) full.0 full.1 h reads }
     by_treatment (treatments.Indirect i) left is h =
         let k = known_indirect l s.flags r i is in
         let f = row_fits agrees l.machine r.number k.0 k.1 (ap has_value k.2.kind) in

@@ -51,6 +51,7 @@ use Rattle.wild_references.proofs.RewrittenRuns.{run_of, run_there}
 use Rattle.wild_references.proofs.RewrittenWords.{rewritten_word}
 use Rattle.wild_references.proofs.WordRuns.{type_is, own_type, IsWordAt, run_word, call_bytes}
 use Rattle.wild_references.proofs.KeptRelocations.{one_decision, none_standing, not_checked}
+use Rattle.wild_layout.specs.Merged.{names_merged}
 
 pub not_between : (x at width : ℕ) → at ≤ x → x < at + width → (x < at) ⊎ (at + width ≤ x) → ⊥
 not_between x at width low high (inl a) = omega (arith, low, a)
@@ -116,9 +117,9 @@ no_choice l s i r d on call h k = by d h k
     by (Rewritten row v) h k = absurd k
     by Partner h k = absurd k
 
-choice_named : (l : Layout) (s : Item) (i symbol : ℕ) (r : InputRelocation) → r.symbol ≡ Some symbol → choice_around l s i r ≡ Ok None → chosen_aarch64 (question_around l s i r symbol) ≡ Ok None
+choice_named : (l : Layout) (s : Item) (i symbol : ℕ) (r : InputRelocation) → r.symbol ≡ Some symbol → names_merged l (Some symbol) ≡ false → choice_around l s i r ≡ Ok None → chosen_aarch64 (question_around l s i r symbol) ≡ Ok None
 unfolding choice_around_by
-choice_named l s i symbol r named h = subst (λ (o : Option ℕ). choice_around_by l s i r o ≡ Ok None) named h
+choice_named l s i symbol r named plain h = (let here : choice_around_by l s i r (Some symbol) ≡ Ok None = subst (λ (o : Option ℕ). choice_around_by l s i r o ≡ Ok None) named h in rw plain at here)
 
 same_call : (l : Layout) (s : Item) (i j : ℕ) (r : InputRelocation) (d : Decision) (row : Row) (v : ℕ) → l.machine ≡ machine.AArch64 → r.number ≡ abi.r_aarch64_tlsdesc_call → HasDecision l s i r d → KeepsInstruction d → HasDecision l s j r (Rewritten row v) → ⊥
 same_call l s i j r d row v on call h k there =
@@ -126,7 +127,7 @@ same_call l s i j r d row v on call h k there =
     let here = relocation_around l s i r c.symbol h.listed in
     let same : relocation_of (question_around l s i r c.symbol) ≡ relocation_of (question_around l s j r c.symbol) = here ∙ sym (relocation_around l s j r c.symbol there.listed) in
     let which = call_rows row c.listed (sym c.number ∙ call) in
-    none_chosen (question_around l s i r c.symbol) row (choice_named l s i c.symbol r c.named (no_choice l s i r d on call h k)) c.listed (applies_there l s j i r c.symbol row which same c.here)
+    none_chosen (question_around l s i r c.symbol) row (choice_named l s i c.symbol r c.named (sym (ap (λ (o : Option ℕ). names_merged l o) c.named) ∙ c.plain) (no_choice l s i r d on call h k)) c.listed (applies_there l s j i r c.symbol row which same c.here)
 
 -- one of two that are the same is not rewritten where the other keeps its instruction
 same_kept : WindowsAreAlone → (l : Layout) (s : Item) (i j : ℕ) (r : InputRelocation) (d : Decision) (row : Row) (v : ℕ) → l.machine ≡ machine.AArch64 → IsDecided l s → HasDecision l s i r d → KeepsInstruction d → HasDecision l s j r (Rewritten row v) → ⊥

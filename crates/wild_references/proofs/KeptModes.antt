@@ -26,7 +26,7 @@ use Rattle.wild_relax.specs.RowSymbols.{is_mandatory}
 use Rattle.wild_relax.specs.Linked.{IsChanging}
 use Rattle.wild_layout.specs.declared.decision.Decision.{Decision}
 use Rattle.wild_layout.specs.declared.decision.Decision.TheVariants.{Rewritten}
-use Rattle.wild_layout.specs.Choice.{question_of}
+use Rattle.wild_layout.specs.Choice.{question_of, is_thread_type}
 use Rattle.wild_layout.specs.Decide.{decided}
 use Rattle.wild_layout.proofs.ChoiceLemmas.{chosen_listed, is_listed}
 use Rattle.wild_layout.proofs.DecisionLemmas.{rewritten_x86_64}
@@ -106,7 +106,7 @@ calls_apart l s i j r q d row v x86 h k number h' number' = by_symbol r.symbol r
           | inl own ↦ unnamed_call l s r d x86 number e own.made
           | inr x ↦ (let f : None ≡ Some x.chosen.symbol = sym e ∙ x.chosen.named in cc)
         ]
-    by_symbol (Some symbol) e = no_row_applies l s i r d symbol DESCRIPTOR_CALL x86 h k (ap keeps_all number) e call_there (applied_by (question_of l s r symbol next) DESCRIPTOR_CALL (applied_call symbol))
+    by_symbol (Some symbol) e = no_row_applies l s i r d symbol DESCRIPTOR_CALL x86 h k (ap keeps_all number) (ap is_thread_type number) e call_there (applied_by (question_of l s r symbol next) DESCRIPTOR_CALL (applied_call symbol))
 
 -- ---- sequences
 
@@ -151,7 +151,7 @@ slot_not_kept l s i first second d start o x86 h k q slot taken =
           counts = refl;
           stands = asked_before r_x86_64_tlsgd (pattern.General general.NoPlt) o s.bytes start first.offset a q.stands.field q.stands.inside q.stands.stands;
         } in
-        no_row_applies l s i first d q.symbol GENERAL_NO_PLT x86 h k (ap keeps_all number) q.named general_there (applied_by asked GENERAL_NO_PLT all)
+        no_row_applies l s i first d q.symbol GENERAL_NO_PLT x86 h k (ap keeps_all number) (ap is_thread_type number) q.named general_there (applied_by asked GENERAL_NO_PLT all)
     general_form a (inr other) =
         let number = a.number first.number q.stands.number in
         let flag = subst (λ (b : Bool). HasFlag l q.symbol non_interposable b) other (other_flag l q.symbol ifunc non_interposable false q.plain) in
@@ -166,7 +166,7 @@ slot_not_kept l s i first second d start o x86 h k q slot taken =
           counts = refl;
           stands = asked_before r_x86_64_tlsgd (pattern.General general.NoPlt) o s.bytes start first.offset a q.stands.field q.stands.inside q.stands.stands;
         } in
-        no_row_applies l s i first d q.symbol GENERAL_NO_PLT_SLOT x86 h k (ap keeps_all number) q.named general_slot_there (applied_by asked GENERAL_NO_PLT_SLOT all)
+        no_row_applies l s i first d q.symbol GENERAL_NO_PLT_SLOT x86 h k (ap keeps_all number) (ap is_thread_type number) q.named general_slot_there (applied_by asked GENERAL_NO_PLT_SLOT all)
 
     local_form : IsAskedFor r_x86_64_tlsld (pattern.LocalStart local.NoPlt) o → ⊥
     local_form a =
@@ -181,4 +181,4 @@ slot_not_kept l s i first second d start o x86 h k q slot taken =
           counts = refl;
           stands = asked_before r_x86_64_tlsld (pattern.LocalStart local.NoPlt) o s.bytes start first.offset a q.stands.field q.stands.inside q.stands.stands;
         } in
-        no_row_applies l s i first d q.symbol LOCAL_NO_PLT x86 h k (ap keeps_all number) q.named local_there (applied_by asked LOCAL_NO_PLT all)
+        no_row_applies l s i first d q.symbol LOCAL_NO_PLT x86 h k (ap keeps_all number) (ap is_thread_type number) q.named local_there (applied_by asked LOCAL_NO_PLT all)

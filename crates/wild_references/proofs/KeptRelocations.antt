@@ -20,7 +20,7 @@ use Rattle.wild_relax.specs.Rows.{rows_x86_64, applies, unknown_sequence, standi
 use Rattle.wild_relax.specs.Linked.{keeps_bytes}
 use Rattle.wild_layout.specs.declared.decision.Decision.{Decision}
 use Rattle.wild_layout.specs.declared.decision.Decision.TheVariants.{Nothing, Field, Moved, Left, Rewritten, Partner}
-use Rattle.wild_layout.specs.Choice.{question_of, choice_by, choice_of, choice_at, choice, takes_next}
+use Rattle.wild_layout.specs.Choice.{question_of, choice_by, choice_of, choice_at, choice, takes_next, is_thread_type}
 use Rattle.wild_layout.proofs.ChoiceLemmas.{IsChosen, choice_is, chosen_listed, partner_is_taken}
 use Rattle.wild_layout.proofs.DecisionLemmas.{IsOwn, own_choice, decide_nothing, decide_moved, decide_left, decide_field}
 use Rattle.wild_geometry.specs.Loaded.{IsDecided, HasDecision}
@@ -29,6 +29,7 @@ use Rattle.wild_references.proofs.WindowRows.{width_of}
 use Rattle.wild_references.proofs.WindowSites.{sites_apart}
 use Rattle.wild_references.proofs.WindowFields.{HasSite}
 use Rattle.wild_references.proofs.KeptTables.{keeps_all, row_fixed, each_row_fixed, kept_number, calls_are_alone}
+use Rattle.wild_references.proofs.Rows.{thread_asked}
 
 -- ---- one decision
 
@@ -107,26 +108,18 @@ pub none_applies : (q : Question) (row : Row) → chosen_x86_64 q ≡ Ok None �
 unfolding chosen_x86_64 standing_x86_64
 none_applies q row e c t = none_standing (applies q) rows_x86_64 (not_checked (has_its_sequence q) (unknown_sequence q) (standing_x86_64 q) e) row c t
 
-none_by : (l : Layout) (s : Item) (r : InputRelocation) (next : Option InputRelocation) (symbol : ℕ) → (r.number == r_x86_64_pc32) ≡ false → choice_by l s r next (Some symbol) ≡ Ok None → chosen_x86_64 (question_of l s r symbol next) ≡ Ok None
-unfolding choice_by
-none_by l s r next symbol other e = by (r.number == r_x86_64_pc32) other e
-  where
-    by : (b : Bool) → b ≡ false → (if b then Ok None else chosen_x86_64 (question_of l s r symbol next)) ≡ Ok None → chosen_x86_64 (question_of l s r symbol next) ≡ Ok None
-    by true f e = cc
-    by false f e = e
-
 not_pc32 : (n : ℕ) (b : Bool) → (n == r_x86_64_pc32) ≡ b → keeps_all n ≡ false → b ≡ false
 not_pc32 n false f e = refl
 not_pc32 n true f e = let g : true ≡ false = rw f at e in cc
 
 -- a row that applies to a relocation of another type than those of rows that write the field alone is not refused, so that the
 -- relocation does not keep its instruction
-pub no_row_applies : (l : Layout) (s : Item) (i : ℕ) (r : InputRelocation) (d : Decision) (symbol : ℕ) (row : Row) → l.machine ≡ machine.X86_64 → HasDecision l s i r d → KeepsInstruction d → keeps_all r.number ≡ false → r.symbol ≡ Some symbol → Contains rows_x86_64 row → applies (question_of l s r symbol (slice_get s.relocations (i + 1))) row ≡ true → ⊥
-no_row_applies l s i r d symbol row x86 h k other named c t =
+pub no_row_applies : (l : Layout) (s : Item) (i : ℕ) (r : InputRelocation) (d : Decision) (symbol : ℕ) (row : Row) → l.machine ≡ machine.X86_64 → HasDecision l s i r d → KeepsInstruction d → keeps_all r.number ≡ false → is_thread_type r.number ≡ true → r.symbol ≡ Some symbol → Contains rows_x86_64 row → applies (question_of l s r symbol (slice_get s.relocations (i + 1))) row ≡ true → ⊥
+no_row_applies l s i r d symbol row x86 h k other thread named c t =
     elim (kept_cases l s i r d x86 h k) [
       | inl own ↦
           (let none = subst (λ (o : Option ℕ). choice_by l s r (slice_get s.relocations (i + 1)) o ≡ Ok None) named (own_choice l s i r d own x86) in
-          none_applies (question_of l s r symbol (slice_get s.relocations (i + 1))) row (none_by l s r (slice_get s.relocations (i + 1)) symbol (not_pc32 r.number (r.number == r_x86_64_pc32) refl other) none) c t)
+          none_applies (question_of l s r symbol (slice_get s.relocations (i + 1))) row (thread_asked l s r (slice_get s.relocations (i + 1)) symbol (not_pc32 r.number (r.number == r_x86_64_pc32) refl other) thread none) c t)
       | inr x ↦
           (let n = kept_number x.row (chosen_listed l s r (slice_get s.relocations (i + 1)) x.row x.chosen row_fixed each_row_fixed) x.keeps in
           let m : keeps_all r.number ≡ true = ap keeps_all x.chosen.number ∙ n in

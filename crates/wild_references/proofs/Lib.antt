@@ -23,6 +23,7 @@ mod Targets
 mod ThunkTargets
 mod ThreadValues
 mod Treated
+mod MergedStrings
 mod Referents
 mod ValueKinds
 mod Relatives

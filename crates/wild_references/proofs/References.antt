@@ -52,6 +52,9 @@ use Rattle.wild_references.proofs.BranchFields.{branch_reads, branch_holds}
 use Rattle.wild_references.proofs.ConditionFields.{own_goes, branch_links}
 use Rattle.wild_references.proofs.Treated.{treated_by, suits_by, symbol_named}
 use Rattle.wild_references.proofs.Written.{IsValue, IsAddress, IsLeftField, IsCall, Writes, row_here, relocation_written}
+use Rattle.wild_meaning.specs.Value.{IsReplaceable}
+use Rattle.wild_records.proofs.FieldLemmas.{signed_fits}
+use Rattle.std.specs.Int.{w64}
 
 -- only code of x86-64 has offsets for descriptors
 mode_machine : (l : Layout) → KnowsOffsets l.machine l.kind l → l.machine ≡ machine.X86_64
@@ -109,6 +112,7 @@ term_is l w m s i r x h asked v is =
       value = is;
       place = place_is l w m s i r v.size h v.plain.has.listed field;
       ends = place_ends l w m s i r v.size h v.plain.has.listed field;
+      addend = λ some. signed_fits w64 r.addend (holds_at AddendFits s.relocations i r v.plain.has.listed h.addends);
       asked = λ relative movable k named absolute. asked (record {
         movable = movable;
         symbol = k;
@@ -160,10 +164,13 @@ carried_value l s i r v t =
     let b = branch_is l.machine r.number v.field.row v.field.known t in
     sym v.fits.value ∙ (stub_row v.field.row b.carries.whole b.kind).value
 
+other_kind : {P : Type 0} (k : RelocationKind) → k ≡ kinds.Relative → k ≡ kinds.PltRelative → P
+other_kind k a b = (let both : kinds.Relative ≡ kinds.PltRelative = sym a ∙ b in cc)
+
 gives_carried : (l : Layout) (w : World) (m : Memory) (s : Item) (i : ℕ) (r : InputRelocation) (x : ℕ) → IsItemLoaded l w m s → (v : IsValue l s i r) → IsFollowed l r (value_by_row v.field.row) → HasTerm l w m s r v.field.row x → IsCarried l s r v.field.row x v.value → IsSeenValue l w m s i r v
 gives_carried l w m s i r x h v follow there c =
     let b = branch_is l.machine r.number v.field.row v.field.known c.thunkable in
-    let g = subst (λ (n : ℕ). Gives StubDistance l w m s r n) c.distance (h.kinds.thunk v.field.row b.carries l w m s r x c.thunk b.on there h.thunks follow c.far c.found c.alone) in
+    let g = subst (λ (n : ℕ). Gives StubDistance l w m s r n) c.distance (h.kinds.thunk v.field.row b.carries l w m s r x c.thunk b.on there h.thunks (λ k. other_kind v.field.row.kind k b.kind) follow c.far c.found c.alone) in
     record { value = v.value; gives = subst (λ (q : Value). Gives q l w m s r v.value) (sym (carried_value l s i r v c.thunkable)) g; seen = inl refl }
 
 gives_value : (l : Layout) (w : World) (m : Memory) (s : Item) (i : ℕ) (r : InputRelocation) → IsItemLoaded l w m s → IsAsked l w s r → (v : IsValue l s i r) → (IsLinkedAlone l s r → ⊥) → IsSeenValue l w m s i r v
@@ -184,7 +191,7 @@ gives_address l w m s i r h a alone =
     let listed = holds_at (NamesSymbol l) s.relocations i r a.plain.has.listed h.symbols in
     let value : SymbolAddress ≡ a.fits.formula.value = sym (a.fits.full a.moved.by.kind a.moved.by.width).0 in
     let f = followed l w m s r a.fits.formula h.placed listed a.fits.known (λ k named left. not_left l s r a.moved.row k treatments.BaseRelative a.fits h.room a.moved.treated (λ e. cc) (λ e. cc) (λ e. cc) a.moved.known named left) (λ k named whose. own_goes l s i r _ k a.plain.own a.plain.has.listed (within l w m s i r (ByteSize Eight) h a.plain.has.listed (moved_has l s r a.value a.packed a.moved)) h.placed.symbols (listed k named) named whose) alone in
-    subst (λ (q : Value). Gives q l w m s r ((a.value + w.base) % 2 ^ 64)) value (h.kinds.address l w m s r a.value a.packed h.placed listed a.plain.own.made (subst (λ (q : Value). IsFollowed l r q) (sym value) f))
+    subst (λ (q : Value). Gives q l w m s r ((a.value + w.base) % 2 ^ 64)) value (h.kinds.address l w m s r a.value a.packed h.placed listed (holds_at AddendFits s.relocations i r a.plain.has.listed h.addends) a.plain.own.made (subst (λ (q : Value). IsFollowed l r q) (sym value) f))
 
 -- ---- the reference
 
@@ -288,8 +295,8 @@ no_address term.Table u none = refl
 no_address term.Size u none = refl
 no_address term.Nothing u none = refl
 
-links_by : (l : Layout) (w : World) (m : Memory) (s : Item) (r : InputRelocation) (info : RelocationKindInfo) (x i : ℕ) → LinkedLaws → writes (expression_of info.kind).class ≡ true → HasTerm l w m s r info x → w.base ≡ 0 → r.symbol ≡ Some i → (IsStubbed l i → ⊥) ⊎ TakesOffset (value_by_row info) → TakesOffset (value_by_row info) ⊎ TakesAddress (value_by_row info) → GivesLinked (value_by_row info) l w s r x
-links_by l w m s r info x i laws v h zero named alone t = by_term (expression_of info.kind).term refl
+links_by : (l : Layout) (w : World) (m : Memory) (s : Item) (r : InputRelocation) (info : RelocationKindInfo) (x i : ℕ) → LinkedLaws → writes (expression_of info.kind).class ≡ true → HasTerm l w m s r info x → w.base ≡ 0 → r.symbol ≡ Some i → IsReplaceable l i true → (IsStubbed l i → ⊥) ⊎ TakesOffset (value_by_row info) → TakesOffset (value_by_row info) ⊎ TakesAddress (value_by_row info) → GivesLinked (value_by_row info) l w s r x
+links_by l w m s r info x i laws v h zero named whose alone t = by_term (expression_of info.kind).term refl
   where
     -- the value of another term takes neither
     none_of : (u : Term) → takes_symbol u ≡ false → (expression_of info.kind).term ≡ u → ⊥
@@ -299,9 +306,9 @@ links_by l w m s r info x i laws v h zero named alone t = by_term (expression_of
         none_taken u less none (subst (λ (q : Value). TakesOffset q ⊎ TakesAddress q) is t)
 
     by_term : (u : Term) → (expression_of info.kind).term ≡ u → GivesLinked (value_by_row info) l w s r x
-    by_term term.Symbol e = laws.symbol info e v l w m s r x i h zero named alone
-    by_term term.PointerOffset e = laws.pointer info e v l w m s r x i h zero named alone
-    by_term term.ModuleOffset e = laws.own info e v l w m s r x i h zero named alone
+    by_term term.Symbol e = laws.symbol info e v l w m s r x i h zero named whose alone
+    by_term term.PointerOffset e = laws.pointer info e v l w m s r x i h zero named whose alone
+    by_term term.ModuleOffset e = laws.own info e v l w m s r x i h zero named whose alone
     by_term term.Stub e = absurd (none_of term.Stub refl e)
     by_term (term.Slot sort) e = absurd (none_of (term.Slot sort) refl e)
     by_term term.Table e = absurd (none_of term.Table refl e)
@@ -330,8 +337,8 @@ value_links l w m s i r h a zero v = by_what v.field.comes
     takes = takes_by l s a.symbol v.fits.formula (value_by_row v.field.row) v.fits.value t
 
     by_seen : HasTerm l w m s r v.field.row v.value → IsSeen l.machine v.field.row.kind v.fits.formula.form → GivesLinked (value_by_row v.field.row) l w s r v.value
-    by_seen there (inl whole) = links_by l w m s r v.field.row v.value a.symbol h.linked whole there zero a.named alone takes
-    by_seen there (inr p) = h.linked.part v.field.row p.part l w m s r v.value a.symbol there zero a.named alone takes
+    by_seen there (inl whole) = links_by l w m s r v.field.row v.value a.symbol h.linked whole there zero a.named a.replaceable alone takes
+    by_seen there (inr p) = h.linked.part v.field.row p.part l w m s r v.value a.symbol there zero a.named a.replaceable alone takes
 
     by_what : ComesTo l s r v.field.row (value_in l v.field.row v.field.term r.addend (place_of s.address r)) v.value → FieldIsLinked l w m s r
     by_what (inl same) = record {
@@ -361,7 +368,7 @@ address_links l w m s i r h a zero v =
       formula = v.fits.formula;
       known = known;
       value = x;
-      gives = subst (λ (q : Value). GivesLinked q l w s r x) value (h.linked.address l w m s r v.value a.symbol v.packed h.placed listed v.plain.own.made zero a.named bare);
+      gives = subst (λ (q : Value). GivesLinked q l w s r x) value (h.linked.address l w m s r v.value a.symbol v.packed h.placed listed v.plain.own.made zero a.named a.replaceable bare);
       field = address_reads l w m s i r h v;
     }
 

@@ -1,6 +1,6 @@
 -- What S and L are in a reference, on either machine.
-use Rattle.std.proofs.Common.{◌≡◌, ℕ, ◌+◌, ◌%◌, ◌^◌, ◌⊎◌, inl, inr, Bool, true, false, Option, Some, None, refl, sym, ap, ◌∙◌, arith, subst}
-use Rattle.std.specs.Prelude.{Ok, not, ◌&&◌, if◌then◌else◌}
+use Rattle.std.proofs.Common.{◌≡◌, ℕ, ◌+◌, ◌%◌, ◌^◌, ◌⊎◌, inl, inr, Bool, true, false, Option, Some, None, refl, sym, ap, ◌∙◌, arith, subst, List, ◌<◌}
+use Rattle.std.specs.Prelude.{Ok, not, ◌&&◌, if◌then◌else◌, All}
 use Rattle.std.proofs.lemmas.Bool.{cases_Bool, and_parts, not-true}
 use Rattle.wild_words.proofs.Basics.{slice_get_inside}
 use Rattle.wild_types.specs.declared.kind.Machine.{Machine}
@@ -23,9 +23,9 @@ use Rattle.wild_reloc.specs.declared.info.PageMask.TheVariants as masks
 use Rattle.wild_reloc.specs.declared.info.RelocationSize.{RelocationSize}
 use Rattle.wild_reloc.specs.declared.info.RelocationSize.TheVariants.{ByteSize, BitMasking}
 use Rattle.wild_reloc.specs.declared.info.RelocationKindInfo.{RelocationKindInfo}
-use Rattle.wild_layout.specs.Geometry.{NamesSymbol}
+use Rattle.wild_layout.specs.Geometry.{NamesSymbol, DefinitionNames}
 use Rattle.wild_layout.specs.SlotValues.{address_of}
-use Rattle.wild_layout.specs.Values.{term_value, term_of, is_absent, is_place, is_symbol, is_own_place, undefined_weak_target}
+use Rattle.wild_layout.specs.Values.{term_value, term_of, is_absent, is_place, is_symbol, is_own_place, undefined_weak_target, term_by}
 use Rattle.wild_loader.specs.declared.world.World.{World}
 use Rattle.wild_loader.specs.declared.memory.Memory.{Memory}
 use Rattle.wild_types.specs.Item.{Item}
@@ -33,13 +33,18 @@ use Rattle.wild_meaning.specs.Item.{place_at}
 use Rattle.wild_meaning.specs.Value.{IsAbsolute, IsReplaceable, HasFlag, HasOwnValue, moved}
 use Rattle.wild_meaning.specs.Denotes.{Denotes}
 use Rattle.wild_meaning.specs.ReferentAArch64.{IsAbsent, own_place, IsOneAddress, StandsOnAArch64}
-use Rattle.wild_meaning.specs.Formula.{IsTarget, IsPlaceRelative, TakesOwnPlace, IsReferentOnAArch64, IsReferent, IsOwnTarget, IsOwnReferentOnAArch64, IsOwnReferent, TakesAddress, TakesOffset}
+use Rattle.wild_meaning.specs.Formula.{IsTarget, IsPlaceRelative, TakesOwnPlace, IsReferentOnAArch64, IsReferent, IsOwnTarget, IsOwnReferentOnAArch64, IsOwnReferent, TakesAddress, TakesOffset, TakesString}
 use Rattle.wild_meaning.specs.Reference.{IsStubbed}
 use Rattle.wild_geometry.proofs.JudgedLemmas.{flag_is}
 use Rattle.wild_references.specs.Terms.{IsPlaced, page_mask, is_mask, is_table, is_expressed, value_by_row, HasTerm, IsFollowed}
 use Rattle.wild_references.proofs.StubCode.{StubLaws}
 use Rattle.wild_references.proofs.Symbols.{flag_at}
 use Rattle.wild_references.proofs.Targets.{Follows, addressed, one_addressed, linked}
+use Rattle.wild_references.proofs.MergedStrings.{names_none, plain_address, string_found, string_named, strings_move, absent_none, replaceable_none, IsFor, OfStrings, OfSymbol, address_is_for}
+use Rattle.wild_layout.specs.Merged.{merged_strings, address_for}
+use Rattle.wild_meaning.specs.Strings.{NamesStrings}
+use Rattle.std.specs.Int.{w64, cast_unsigned}
+use Rattle.wild_types.specs.declared.input.MergedString.{MergedString}
 
 -- ---- masks
 
@@ -133,18 +138,18 @@ own_at w s r e = place_sum w.base (place_of s.address r) (if is_listed r.number 
 
 pub own_referent : (v : Value) (l : Layout) (w : World) (m : Memory) (s : Item) (r : InputRelocation) (i : ℕ) → l.machine ≡ machine.AArch64 → r.symbol ≡ Some i → TakesOwnPlace v l i → IsReferent l.machine v l w m s r (own_place w s r)
 own_referent v l w m s r i on named takes =
-    subst (λ (k : Machine). IsReferent k v l w m s r (own_place w s r)) (sym on) (subst (λ (o : Option ℕ). IsReferentOnAArch64 v l w m s r o (own_place w s r)) (sym named) (inl (takes, refl)))
+    subst (λ (k : Machine). IsReferent k v l w m s r (own_place w s r)) (sym on) (inr ((λ t. absent_none l r i named takes.1 t.1), subst (λ (o : Option ℕ). IsReferentOnAArch64 v l w m s r o (own_place w s r)) (sym named) (inl (takes, refl))))
 
-pub referent : (v : Value) (l : Layout) (w : World) (m : Memory) (s : Item) (r : InputRelocation) (a : ℕ) → IsTarget l w m r.symbol a → ((i : ℕ) → r.symbol ≡ Some i → l.machine ≡ machine.AArch64 → (TakesOwnPlace v l i → ⊥) × StandsOnAArch64 v l w m r i a) → IsReferent l.machine v l w m s r a
-referent v l w m s r a target stands = by_machine l.machine refl
+pub referent : (v : Value) (l : Layout) (w : World) (m : Memory) (s : Item) (r : InputRelocation) (a : ℕ) → (TakesString v l r → ⊥) → IsTarget l w m r.symbol a → ((i : ℕ) → r.symbol ≡ Some i → l.machine ≡ machine.AArch64 → (TakesOwnPlace v l i → ⊥) × StandsOnAArch64 v l w m r i a) → IsReferent l.machine v l w m s r a
+referent v l w m s r a none target stands = by_machine l.machine refl
   where
     by_symbol : (o : Option ℕ) → r.symbol ≡ o → l.machine ≡ machine.AArch64 → IsTarget l w m o a → IsReferentOnAArch64 v l w m s r o a
     by_symbol None e on t = t
     by_symbol (Some i) e on t = inr (stands i e on)
 
     by_machine : (k : Machine) → l.machine ≡ k → IsReferent k v l w m s r a
-    by_machine machine.X86_64 e = target
-    by_machine machine.AArch64 e = by_symbol r.symbol refl e target
+    by_machine machine.X86_64 e = inr (none, target)
+    by_machine machine.AArch64 e = inr (none, by_symbol r.symbol refl e target)
 
 -- the same with the output's own symbol
 pub own_place_referent : (v : Value) (l : Layout) (w : World) (s : Item) (r : InputRelocation) (i : ℕ) → l.machine ≡ machine.AArch64 → r.symbol ≡ Some i → TakesOwnPlace v l i → IsOwnReferent l.machine v l w s r (own_place w s r)
@@ -237,8 +242,19 @@ follows l r v takes f i named = by_case (f i named)
     by_case (inr (inr stubbed)) = inr stubbed.1
 
 -- what the writer takes for S
-symbol_term : (l : Layout) (r : InputRelocation) (info : RelocationKindInfo) → (expression_of info.kind).term ≡ term.Symbol → term_of l r.symbol info.kind ≡ address_of l r.symbol
-symbol_term l r info e = ap (λ (t : Term). term_value l r.symbol t) e
+pub symbol_term : (l : Layout) (r : InputRelocation) (info : RelocationKindInfo) → (expression_of info.kind).term ≡ term.Symbol → term_by l r (expression_of info.kind).term ≡ address_for l r
+symbol_term l r info e = ap (λ (t : Term). term_by l r t) e
+
+-- of strings that were merged
+string_refers : (v : Value) (l : Layout) (w : World) (m : Memory) (s : Item) (r : InputRelocation) (i a : ℕ) (strings : List MergedString) → All (DefinitionNames l) l.symbols → TakesAddress v → r.symbol ≡ Some i → merged_strings l i ≡ Some strings → cast_unsigned w64 r.addend < 2 ^ 64 → address_for l r ≡ Ok a → Refers v l w m s r a
+string_refers v l w m s r i a strings named takes symbol is small given =
+    let found = string_found l w r i a strings named symbol is small given in
+    record {
+      still = false;
+      referent = inl ((takes, string_named l w r ((w.base + a) % 2 ^ 64) found), found);
+      flag = λ none j e. strings_move l w r ((w.base + a) % 2 ^ 64) found j e;
+      absolute = λ j e t. cc;
+    }
 
 pub refers : StubLaws → (l : Layout) (w : World) (m : Memory) (s : Item) (r : InputRelocation) (info : RelocationKindInfo) (x : ℕ) → (h : HasTerm l w m s r info x) → (expression_of info.kind).term ≡ term.Symbol → TakesAddress (value_by_row info) → IsFollowed l r (value_by_row info) → Refers (value_by_row info) l w m s r h.term
 refers law l w m s r info x h symbol takes f = by_own (is_own_place l.machine l r info) refl h.given
@@ -246,7 +262,21 @@ refers law l w m s r info x h symbol takes f = by_own (is_own_place l.machine l 
     v : Value
     v = value_by_row info
 
-    by_own : (b : Bool) → is_own_place l.machine l r info ≡ b → (if b then Ok (undefined_weak_target r.number (place_of s.address r)) else term_of l r.symbol info.kind) ≡ Ok h.term → Refers v l w m s r h.term
+    by_for : is_own_place l.machine l r info ≡ false → address_for l r ≡ Ok h.term → IsFor l r h.term → Refers v l w m s r h.term
+    by_for e there (OfStrings i strings named is some) = string_refers v l w m s r i h.term strings h.placed.symbols.named takes named is (h.addend some) there
+    by_for e there (OfSymbol none given) =
+        let t = addressed law l w m r.symbol h.term h.placed (follows l r v takes f) given in
+        let target = moved t.still w.base h.term in
+        let one : (i : ℕ) → r.symbol ≡ Some i → IsOneAddress l w m i target = λ i named.
+        one_addressed law l w m i h.term t.still h.placed (follows l r v takes f i named) (subst (λ (o : Option ℕ). address_of l o ≡ Ok h.term) named given) (t.flag i named) (subst (λ (o : Option ℕ). IsTarget l w m o target) named t.denoted) in
+        record {
+          still = t.still;
+          referent = referent v l w m s r target (λ t. names_none l r none t.1) t.denoted (λ i named on. (no_own_place l w m s r info x i h symbol named e on, stands_as v l w m r i target takes (one i named)));
+          flag = λ none i named. t.flag i named;
+          absolute = t.absolute;
+        }
+
+    by_own : (b : Bool) → is_own_place l.machine l r info ≡ b → (if b then Ok (undefined_weak_target r.number (place_of s.address r)) else term_by l r (expression_of info.kind).term) ≡ Ok h.term → Refers v l w m s r h.term
     by_own true e g =
         let o = own_parts l.machine l r info e in
         let n = named_absent l r.symbol o.absent in
@@ -260,27 +290,16 @@ refers law l w m s r info x h symbol takes f = by_own (is_own_place l.machine l 
           flag = λ none i e. absurd (none relative);
           absolute = λ i e t. cc;
         }
-    by_own false e g =
-        let given : address_of l r.symbol ≡ Ok h.term = sym (symbol_term l r info symbol) ∙ g in
-        let t = addressed law l w m r.symbol h.term h.placed (follows l r v takes f) given in
-        let target = moved t.still w.base h.term in
-        let one : (i : ℕ) → r.symbol ≡ Some i → IsOneAddress l w m i target = λ i named.
-        one_addressed law l w m i h.term t.still h.placed (follows l r v takes f i named) (subst (λ (o : Option ℕ). address_of l o ≡ Ok h.term) named given) (t.flag i named) (subst (λ (o : Option ℕ). IsTarget l w m o target) named t.denoted) in
-        record {
-          still = t.still;
-          referent = referent v l w m s r target t.denoted (λ i named on. (no_own_place l w m s r info x i h symbol named e on, stands_as v l w m r i target takes (one i named)));
-          flag = λ none i named. t.flag i named;
-          absolute = t.absolute;
-        }
+    by_own false e g = (let given : address_for l r ≡ Ok h.term = sym (symbol_term l r info symbol) ∙ g in by_for e given (address_is_for l r h.term given))
 
 -- with the output's own symbol
-pub own_refers : StubLaws → (l : Layout) (w : World) (m : Memory) (s : Item) (r : InputRelocation) (info : RelocationKindInfo) (x i : ℕ) → (h : HasTerm l w m s r info x) → (expression_of info.kind).term ≡ term.Symbol → r.symbol ≡ Some i → (IsStubbed l i → ⊥) → OwnRefers (value_by_row info) l w s r h.term
-own_refers law l w m s r info x i h symbol named alone = by_own (is_own_place l.machine l r info) refl h.given
+pub own_refers : StubLaws → (l : Layout) (w : World) (m : Memory) (s : Item) (r : InputRelocation) (info : RelocationKindInfo) (x i : ℕ) → (h : HasTerm l w m s r info x) → (expression_of info.kind).term ≡ term.Symbol → r.symbol ≡ Some i → IsReplaceable l i true → (IsStubbed l i → ⊥) → OwnRefers (value_by_row info) l w s r h.term
+own_refers law l w m s r info x i h symbol named whose alone = by_own (is_own_place l.machine l r info) refl h.given
   where
     v : Value
     v = value_by_row info
 
-    by_own : (b : Bool) → is_own_place l.machine l r info ≡ b → (if b then Ok (undefined_weak_target r.number (place_of s.address r)) else term_of l r.symbol info.kind) ≡ Ok h.term → OwnRefers v l w s r h.term
+    by_own : (b : Bool) → is_own_place l.machine l r info ≡ b → (if b then Ok (undefined_weak_target r.number (place_of s.address r)) else term_by l r (expression_of info.kind).term) ≡ Ok h.term → OwnRefers v l w s r h.term
     by_own true e g =
         let o = own_parts l.machine l r info e in
         let n = named_absent l r.symbol o.absent in
@@ -290,13 +309,13 @@ own_refers law l w m s r info x i h symbol named alone = by_own (is_own_place l.
         let at = own_at w s r h.place ∙ ap (λ (n : ℕ). (w.base + n) % 2 ^ 64) term in
         record { still = false; referent = subst (λ (n : ℕ). IsOwnReferent l.machine v l w s r n) at (own_place_referent v l w s r n.0 o.on n.1 (relative, a)) }
     by_own false e g =
-        let given : address_of l (Some i) ≡ Ok h.term = subst (λ (o : Option ℕ). address_of l o ≡ Ok h.term) named (sym (symbol_term l r info symbol) ∙ g) in
+        let given : address_of l (Some i) ≡ Ok h.term = subst (λ (o : Option ℕ). address_of l o ≡ Ok h.term) named (sym (plain_address l r (replaceable_none l r i h.placed.symbols.named named whose)) ∙ (sym (symbol_term l r info symbol) ∙ g)) in
         let t = linked law l w m i h.term h.placed alone given in
         record { still = t.still; referent = own_symbol_referent v l w s r i (moved t.still w.base h.term) named (no_own_place l w m s r info x i h symbol named e) t.value }
 
 -- of an expression that is S + A itself no place is taken
-pub address_referent : (l : Layout) (w : World) (m : Memory) (s : Item) (r : InputRelocation) (a : ℕ) → IsTarget l w m r.symbol a → IsReferent l.machine SymbolAddress l w m s r a
-address_referent l w m s r a t = referent SymbolAddress l w m s r a t (λ i named on. (λ own. own.0, subst (λ (o : Option ℕ). IsTarget l w m o a) named t))
+pub address_referent : (l : Layout) (w : World) (m : Memory) (s : Item) (r : InputRelocation) (a : ℕ) → (NamesStrings l r → ⊥) → IsTarget l w m r.symbol a → IsReferent l.machine SymbolAddress l w m s r a
+address_referent l w m s r a none t = referent SymbolAddress l w m s r a (λ u. none u.1) t (λ i named on. (λ own. own.0, subst (λ (o : Option ℕ). IsTarget l w m o a) named t))
 
 pub own_address_referent : (l : Layout) (w : World) (s : Item) (r : InputRelocation) (i a : ℕ) → r.symbol ≡ Some i → HasOwnValue l w i a → IsOwnReferent l.machine SymbolAddress l w s r a
 own_address_referent l w s r i a named value = own_symbol_referent SymbolAddress l w s r i a named (λ on own. own.0) value

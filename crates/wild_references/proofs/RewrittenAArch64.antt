@@ -73,6 +73,6 @@ word_holds laws l w m s g i r row v has = by t.word.sequence refl t.there t.judg
     t = run_of_word laws.alone l s i r row v g.on g.decided has
 
     by : (q : Sequence) → t.word.sequence ≡ q → (c : IsRunThere l s i r row q t.word.word) → IsJudgedRun l s r q c.start c.index → HoldsRewritten l w m s r
-    by DescriptorCall e c j = call_holds laws.together laws.keeps laws.pointer l w m s i r row g t.word e c j (words_are_written l s t.word.symbol g.on g.decided)
-    by OffsetSlot e c j = slot_holds laws.together laws.keeps laws.pointer l w m s i r row g t.word e c j (words_are_written l s t.word.symbol g.on g.decided)
-    by Address e c j = near_holds laws.stubs laws.together laws.keeps l w m s i r row g t.word e c j (words_are_written l s t.word.symbol g.on g.decided)
+    by DescriptorCall e c j = call_holds laws.together laws.keeps laws.pointer l w m s i r row g t.word e c j (words_are_written l s t.word.symbol g.on t.word.plain g.decided)
+    by OffsetSlot e c j = slot_holds laws.together laws.keeps laws.pointer l w m s i r row g t.word e c j (words_are_written l s t.word.symbol g.on t.word.plain g.decided)
+    by Address e c j = near_holds laws.stubs laws.together laws.keeps l w m s i r row g t.word e c j (words_are_written l s t.word.symbol g.on t.word.plain g.decided)

@@ -10,15 +10,17 @@ use Rattle.wild_types.specs.Item.{Item}
 use Rattle.wild_types.specs.declared.layout.Layout.{Layout}
 use Rattle.wild_relax.specs.declared.reference.UnknownSequence.{UnknownSequence}
 use Rattle.wild_relax.specs.declared.row.Row.{Row}
-use Rattle.wild_relax.specs.RewriteX86_64.{rewrite_of}
+use Rattle.wild_relax.specs.RewriteX86_64.{rewrite_of, info_by}
 use Rattle.wild_relax.specs.Rows.{chosen_x86_64}
 use Rattle.wild_layout.specs.declared.decision.Decision.{Decision}
 use Rattle.wild_layout.specs.declared.decision.Decision.TheVariants.{Rewritten}
 use Rattle.wild_relax.specs.Rewrite.{is_skip}
-use Rattle.wild_layout.specs.Choice.{question_of, choice_by, choice_of, choice_on, takes_next, is_partner}
+use Rattle.wild_layout.specs.Choice.{question_of, choice_by, choice_of, choice_on, takes_next, is_partner, is_thread_type}
 use Rattle.wild_layout.specs.Decide.{decide_with, decide}
 use Rattle.wild_layout.proofs.ChoiceLemmas.{choice_is as first_choice}
 use Rattle.wild_layout.proofs.DecisionLemmas.{refused}
+use Rattle.wild_layout.specs.Merged.{names_merged}
+use Rattle.wild_relax.specs.declared.row.Written.TheVariants as written
 
 -- ---- decisions
 
@@ -44,9 +46,14 @@ not_refused l s r e d h = refused l s r e d h
 -- ---- the choice
 
 -- the choice of a relocation of another type than R_X86_64_PC32
-pub choice_is : (l : Layout) (s : Item) (r : InputRelocation) (next : Option InputRelocation) (k : ℕ) → r.symbol ≡ Some k → (r.number == r_x86_64_pc32) ≡ false → choice_of l s r next ≡ chosen_x86_64 (question_of l s r k next)
+pub choice_is : (l : Layout) (s : Item) (r : InputRelocation) (next : Option InputRelocation) (k : ℕ) → r.symbol ≡ Some k → (r.number == r_x86_64_pc32) ≡ false → names_merged l (Some k) ≡ false → choice_of l s r next ≡ chosen_x86_64 (question_of l s r k next)
 unfolding choice_by
-choice_is l s r next k named other = rw (named, other) refl
+choice_is l s r next k named other plain = rw (named, other, plain) refl
+
+-- of thread-local storage none is where strings were merged
+pub choice_refused : (l : Layout) (s : Item) (r : InputRelocation) (next : Option InputRelocation) (k : ℕ) → r.symbol ≡ Some k → (r.number == r_x86_64_pc32) ≡ false → names_merged l (Some k) ≡ true → is_thread_type r.number ≡ true → (e : UnknownSequence) × (choice_of l s r next ≡ Err e)
+unfolding choice_by
+choice_refused l s r next k named other merged thread = (record { number = r.number; written = info_by written.Nothing }, rw (named, other, merged, thread) refl)
 
 -- a relocation whose row writes a sequence takes the next one along
 pub takes_along : (l : Layout) (s : Item) (j : ℕ) (r : InputRelocation) (row : Row) → l.machine ≡ machine.X86_64 → slice_get s.relocations j ≡ Some r → choice_of l s r (slice_get s.relocations (j + 1)) ≡ Ok (Some row) → is_skip (rewrite_of row).next ≡ true → is_partner l s (j + 1) ≡ true

@@ -20,11 +20,12 @@ use Rattle.wild_relax.specs.RowSequences.{is_call_number, call_form, has_its_seq
 use Rattle.wild_relax.specs.Rows.{rows_x86_64, applies, unknown_sequence, standing_x86_64, chosen_x86_64}
 use Rattle.wild_relax.specs.Rewrite.{is_skip}
 use Rattle.wild_relax.specs.RewriteX86_64.{rewrite_of}
-use Rattle.wild_layout.specs.Choice.{question_of, choice_of, is_partner}
+use Rattle.wild_layout.specs.Choice.{question_of, choice_of, is_partner, is_thread_type}
 use Rattle.wild_layout.specs.Decide.{decide_with}
 use Rattle.wild_layout.proofs.ChoiceLemmas.{choice_row, chosen_listed, IsSequence, partner_is_taken, partner_number}
 use Rattle.wild_geometry.specs.Loaded.{IsDecided}
-use Rattle.wild_references.proofs.RewrittenDecisions.{choice_is, takes_along, decided_with, not_refused}
+use Rattle.wild_references.proofs.RewrittenDecisions.{choice_is, takes_along, decided_with, not_refused, choice_refused}
+use Rattle.wild_layout.specs.Merged.{names_merged}
 
 -- ---- where a row stands, a first one does
 
@@ -103,19 +104,33 @@ takes_call l s j k r w n x86 decided listed named h lt e stands =
     let next = slice_get s.relocations (j + 1) in
     let q = question_of l s r k next in
     let x = standing_there q w n lt e stands in
-    let choice = choice_is l s r next k named (other_type r.number h) in
-    elim (chosen_or_not q x.0 x.1) [
-      | inl chosen ↦
-          (let is : choice_of l s r next ≡ Ok (Some x.0) = choice ∙ chosen in
-          let c = choice_row l s r next x.0 x86 is in
-          let number : is_first x.0.number ≡ true = subst (λ (y : ℕ). is_first y ≡ true) c.number h in
-          takes_along l s j r x.0 x86 listed is (implied _ _ (chosen_listed l s r next x.0 c takes_it each_takes) number))
-      | inr none ↦
-          (let d = decided.each j (slice_get_within s.relocations j r listed) in
-          let made = decided_with l s j r d.0 x86 listed (first_alone l s j r listed h) d.1 in
-          absurd (not_refused l s r none.0 d.0 (subst (λ (y : Result (Option Row) UnknownSequence). decide_with l s r y ≡ Ok d.0) (choice ∙ none.1) made)))
+    let d = decided.each j (slice_get_within s.relocations j r listed) in
+    let made = decided_with l s j r d.0 x86 listed (first_alone l s j r listed h) d.1 in
+    elim (cases_Bool (names_merged l (Some k))) [
+      | inl merged ↦
+          (let e = choice_refused l s r next k named (other_type r.number h) merged (first_thread r.number h) in
+          absurd (not_refused l s r e.0 d.0 (subst (λ (y : Result (Option Row) UnknownSequence). decide_with l s r y ≡ Ok d.0) e.1 made)))
+      | inr plain ↦
+          (let choice = choice_is l s r next k named (other_type r.number h) plain in
+          elim (chosen_or_not q x.0 x.1) [
+            | inl chosen ↦
+                (let is : choice_of l s r next ≡ Ok (Some x.0) = choice ∙ chosen in
+                let c = choice_row l s r next x.0 x86 is in
+                let number : is_first x.0.number ≡ true = subst (λ (y : ℕ). is_first y ≡ true) c.number h in
+                takes_along l s j r x.0 x86 listed is (implied _ _ (chosen_listed l s r next x.0 c takes_it each_takes) number))
+            | inr none ↦
+                absurd (not_refused l s r none.0 d.0 (subst (λ (y : Result (Option Row) UnknownSequence). decide_with l s r y ≡ Ok d.0) (choice ∙ none.1) made))
+          ])
     ]
   where
+    first_thread : (m : ℕ) → is_first m ≡ true → is_thread_type m ≡ true
+    first_thread m h = by_tests (m == abi.r_x86_64_tlsgd) (m == abi.r_x86_64_tlsld) (m == abi.r_x86_64_gotpc32_tlsdesc || (m == abi.r_x86_64_code_4_gotpc32_tlsdesc || m == abi.r_x86_64_tlsdesc_call)) h
+      where
+        by_tests : (a b c : Bool) → (a || b) ≡ true → (a || (b || c)) ≡ true
+        by_tests true b c h = refl
+        by_tests false true c h = refl
+        by_tests false false c h = cc
+
     other_type : (m : ℕ) → is_first m ≡ true → (m == abi.r_x86_64_pc32) ≡ false
     other_type m h =
         elim (cases_Bool (m == abi.r_x86_64_pc32)) [

@@ -58,6 +58,11 @@ use Rattle.wild_references.proofs.RunsAArch64.{RunDoes}
 use Rattle.wild_references.proofs.WordsAArch64.{IsWordThere, AreWordsThere, by_words}
 use Rattle.wild_references.proofs.RewrittenCode.{run_done, words_of-front, no_slot, IsDone}
 use Rattle.wild_references.proofs.RewrittenOffsets.{IsWrittenWord, IsWrittenPair, WritesWord, word_there, word_small, word_same, written_long}
+use Rattle.wild_layout.specs.Merged.{names_merged, address_for}
+use Rattle.wild_layout.proofs.MergedLemmas.{address_plain}
+use Rattle.wild_meaning.specs.Strings.{NamesStrings}
+use Rattle.wild_layout.proofs.DecisionLemmas.{rewritten_aarch64}
+use Rattle.wild_references.proofs.MergedStrings.{names_none}
 
 abbrev near_info : RelocationKindInfo
 near_info = field_row kinds.Relative (adr 0 21) (signed 21) 1
@@ -89,11 +94,11 @@ at_symbol : (j : Machine) (l : Layout) (p : InputRelocation) (o : Result ℕ Fau
 at_symbol machine.X86_64 l p o at t present h = h
 at_symbol machine.AArch64 l p o at t present h = rw present at h
 
-near_value : (l : Layout) (s : Item) (i : ℕ) (p : InputRelocation) (v : ℕ) → is_absent l p.symbol ≡ false → IsWrittenWord l s i p ADDRESS_SECOND v → IsNearValue l s p v
-near_value l s i p v present w =
+near_value : (l : Layout) (s : Item) (i : ℕ) (p : InputRelocation) (v : ℕ) → is_absent l p.symbol ≡ false → names_merged l p.symbol ≡ false → IsWrittenWord l s i p ADDRESS_SECOND v → IsNearValue l s p v
+near_value l s i p v present plain w =
     let given = subst (λ (f : RelocationKindInfo). term_to l p f (place_to s p ADDRESS_SECOND) ≡ Ok w.term) info_is w.given in
     let value = subst (λ (f : RelocationKindInfo). value_in l f w.term p.addend (place_to s p ADDRESS_SECOND) ≡ v) info_is w.value in
-    record { term = w.term; given = at_symbol l.machine l p (address_of l p.symbol) (place_to s p ADDRESS_SECOND) w.term present given; value = value }
+    record { term = w.term; given = sym (address_plain l p plain) ∙ at_symbol l.machine l p (address_for l p) (place_to s p ADDRESS_SECOND) w.term present given; value = value }
 
 -- a type of 21 signed bits takes it
 within_21 : (v : ℕ) → allows near_info v ≡ true → (v < 2 ^ 20) ⊎ (2 ^ 64 ≤ v + 2 ^ 20)
@@ -127,13 +132,13 @@ stands_moved stubs l w m s k term g own moves given =
     let one = one_addressed stubs l w m k term t.still p (inl own) given (t.flag k refl) t.denoted in
     subst (λ (b : Bool). IsOneAddress l w m k (moved b w.base term)) still one
 
-sum_of : (l : Layout) (w : World) (m : Memory) (s : Item) (first : InputRelocation) (k v : ℕ) → l.machine ≡ machine.AArch64 → first.symbol ≡ Some k → first.addend ≡ pos 0 → (IsAbsent l k → ⊥) → IsOneAddress l w m k v → v < 2 ^ 64 → IsSum PageDistance l w m s first v
-sum_of l w m s first k v on named none there one small =
+sum_of : (l : Layout) (w : World) (m : Memory) (s : Item) (first : InputRelocation) (k v : ℕ) → l.machine ≡ machine.AArch64 → first.symbol ≡ Some k → first.addend ≡ pos 0 → (IsAbsent l k → ⊥) → (NamesStrings l first → ⊥) → IsOneAddress l w m k v → v < 2 ^ 64 → IsSum PageDistance l w m s first v
+sum_of l w m s first k v on named none there plain one small =
     let stands : IsReferentOnAArch64 PageDistance l w m s first (Some k) v = inr ((λ own. there own.1), one) in
     let c : cast_unsigned w64 first.addend ≡ 0 = ap (λ (x : ℤ). cast_unsigned w64 x) none in
     record {
       symbol = v;
-      denoted = subst (λ (j : Machine). IsReferent j PageDistance l w m s first v) (sym on) (subst (λ (o : Option ℕ). IsReferentOnAArch64 PageDistance l w m s first o v) (sym named) stands);
+      denoted = subst (λ (j : Machine). IsReferent j PageDistance l w m s first v) (sym on) (inr ((λ t. plain t.1), subst (λ (o : Option ℕ). IsReferentOnAArch64 PageDistance l w m s first o v) (sym named) stands));
       sum = omega (arith, c, small);
     }
 
@@ -149,7 +154,7 @@ address_pair_to_near stubs keeps l w m s first start k g inside stands named own
     let second_named : t.second.symbol ≡ Some k = sym t.symbol ∙ named in
     let none : t.second.addend ≡ pos 0 = sym t.addend ∙ t.none in
     let c : cast_unsigned w64 t.second.addend ≡ 0 = ap (λ (x : ℤ). cast_unsigned w64 x) none in
-    let value = near_value l s t.place t.second t.other (present l t.second.symbol k second_named weak) t.there in
+    let value = near_value l s t.place t.second t.other (present l t.second.symbol k second_named weak) (rewritten_aarch64 l s t.place t.second ADDRESS_SECOND t.other g.on t.there.has.listed t.there.has.decided).chosen.plain t.there in
     let x = value.term in
     let given : address_of l (Some k) ≡ Ok x = subst (λ (o : Option ℕ). address_of l o ≡ Ok x) second_named value.given in
     let names = holds_at (NamesSymbol l) s.relocations t.index first t.here.has.listed lies.symbols in
@@ -184,7 +189,7 @@ address_pair_to_near stubs keeps l w m s first start k g inside stands named own
     record {
       does = record {
         value = v;
-        demands = sum_of l w m s first k v g.on named t.none (absent_no l k weak) (stands_moved stubs l w m s k x g own_symbol moves given) (omega arith);
+        demands = sum_of l w m s first k v g.on named t.none (absent_no l k weak) (names_none l first (rewritten_aarch64 l s t.index first ADDRESS_FIRST t.value g.on t.here.has.listed t.here.has.decided).chosen.plain) (stands_moved stubs l w m s k x g own_symbol moves given) (omega arith);
         code = by_words (reads_alone w m) l w m s start address_pair_words v us g.on refl inside (λ e h. h) there (done (reads_alone w m) (λ y. refl));
       };
       words = no_slot l w m s first start address_pair_words v ws us refl there (done reads_numbers (λ y. refl));

@@ -168,6 +168,7 @@ offset_of_word law l w m s i p k v at g listed named none place inside program o
       value = t.value;
       place = omega (arith, low, inside, place);
       ends = omega (arith, low, inside, place, ends);
+      addend = λ some. (let zero : cast_unsigned w64 p.addend ≡ 0 = ap (λ (x : ℤ). cast_unsigned w64 x) none in omega (arith, zero));
       asked = λ relative. absurd relative;
     } in
     let gives = law info refl refl l w m s p v there (λ j n. inl (let same : k ≡ j = (let e : Some k ≡ Some j = sym named ∙ n in cc) in subst (λ (x : ℕ). IsReplaceable l x false) same own_symbol)) in

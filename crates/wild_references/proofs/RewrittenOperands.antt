@@ -39,6 +39,7 @@ use Rattle.wild_references.proofs.RewrittenPlaces.{LawsBelow, IsPlacedRow, ended
 use Rattle.wild_references.proofs.RewrittenSymbols.{denoted_small}
 use Rattle.wild_references.proofs.RewrittenTerms.{written_as, stands_below}
 use Rattle.wild_references.proofs.RewrittenValues.{gives_distance, gives_number}
+use Rattle.wild_references.proofs.MergedStrings.{names_none}
 
 -- ---- whether the value moves
 
@@ -105,7 +106,7 @@ lands_far laws l w m s i r row v h p number same ends own plain asked =
     let c : cast_unsigned w64 ((rewrite_of row).addend r.addend) ≡ 2 ^ 64 - 4 = ap (λ (x : ℤ). cast_unsigned w64 x) same ∙ ended r.addend ends in
     record {
       operand = g.1.symbol;
-      is = operand_at l w m s p.chosen.symbol g.1.symbol r.symbol h p.chosen.named plain (referent_stands Distance l w m s (written_as row r) g.1.symbol h.on g.1.denoted);
+      is = operand_at l w m s p.chosen.symbol g.1.symbol r.symbol h p.chosen.named plain (referent_stands Distance l w m s (written_as row r) g.1.symbol h.on (λ t. names_none l (written_as row r) p.chosen.plain t.1) g.1.denoted);
       lands = distance_lands g.1.symbol g.0 (cast_unsigned w64 ((rewrite_of row).addend r.addend)) (place_at w s (written_as row r).offset) (place_at w s (template_start row r) + field_in row) v g.1.sum c g.2 below.start (omega (arith, place, high));
     }
 
@@ -118,7 +119,7 @@ pub record LandsItself (l : Layout) (w : World) (m : Memory) (r : InputRelocatio
 pub lands_itself : LawsBelow → (l : Layout) (w : World) (m : Memory) (s : Item) (i : ℕ) (r : InputRelocation) (row : Row) (v : ℕ) (sign : Sign) → IsLoadedItem machine.X86_64 l w m s → (p : IsPlacedRow l s i r row v) → p.made.written.info ≡ plain kinds.Absolute Four sign → (rewrite_of row).addend r.addend ≡ pos 0 → interposable (flags_at l p.chosen.symbol) ≡ false → has_flag (flags_at l p.chosen.symbol) ifunc ≡ false → moves l p.chosen.symbol ≡ false → LandsItself l w m r v
 lands_itself laws l w m s i r row v sign h p info none own plain_one still =
     let g = gives_number laws l w m s i r row v sign h p info own plain_one still in
-    let is = operand_at l w m s p.chosen.symbol g.symbol r.symbol h p.chosen.named plain_one (referent_stands SymbolAddress l w m s (written_as row r) g.symbol h.on g.denoted) in
+    let is = operand_at l w m s p.chosen.symbol g.symbol r.symbol h p.chosen.named plain_one (referent_stands SymbolAddress l w m s (written_as row r) g.symbol h.on (λ t. names_none l (written_as row r) p.chosen.plain t.1) g.denoted) in
     let c : cast_unsigned w64 ((rewrite_of row).addend r.addend) ≡ 0 = ap (λ (x : ℤ). cast_unsigned w64 x) none in
     let e = g.sum in
     let low = is.small in

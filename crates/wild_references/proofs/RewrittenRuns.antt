@@ -50,6 +50,7 @@ use Rattle.wild_meaning.specs.WordsAArch64.{are_filled, is_told, is_run}
 use Rattle.wild_meaning.specs.Sequence.{Instruction, descriptor_call_words, offset_pair_words, address_pair_words}
 use Rattle.wild_references.proofs.RunsAArch64.{address_run, slot_run, call_run}
 use Rattle.wild_references.proofs.WordsAArch64.{words_from}
+use Rattle.wild_layout.specs.Merged.{names_merged}
 
 -- ---- the runs
 
@@ -207,6 +208,7 @@ pub record IsRewrittenWord (l : Layout) (s : Item) (i : ℕ) (r : InputRelocatio
   pub listed : slice_get s.relocations i ≡ Some r
   pub symbol : ℕ
   pub named : r.symbol ≡ Some symbol
+  pub plain : names_merged l (Some symbol) ≡ false
   pub chosen : chosen_aarch64 (question_around l s i r symbol) ≡ Ok (Some row)
   pub sequence : Sequence
   pub word : ℕ

@@ -1,5 +1,5 @@
 -- The value in the field of a rewritten instruction, as the laws of the kinds take it.
-use Rattle.std.proofs.Common.{◌≡◌, ℕ, ◌+◌, ◌%◌, ◌^◌, ◌<◌, ◌≤◌, true, length, refl, sym, ◌∙◌, arith, subst}
+use Rattle.std.proofs.Common.{◌≡◌, ℕ, ◌+◌, ◌%◌, ◌^◌, ◌<◌, ◌≤◌, true, length, refl, sym, ◌∙◌, arith, subst, false}
 use Rattle.std.specs.Prelude.{Some, None, Ok, if◌then◌else◌}
 use Rattle.wild_types.specs.declared.kind.Machine.{Machine}
 use Rattle.wild_words.proofs.ListLemmas.{holds_at}
@@ -28,7 +28,7 @@ use Rattle.wild_relax.specs.RewriteX86_64.{rewrite_of}
 use Rattle.wild_relax.specs.Linked.{field_in}
 use Rattle.wild_layout.specs.Decide.{field_at}
 use Rattle.wild_layout.proofs.DecisionLemmas.{term_alone}
-use Rattle.wild_layout.specs.Values.{term_of, value_by, is_own_place, undefined_weak_target}
+use Rattle.wild_layout.specs.Values.{term_of, value_by, is_own_place, undefined_weak_target, term_by}
 use Rattle.wild_layout.specs.Geometry.{NamesSymbol}
 use Rattle.wild_layout.specs.Sites.{template_start}
 use Rattle.wild_layout.proofs.ChoiceLemmas.{LiesInItsPattern, chosen_lies}
@@ -44,6 +44,8 @@ use Rattle.wild_references.specs.Laws.{IsLoadedItem}
 use Rattle.wild_references.specs.Terms.{is_expressed, HasTerm}
 use Rattle.wild_references.proofs.WholeSections.{placed}
 use Rattle.wild_references.proofs.RewrittenPlaces.{IsPlacedRow}
+use Rattle.wild_layout.specs.Merged.{names_merged}
+use Rattle.wild_layout.proofs.MergedLemmas.{term_plain}
 
 -- ---- the item
 
@@ -115,9 +117,9 @@ pub info_is : (l : Layout) (w : World) (m : Memory) (s : Item) (i : ℕ) (r : In
 info_is l w m s i r row v h p = row_here l.machine (rewrite_of row).number p.made.written.info h.on p.made.written.known
 
 -- on x86-64 no place stands for a symbol
-plain_at : (m : Machine) (l : Layout) (r : InputRelocation) (info : RelocationKindInfo) (p t : ℕ) → m ≡ machine.X86_64 → term_of l r.symbol info.kind ≡ Ok t → (if is_own_place m l r info then Ok (undefined_weak_target r.number p) else term_of l r.symbol info.kind) ≡ Ok t
-plain_at machine.X86_64 l r info p t on h = h
-plain_at machine.AArch64 l r info p t on h = cc
+plain_at : (m : Machine) (l : Layout) (r : InputRelocation) (info : RelocationKindInfo) (p t : ℕ) → m ≡ machine.X86_64 → names_merged l r.symbol ≡ false → term_of l r.symbol info.kind ≡ Ok t → (if is_own_place m l r info then Ok (undefined_weak_target r.number p) else term_by l r (expression_of info.kind).term) ≡ Ok t
+plain_at machine.X86_64 l r info p t on plain h = term_plain l r (expression_of info.kind).term plain ∙ h
+plain_at machine.AArch64 l r info p t on plain h = cc
 
 -- the value, by the kind that is written
 pub has_term : (l : Layout) (w : World) (m : Memory) (s : Item) (i : ℕ) (r : InputRelocation) (row : Row) (v : ℕ) (k : RelocationKind) (n : Width) (sign : Sign) → IsLoadedItem machine.X86_64 l w m s → (p : IsPlacedRow l s i r row v) → p.made.written.info ≡ plain k n sign → ((t : ℕ) → term_alone l r (plain k n sign) ≡ Ok t → term_of l r.symbol k ≡ Ok t)
@@ -137,9 +139,10 @@ has_term l w m s i r row v k n sign h p is term treated asked =
       suited = subst (λ (j : Machine). suits j (written_as row r) (plain k n sign) ≡ true) (sym h.on) refl;
       expressed = subst (λ (j : Machine). is_expressed j (expression_of k).term (expression_of k).taken None ≡ true) (sym h.on) refl;
       term = x.term;
-      given = plain_at l.machine l (written_as row r) (plain k n sign) (place_of s.address (written_as row r)) x.term h.on (term x.term given);
+      given = plain_at l.machine l (written_as row r) (plain k n sign) (place_of s.address (written_as row r)) x.term h.on p.chosen.plain (term x.term given);
       value = value;
       place = below.place;
       ends = below.ends;
+      addend = λ some. absurd (let none = p.chosen.plain in let both : true ≡ false = sym some ∙ none in cc);
       asked = λ relative movable j named absolute. (let same : j ≡ p.chosen.symbol = (let e : Some j ≡ Some p.chosen.symbol = sym named ∙ p.chosen.named in cc) in asked relative movable (subst (λ (y : ℕ). IsAbsolute l y) same absolute));
     }

@@ -37,6 +37,7 @@ use Rattle.wild_layout.proofs.DecisionLemmas.{rewritten_aarch64}
 use Rattle.wild_geometry.specs.Loaded.{IsDecided, HasDecision}
 use Rattle.wild_references.proofs.RewrittenRuns.{IsRewrittenWord, is_word}
 use Rattle.wild_references.proofs.RewrittenOffsets.{IsWrittenWord}
+use Rattle.wild_layout.specs.Merged.{names_merged}
 
 -- ---- the decision
 
@@ -70,18 +71,18 @@ word_written l s i r row d on listed chosen changes alone h = by_term (term_to l
     by_term (Err f) given e = cc
     by_term (Ok a) given e = by_test a (value_in l (info_written row) a ((rewrite_of row).addend r.addend) (place_to s r row)) (allows (info_written row) (value_in l (info_written row) a ((rewrite_of row).addend r.addend) (place_to s r row))) given refl refl (rw changes at e)
 
-choice_there : (l : Layout) (s : Item) (i symbol : ℕ) (r : InputRelocation) (row : Row) → r.symbol ≡ Some symbol → chosen_aarch64 (question_around l s i r symbol) ≡ Ok (Some row) → choice_around l s i r ≡ Ok (Some row)
+choice_there : (l : Layout) (s : Item) (i symbol : ℕ) (r : InputRelocation) (row : Row) → names_merged l (Some symbol) ≡ false → r.symbol ≡ Some symbol → chosen_aarch64 (question_around l s i r symbol) ≡ Ok (Some row) → choice_around l s i r ≡ Ok (Some row)
 unfolding choice_around_by
-choice_there l s i symbol r row named h = rw named h
+choice_there l s i symbol r row plain named h = rw (named, plain) h
 
 -- where a row is chosen that changes its word, the word is written
 abbrev pub WordsAreWritten : Layout → Item → ℕ → Type 0
 WordsAreWritten l s symbol = (i : ℕ) (r : InputRelocation) (row : Row) → slice_get s.relocations i ≡ Some r → r.symbol ≡ Some symbol → chosen_aarch64 (question_around l s i r symbol) ≡ Ok (Some row) → keeps_bytes row ≡ false → (v : ℕ) × IsWrittenWord l s i r row v
 
-pub words_are_written : (l : Layout) (s : Item) (symbol : ℕ) → l.machine ≡ machine.AArch64 → IsDecided l s → WordsAreWritten l s symbol
-words_are_written l s symbol on decided i r row listed named chosen changes =
+pub words_are_written : (l : Layout) (s : Item) (symbol : ℕ) → l.machine ≡ machine.AArch64 → names_merged l (Some symbol) ≡ false → IsDecided l s → WordsAreWritten l s symbol
+words_are_written l s symbol on plain decided i r row listed named chosen changes =
     let d = decided.each i (slice_get_within s.relocations i r listed) in
-    let w = word_written l s i r row d.0 on listed (choice_there l s i symbol r row named chosen) changes (no_partner_aarch64 l s i on) d.1 in
+    let w = word_written l s i r row d.0 on listed (choice_there l s i symbol r row plain named chosen) changes (no_partner_aarch64 l s i on) d.1 in
     (w.value, w.written)
 
 -- ---- words of runs
@@ -102,7 +103,7 @@ rewritten_word l s i r row v on has =
     let w = rewritten_aarch64 l s i r row v on has.listed has.decided in
     let c = w.chosen in
     let t = among (pattern_of row) (or_other (keeps_bytes row) (is_word (pattern_of row)) (listed_passes keeps_or_word rows_aarch64 row each_is_word c.listed) w.changes) in
-    record { on = on; listed = has.listed; symbol = c.symbol; named = c.named; chosen = c.chosen; sequence = t.0; word = t.1; among = t.2 }
+    record { on = on; listed = has.listed; symbol = c.symbol; named = c.named; plain = sym (ap (λ (o : Option ℕ). names_merged l o) c.named) ∙ c.plain; chosen = c.chosen; sequence = t.0; word = t.1; among = t.2 }
 
 -- ---- the question
 

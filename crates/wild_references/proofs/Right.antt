@@ -20,14 +20,15 @@ use Rattle.wild_loader.specs.InstructionX86_64.{demand_x86_64}
 use Rattle.wild_meaning.specs.Sequence.{Sort, Target, TargetInSlot, AddressInSlot, OffsetInSlot, SymbolPair, OwnPair, Described, DescribedCall, Address, FieldBits, Instruction, size_of, instructions_of}
 use Rattle.wild_types.specs.Item.{Item}
 use Rattle.wild_meaning.specs.Item.{place_at}
-use Rattle.wild_meaning.specs.Field.{form_width}
+use Rattle.wild_meaning.specs.Field.{form_width, formula_of}
 use Rattle.wild_meaning.specs.Slot.{IsPair, IsSlot}
-use Rattle.wild_meaning.specs.Formula.{Gives, IsTarget, IsGoal, IsOffset, HasOffsetMode}
-use Rattle.wild_meaning.specs.Template.{AddsNothing, counts_from, or_none, sum_of, reads, pair_in, effect_of, demand_of, Demands, IsDemanded, old_bytes, DoesDemanded}
+use Rattle.wild_meaning.specs.Formula.{Gives, IsTarget, IsGoal, IsOffset, HasOffsetMode, IsReferent, TakesString}
+use Rattle.wild_meaning.specs.Template.{AddsNothing, counts_from, or_none, sum_of, reads, pair_in, effect_of, demand_of, Demands, IsDemanded, old_bytes, DoesDemanded, IsBranchReferent}
 use Rattle.wild_meaning.proofs.SymbolLemmas.{target_reached, referent_is, referent_stands}
 use Rattle.wild_meaning.proofs.PairLemmas.{counts_four}
 use Rattle.wild_references.proofs.Fills.{instructions_do}
 use Rattle.wild_references.proofs.Does.{IsThere, IsDisplaced, FormulaIs, WidthIs, displaced, operand_by, named_by, told_of, formula_is, displaced_by, named_is, field_place, new_bytes, is_filled, all_there, read_holds, length_read, to_slot, to_target, distance_sum}
+use Rattle.wild_meaning.proofs.StringLemmas.{branch_referent, goes_to_none}
 
 -- ---- bounds
 
@@ -95,13 +96,24 @@ reads_by w m p q v e h = ap (λ (x : Operand). reads w m x) e ∙ h
 from_end : (l : Layout) (n : ℕ) → l.machine ≡ machine.X86_64 → (n + 4) % 2 ^ 64 ≡ (n + counts_from l.machine) % 2 ^ 64
 from_end l n x = ap (λ (k : ℕ). (n + k) % 2 ^ 64) (sym (counts_four l.machine x))
 
+-- S, of a reference that takes the distance of the symbol itself
+by_distance : (l : Layout) (w : World) (m : Memory) (item : Item) (r : InputRelocation) (a : ℕ) (f : Formula) → l.machine ≡ machine.X86_64 → formula_of l.machine r.number ≡ Some f → f.value ≡ Distance → IsReferent l.machine Distance l w m item r a → IsBranchReferent l w m item r a
+by_distance l w m item r a f x86 known is (inl s) = inl (record { formula = f; known = known; takes = subst (λ (v : Value). TakesString v l r) (sym is) s.0 }, s.1)
+by_distance l w m item r a f x86 known is (inr plain) =
+    branch_referent l w m item r a (goes_to_none l r f known (λ t. plain.0 (subst (λ (v : Value). TakesString v l r) is t)))
+    (referent_is StubDistance l w m item r a x86 (λ t. t.0) (referent_stands Distance l w m item r a x86 plain.0 (inr plain)))
+
+-- L goes to no string
+by_stub : (l : Layout) (w : World) (m : Memory) (item : Item) (r : InputRelocation) (a : ℕ) (f : Formula) → formula_of l.machine r.number ≡ Some f → f.value ≡ StubDistance → IsReferent l.machine StubDistance l w m item r a → IsBranchReferent l w m item r a
+by_stub l w m item r a f known is h = branch_referent l w m item r a (goes_to_none l r f known (λ t. (subst (λ (v : Value). TakesString v l r) is t).0)) h
+
 pub right_by : (s : Sort) (l : Layout) (w : World) (m : Memory) (item : Item) (r : InputRelocation) (start : ℕ) (o : Instruction) → o.sort ≡ s → (h : IsThere l w m item r start o) → FormulaIs s h.field.formula → WidthIs s o.width → AddsNothing machine.X86_64 s r → RightBy s l w m item r (operand_of w m item start o)
 right_by Target l w m item r start o e h (inl f) width counts =
     let gives = subst (λ (x : Formula). Gives x.value l w m item r h.field.value) f h.field.gives in
     let is = distance_sum gives.1.symbol (cast_unsigned w64 r.addend) (place_at w item r.offset) gives.0 h.field.value gives.1.sum gives.2 in
     record {
       value = (gives.1.symbol + cast_unsigned w64 r.addend + 4) % 2 ^ 64;
-      demands = record { goal = gives.1.symbol; stands = referent_is StubDistance l w m item r gives.1.symbol h.x86 (referent_stands Distance l w m item r gives.1.symbol h.x86 gives.1.denoted); is = from_end l (gives.1.symbol + cast_unsigned w64 r.addend) h.x86 };
+      demands = record { goal = gives.1.symbol; stands = by_distance l w m item r gives.1.symbol h.field.formula h.x86 h.field.known (ap (λ (q : Formula). q.value) f) gives.1.denoted; is = from_end l (gives.1.symbol + cast_unsigned w64 r.addend) h.x86 };
       reads = reads_by w m _ _ _ (target_named l w m item r start o Distance gives.1.symbol e h width f is) refl;
       call = λ no. cc;
     }
@@ -109,7 +121,7 @@ right_by Target l w m item r start o e h (inr f) width counts =
     let gives = subst (λ (x : Formula). Gives x.value l w m item r h.field.value) f h.field.gives in
     record {
       value = (gives.0 + cast_unsigned w64 r.addend + 4) % 2 ^ 64;
-      demands = record { goal = gives.0; stands = gives.1; is = from_end l (gives.0 + cast_unsigned w64 r.addend) h.x86 };
+      demands = record { goal = gives.0; stands = by_stub l w m item r gives.0 h.field.formula h.field.known (ap (λ (q : Formula). q.value) f) gives.1; is = from_end l (gives.0 + cast_unsigned w64 r.addend) h.x86 };
       reads = reads_by w m _ _ _ (target_named l w m item r start o StubDistance gives.0 e h width f gives.2) refl;
       call = λ no. cc;
     }

@@ -73,8 +73,8 @@ right l w m s r f i a h asked known relative named t =
     ]
 
 -- the symbol itself is what L is
-goal_is : (v : Value) (l : Layout) (w : World) (m : Memory) (s : Item) (r : InputRelocation) (i a : ℕ) → l.machine ≡ machine.X86_64 → r.symbol ≡ Some i → (t : IsOwnValue l w i a) → IsReferent l.machine v l w m s r (moved t.still w.base a)
-goal_is v l w m s r i a x named t = referent_is v l w m s r (moved t.still w.base a) x (subst (λ (o : Option ℕ). IsTarget l w m o (moved t.still w.base a)) (sym named) (inl t.value))
+goal_is : (v : Value) (l : Layout) (w : World) (m : Memory) (s : Item) (r : InputRelocation) (i a : ℕ) → l.machine ≡ machine.X86_64 → r.symbol ≡ Some i → (TakesAddress v → ⊥) → (t : IsOwnValue l w i a) → IsReferent l.machine v l w m s r (moved t.still w.base a)
+goal_is v l w m s r i a x named none t = referent_is v l w m s r (moved t.still w.base a) x (λ u. none u.0) (subst (λ (o : Option ℕ). IsTarget l w m o (moved t.still w.base a)) (sym named) (inl t.value))
 
 flat : (x c q : ℕ) → ((x + c) % 2 ^ 64 + q) % 2 ^ 64 ≡ (x + c + q) % 2 ^ 64
 flat x c q = omega arith
@@ -85,14 +85,14 @@ gives_distance l w m s i r f symbol a z h listed field asked known value named t
     let x = moved t.still w.base a in
     let e = distance_is t.still w.base a (more r) (place_of s.address r) (right l w m s r f symbol a h asked known (subst IsPlaceRelative (sym value) tt) named t) (place_ends l w m s i r z h listed field) in
     let at = ap (λ (p : ℕ). (x + more r + (2 ^ 64 - p)) % 2 ^ 64) (sym (place_is l w m s i r z h listed field)) in
-    (x, goal_is StubDistance l w m s r symbol a x86 named t, e ∙ flat x (more r) (2 ^ 64 - (w.base + place_of s.address r)) ∙ at)
+    (x, goal_is StubDistance l w m s r symbol a x86 named (λ u. u) t, e ∙ flat x (more r) (2 ^ 64 - (w.base + place_of s.address r)) ∙ at)
 
 gives_offset : (l : Layout) (w : World) (m : Memory) (s : Item) (i : ℕ) (r : InputRelocation) (f : Formula) (symbol a : ℕ) → (h : IsItemLoaded l w m s) → IsAsked l w s r → formula_of l.machine r.number ≡ Some f → f.value ≡ StubFromTable
     → r.symbol ≡ Some symbol → IsOwnValue l w symbol a → l.machine ≡ machine.X86_64 → Gives StubFromTable l w m s r (displacement a r.addend l.got_base)
 gives_offset l w m s i r f symbol a h asked known value named t x86 =
     let x = moved t.still w.base a in
     let e = table_is t.still w.base a (more r) l.got_base (right l w m s r f symbol a h asked known (subst IsPlaceRelative (sym value) tt) named t) h.placed.got in
-    (x, goal_is StubFromTable l w m s r symbol a x86 named t, e ∙ flat x (more r) (2 ^ 64 - table_at l w))
+    (x, goal_is StubFromTable l w m s r symbol a x86 named (λ u. u) t, e ∙ flat x (more r) (2 ^ 64 - table_at l w))
 
 -- ---- fields
 

@@ -1,6 +1,6 @@
 -- Which row of rewrites stands at a relocation, and that none does.
 use Rattle.std.proofs.Common.{◌≡◌, ℕ, zero, suc, ◌≤◌, inl, inr, Bool, true, false, List, [], ◌∷◌, length, refl, arith, subst}
-use Rattle.std.specs.Prelude.{Option, Some, None, Ok, slice_get, ◌&&◌, ◌||◌, ◌==◌, not, if◌then◌else◌}
+use Rattle.std.specs.Prelude.{Option, Some, None, Ok, slice_get, ◌&&◌, ◌||◌, ◌==◌, not, if◌then◌else◌, Result, Err}
 use Rattle.std.proofs.lemmas.Bool.{cases_Bool}
 use Rattle.std.proofs.lemmas.Bool.Decides.{nat_tests}
 use Rattle.wild_records.specs.Abi.Relocation.{r_x86_64_pc32}
@@ -20,8 +20,11 @@ use Rattle.wild_relax.specs.RowSequences.{has_its_sequence}
 use Rattle.wild_relax.specs.Rows.{rows_x86_64, applies, unknown_sequence, standing_x86_64, chosen_x86_64}
 use Rattle.wild_relax.specs.RowSymbols.{is_mandatory}
 use Rattle.wild_relax.proofs.RoomLemmas.{IsApplied, applied, chosen_is}
-use Rattle.wild_layout.specs.Choice.{question_of, choice_by, choice_of}
+use Rattle.wild_layout.specs.Choice.{question_of, choice_by, choice_of, is_thread_type}
 use Rattle.wild_layout.proofs.ChoiceLemmas.{IsChosen}
+use Rattle.wild_layout.specs.Merged.{names_merged}
+use Rattle.wild_relax.specs.RewriteX86_64.{info_by}
+use Rattle.wild_relax.specs.declared.row.Written.TheVariants as written
 
 -- ---- the first row that stands
 
@@ -70,11 +73,21 @@ nothing_stands bs o h = grind (arith, nat_tests, h)
 pub chosen_row : (l : Layout) (s : Item) (r : InputRelocation) (next : Option InputRelocation) (row : Row) → (c : IsChosen l s r next row) → IsApplied (question_of l s r c.symbol next) row
 chosen_row l s r next row c = applied (question_of l s r c.symbol next) row (chosen_is (question_of l s r c.symbol next) row c.chosen).here
 
--- where none is chosen no row stands
-pub unchosen : (l : Layout) (s : Item) (r : InputRelocation) (next : Option InputRelocation) (i n : ℕ) (row : Row) → choice_of l s r next ≡ Ok None → r.symbol ≡ Some i → (r.number == r_x86_64_pc32) ≡ false → slice_get rows_x86_64 n ≡ Some row → applies (question_of l s r i next) row ≡ false
+-- of a type of thread-local storage the rows are asked, where it keeps its instruction
+pub thread_asked : (l : Layout) (s : Item) (r : InputRelocation) (next : Option InputRelocation) (i : ℕ) → (r.number == r_x86_64_pc32) ≡ false → is_thread_type r.number ≡ true → choice_by l s r next (Some i) ≡ Ok None → chosen_x86_64 (question_of l s r i next) ≡ Ok None
 unfolding choice_by
-unchosen l s r next i n row h named other listed =
+thread_asked l s r next i other thread h = by_tests (r.number == r_x86_64_pc32) (names_merged l (Some i)) (is_thread_type r.number) (record { number = r.number; written = info_by written.Nothing }) (chosen_x86_64 (question_of l s r i next)) other thread h
+  where
+    by_tests : (b m t : Bool) (e : UnknownSequence) (c : Result (Option Row) UnknownSequence) → b ≡ false → t ≡ true → (if b then Ok None else if m then (if t then Err e else Ok None) else c) ≡ Ok None → c ≡ Ok None
+    by_tests false false t e c f g h = h
+    by_tests false true true e c f g h = cc
+    by_tests false true false e c f g h = cc
+    by_tests true m t e c f g h = cc
+
+-- where none is chosen no row stands
+pub unchosen : (l : Layout) (s : Item) (r : InputRelocation) (next : Option InputRelocation) (i n : ℕ) (row : Row) → choice_of l s r next ≡ Ok None → r.symbol ≡ Some i → (r.number == r_x86_64_pc32) ≡ false → is_thread_type r.number ≡ true → slice_get rows_x86_64 n ≡ Some row → applies (question_of l s r i next) row ≡ false
+unchosen l s r next i n row h named other thread listed =
     let q = question_of l s r i next in
     let here : choice_by l s r next (Some i) ≡ Ok None = subst (λ (o : Option ℕ). choice_by l s r next o ≡ Ok None) named h in
-    let none : chosen_x86_64 q ≡ Ok None = rw other at here in
+    let none : chosen_x86_64 q ≡ Ok None = thread_asked l s r next i other thread here in
     not_chosen q n row none listed

@@ -21,7 +21,7 @@ use Rattle.wild_meaning.specs.WordsAArch64.{is_run}
 use Rattle.wild_meaning.specs.Sequence.{Instruction, Partner, by_word, IsOwnByte, descriptor_call_words, offset_pair_words, address_pair_words, instructions_of}
 use Rattle.wild_meaning.specs.Item.{place_at}
 use Rattle.wild_meaning.specs.Field.{IsInputByte}
-use Rattle.wild_meaning.specs.Formula.{IsReferent, IsReferentOnAArch64, IsOffset, page_of}
+use Rattle.wild_meaning.specs.Formula.{IsReferent, IsReferentOnAArch64, IsOffset, page_of, IsReferentBy}
 use Rattle.wild_meaning.specs.ReferentAArch64.{IsAbsent, IsOneAddress}
 use Rattle.wild_meaning.specs.Slot.{IsSlot}
 use Rattle.wild_meaning.specs.Partners.{HasPartner, HasPartners}
@@ -32,6 +32,8 @@ use Rattle.wild_references.proofs.OneAddress.{one_address, one_slot}
 use Rattle.wild_references.proofs.RunsAArch64.{address_pair_does, slot_pair_does, call_does}
 use Rattle.wild_references.proofs.WordsAArch64.{words_from, words_read, IsWordThere, by_words}
 use Rattle.wild_references.proofs.RunWords.{IsRun, is_run_of, IsKeptRun, IsOfSlot, slot_word, IsOfAddress, HasPart, part_word}
+use Rattle.wild_meaning.specs.Strings.{NamesStrings}
+use Rattle.wild_references.proofs.MergedStrings.{one_string}
 
 -- ---- formulas
 
@@ -194,19 +196,29 @@ unfolding aarch64_formula
 address_low = record { straight = refl; known = refl; takes = tt; part = λ e. cc; offset = λ h. h }
 
 -- the address of a symbol that is there
-high_stands : (l : Layout) (w : World) (m : Memory) (s : Item) (r : InputRelocation) (i a : ℕ) → l.machine ≡ machine.AArch64 → r.symbol ≡ Some i → (IsAbsent l i → ⊥) → IsReferent l.machine PageDistance l w m s r a → IsOneAddress l w m i a
-high_stands l w m s r i a on named there h = by (subst (λ (o : Option ℕ). IsReferentOnAArch64 PageDistance l w m s r o a) named (subst (λ (k : Machine). IsReferent k PageDistance l w m s r a) on h))
+high_stands : (l : Layout) (w : World) (m : Memory) (s : Item) (r : InputRelocation) (i a : ℕ) → l.machine ≡ machine.AArch64 → r.symbol ≡ Some i → (IsAbsent l i → ⊥) → IsReferentBy l.machine PageDistance l w m s r a → IsOneAddress l w m i a
+high_stands l w m s r i a on named there h = by (subst (λ (o : Option ℕ). IsReferentOnAArch64 PageDistance l w m s r o a) named (subst (λ (k : Machine). IsReferentBy k PageDistance l w m s r a) on h))
   where
     by : IsReferentOnAArch64 PageDistance l w m s r (Some i) a → IsOneAddress l w m i a
     by (inl x) = absurd (there x.0.1)
     by (inr x) = x.1
 
-low_stands : (l : Layout) (w : World) (m : Memory) (s : Item) (r : InputRelocation) (i a : ℕ) → l.machine ≡ machine.AArch64 → r.symbol ≡ Some i → IsReferent l.machine SymbolPart l w m s r a → IsOneAddress l w m i a
-low_stands l w m s r i a on named h = by (subst (λ (o : Option ℕ). IsReferentOnAArch64 SymbolPart l w m s r o a) named (subst (λ (k : Machine). IsReferent k SymbolPart l w m s r a) on h))
+low_stands : (l : Layout) (w : World) (m : Memory) (s : Item) (r : InputRelocation) (i a : ℕ) → l.machine ≡ machine.AArch64 → r.symbol ≡ Some i → IsReferentBy l.machine SymbolPart l w m s r a → IsOneAddress l w m i a
+low_stands l w m s r i a on named h = by (subst (λ (o : Option ℕ). IsReferentOnAArch64 SymbolPart l w m s r o a) named (subst (λ (k : Machine). IsReferentBy k SymbolPart l w m s r a) on h))
   where
     by : IsReferentOnAArch64 SymbolPart l w m s r (Some i) a → IsOneAddress l w m i a
     by (inl x) = absurd x.0.0
     by (inr x) = x.1
+
+-- of both halves of an address S is one: the symbol's, or what makes the place of a string
+names_both : (l : Layout) (r q : InputRelocation) → r.symbol ≡ q.symbol → NamesStrings l r → NamesStrings l q
+names_both l r q e n = record { symbol = n.symbol; named = sym e ∙ n.named; strings = n.strings; has = n.has }
+
+one_referent : (l : Layout) (w : World) (m : Memory) (s : Item) (first second : InputRelocation) (i b a : ℕ) → l.machine ≡ machine.AArch64 → first.symbol ≡ Some i → second.symbol ≡ first.symbol → second.addend ≡ first.addend → (IsAbsent l i → ⊥) → IsReferent l.machine SymbolPart l w m s second b → IsReferent l.machine PageDistance l w m s first a → b ≡ a
+one_referent l w m s first second i b a on named same added there (inl low) (inl high) = one_string l w second first b a same added low.1 high.1
+one_referent l w m s first second i b a on named same added there (inl low) (inr high) = absurd (high.0 (tt, names_both l second first same low.0.1))
+one_referent l w m s first second i b a on named same added there (inr low) (inl high) = absurd (low.0 (tt, names_both l first second (sym same) high.0.1))
+one_referent l w m s first second i b a on named same added there (inr low) (inr high) = one_address l w m i b a (low_stands l w m s second i b on (same ∙ named) low.1) (high_stands l w m s first i a on named there high.1)
 
 address_pair_run : (l : Layout) (w : World) (m : Memory) (s : Item) (r : InputRelocation) (start : ℕ) (first : InputRelocation) → IsKeptRun l w m s r start address_pair_words first → DoesDemanded (reads w m) l w m s first start address_pair_words
 address_pair_run l w m s r start first k =
@@ -219,7 +231,7 @@ address_pair_run l w m s r start first k =
     let high = part_word (page_of_value PageDistance) r_aarch64_adr_prel_pg_hi21 l w m s r first start start first k own address_page refl (0, omega arith, refl) q.stands.number at in
     let low = part_word (low_of_value SymbolPart) r_aarch64_add_abs_lo12_nc l w m s r two.second start (start + 4) first k own address_low two.has.names.0 second two.has.number two.has.field in
     let sum = high.gives.1 in
-    let one = one_address l w m q.symbol low.gives.symbol sum.symbol (low_stands l w m s two.second q.symbol low.gives.symbol k.on (two.has.names.0 ∙ q.named) low.gives.denoted) (high_stands l w m s first q.symbol sum.symbol k.on q.named q.met.0 sum.denoted) in
+    let one = one_referent l w m s first two.second q.symbol low.gives.symbol sum.symbol k.on q.named two.has.names.0 two.has.names.1 q.met.0 low.gives.denoted sum.denoted in
     let t = high.gives.0 in
     let small = below t (sum.symbol + cast_unsigned w64 first.addend) sum.sum in
     let same : low.value ≡ t = low.gives.sum ∙ ap (λ (n : ℕ). (n + cast_unsigned w64 two.second.addend) % 2 ^ 64) one ∙ ap (λ (n : ℤ). (sum.symbol + cast_unsigned w64 n) % 2 ^ 64) two.has.names.1 ∙ sym sum.sum in

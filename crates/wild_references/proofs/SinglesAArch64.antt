@@ -25,6 +25,7 @@ use Rattle.wild_meaning.specs.Template.{IsInstruction, counts_from, reads, effec
 use Rattle.wild_references.specs.Laws.{FieldHolds}
 use Rattle.wild_references.proofs.Right.{low_place}
 use Rattle.wild_references.proofs.FilledAArch64.{word_does, width_four, branch_does}
+use Rattle.wild_meaning.proofs.StringLemmas.{branch_referent, goes_to_none}
 
 -- ---- the instructions of one word
 
@@ -134,7 +135,7 @@ branch_do l w m s r start n on one t h =
     let d = branch_does n (place_at w s start) value h.value old field.bytes (reads w m) one t.words long field.wide field.reads keeps (λ k. refl) goes in
     record {
       value = value;
-      demands = record { goal = gives.0; stands = gives.1; is = refl };
+      demands = record { goal = gives.0; stands = branch_referent l w m s r gives.0 (goes_to_none l r (formula StubDistance (Bits Imm26Field 27 2 (WithinPower 28) 4)) (h.known ∙ ap (λ (f : Formula). Some f) is) (λ t. t.0)) gives.1; is = refl };
       code = record {
         effect = d.effect;
         demanded = subst (λ (k : Machine). demand_of k value (place_at w s start) old ≡ Some d.effect) (sym on) d.demanded;

@@ -25,12 +25,12 @@ use Rattle.wild_reloc.specs.declared.info.RelocationKind.{RelocationKind}
 use Rattle.wild_reloc.specs.declared.info.RelocationKind.TheVariants as kinds
 use Rattle.wild_reloc.specs.declared.info.RelocationKindInfo.{RelocationKindInfo}
 use Rattle.wild_layout.specs.SlotValues.{stub_address}
-use Rattle.wild_layout.specs.Values.{term_value, term_of, value_less, is_absent, is_place, is_symbol, is_own_place, undefined_weak_target}
+use Rattle.wild_layout.specs.Values.{term_value, term_of, value_less, is_absent, is_place, is_symbol, is_own_place, undefined_weak_target, term_by}
 use Rattle.wild_loader.specs.declared.memory.Memory.{Memory}
 use Rattle.wild_loader.specs.declared.world.World.{World}
 use Rattle.wild_types.specs.Item.{Item}
 use Rattle.wild_meaning.specs.Item.{place_at}
-use Rattle.wild_meaning.specs.Formula.{page_of, IsReferent, IsPlaceRelative, HasOffsetMode, Gives, GivesLinked, TakesAddress, TakesOffset}
+use Rattle.wild_meaning.specs.Formula.{page_of, IsReferent, IsPlaceRelative, HasOffsetMode, Gives, GivesLinked, TakesAddress, TakesOffset, TakesString}
 use Rattle.wild_meaning.specs.Slot.{IsSlot}
 use Rattle.wild_meaning.specs.Reference.{IsStubbed}
 use Rattle.wild_references.specs.Terms.{IsPlaced, is_expressed, value_by_row, HasTerm, IsFollowed}
@@ -46,6 +46,7 @@ use Rattle.wild_references.proofs.ThreadKinds.{gives_pointer, links_pointer, giv
 use Rattle.wild_references.proofs.ThreadPlaces.{offsets_stand, pairs_stand, own_pair_stands}
 use Rattle.wild_references.proofs.Treated.{symbol_named}
 use Rattle.wild_references.proofs.ValueKinds.{more, value_is, taken_is, plain_term, gives_sum, gives_part, gives_distance, gives_from_table, links_address, links_distance, links_from_table, gives_table, gives_size}
+use Rattle.wild_meaning.specs.Value.{IsReplaceable}
 
 -- ---- S
 
@@ -75,8 +76,8 @@ symbols_link law = λ info e v. by_kind law info e (symbol_kind info.kind e v)
 -- ---- L
 
 -- L, as the writer has it, or the place itself
-stub_refers : StubLaws → (v : Value) (l : Layout) (w : World) (m : Memory) (s : Item) (r : InputRelocation) (info : RelocationKindInfo) (x : ℕ) → (h : HasTerm l w m s r info x) → (expression_of info.kind).term ≡ term.Stub → named r.symbol (λ i. treatments.Value h.row) ≡ treatments.Value h.row → ((v ≡ StubDistance) ⊎ (v ≡ Distance)) ⊎ (l.machine ≡ machine.X86_64) → (l.machine ≡ machine.AArch64 → is_place (taken_of info.kind info.mask) ≡ true) → IsReferent l.machine v l w m s r ((w.base + h.term) % 2 ^ 64)
-stub_refers law v l w m s r info x h stub treated which place = by_own (is_own_place l.machine l r info) refl h.given
+stub_refers : StubLaws → (v : Value) (l : Layout) (w : World) (m : Memory) (s : Item) (r : InputRelocation) (info : RelocationKindInfo) (x : ℕ) → (h : HasTerm l w m s r info x) → (expression_of info.kind).term ≡ term.Stub → named r.symbol (λ i. treatments.Value h.row) ≡ treatments.Value h.row → ((v ≡ StubDistance) ⊎ (v ≡ Distance)) ⊎ (l.machine ≡ machine.X86_64) → (l.machine ≡ machine.AArch64 → is_place (taken_of info.kind info.mask) ≡ true) → (TakesString v l r → ⊥) → IsReferent l.machine v l w m s r ((w.base + h.term) % 2 ^ 64)
+stub_refers law v l w m s r info x h stub treated which place none = by_own (is_own_place l.machine l r info) refl h.given
   where
     distance : l.machine ≡ machine.AArch64 → ((v ≡ StubDistance) ⊎ (v ≡ Distance)) ⊎ (l.machine ≡ machine.X86_64) → (v ≡ StubDistance) ⊎ (v ≡ Distance)
     distance on (inl e) = e
@@ -86,7 +87,7 @@ stub_refers law v l w m s r info x h stub treated which place = by_own (is_own_p
     relative_by (inl e) = subst IsPlaceRelative (sym e) tt
     relative_by (inr e) = subst IsPlaceRelative (sym e) tt
 
-    by_own : (b : Bool) → is_own_place l.machine l r info ≡ b → (if b then Ok (undefined_weak_target r.number (place_of s.address r)) else term_of l r.symbol info.kind) ≡ Ok h.term → IsReferent l.machine v l w m s r ((w.base + h.term) % 2 ^ 64)
+    by_own : (b : Bool) → is_own_place l.machine l r info ≡ b → (if b then Ok (undefined_weak_target r.number (place_of s.address r)) else term_by l r (expression_of info.kind).term) ≡ Ok h.term → IsReferent l.machine v l w m s r ((w.base + h.term) % 2 ^ 64)
     by_own true e g =
         let o = own_parts l.machine l r info e in
         let n = named_absent l r.symbol o.absent in
@@ -97,8 +98,8 @@ stub_refers law v l w m s r info x h stub treated which place = by_own (is_own_p
         subst (λ (n : ℕ). IsReferent l.machine v l w m s r n) at (own_referent v l w m s r n.0 o.on n.1 (relative, a))
     by_own false e g =
         let i = symbol_named r.symbol (λ i. treatments.Value h.row) h.row treated in
-        let given : stub_address l r.symbol ≡ Ok h.term = subst (λ (t : Term). term_value l r.symbol t ≡ Ok h.term) stub g in
-        referent v l w m s r ((w.base + h.term) % 2 ^ 64) (goal_given law l w m r.symbol i.0 h.term h.placed i.1 given)
+        let given : stub_address l r.symbol ≡ Ok h.term = subst (λ (t : Term). term_by l r t ≡ Ok h.term) stub g in
+        referent v l w m s r ((w.base + h.term) % 2 ^ 64) none (goal_given law l w m r.symbol i.0 h.term h.placed i.1 given)
         (λ j n on. (
           λ own. present l j (subst (λ (o : Option ℕ). is_absent l o ≡ false) n (not_own l.machine l r info e on (ap is_symbol stub) (place on))) own.1,
           goal_stands law v l w m r j h.term h.placed (distance on which) (subst (λ (o : Option ℕ). stub_address l o ≡ Ok h.term) n given),
@@ -116,8 +117,8 @@ record IsStubDistance (v : Value) (l : Layout) (w : World) (m : Memory) (s : Ite
   referent : IsReferent l.machine v l w m s r symbol
   value : x ≡ (symbol + more r + (2 ^ 64 - place_at w s r.offset)) % 2 ^ 64
 
-stub_distance_is : StubLaws → (v : Value) → (v ≡ StubDistance) ⊎ (v ≡ Distance) → (info : RelocationKindInfo) → info.kind ≡ kinds.PltRelative → (l : Layout) (w : World) (m : Memory) (s : Item) (r : InputRelocation) (x : ℕ) → HasTerm l w m s r info x → IsStubDistance v l w m s r info x
-stub_distance_is law v which info kind l w m s r x h =
+stub_distance_is : StubLaws → (v : Value) → (v ≡ StubDistance) ⊎ (v ≡ Distance) → (info : RelocationKindInfo) → info.kind ≡ kinds.PltRelative → (l : Layout) (w : World) (m : Memory) (s : Item) (r : InputRelocation) (x : ℕ) → HasTerm l w m s r info x → (TakesString v l r → ⊥) → IsStubDistance v l w m s r info x
+stub_distance_is law v which info kind l w m s r x h none =
     let mask = no_mask l.machine term.Stub taken.Place info.mask (subst (λ (k : RelocationKind). is_expressed l.machine (expression_of k).term (expression_of k).taken info.mask ≡ true) kind h.expressed) refl in
     let less : taken_of info.kind info.mask ≡ taken.Place = taken_is info kinds.PltRelative None kind mask in
     let treated = subst (λ (k : RelocationKind). kind_treatment l s.flags h.number r.symbol h.row k ≡ treatments.Value h.row) kind h.treated in
@@ -125,21 +126,21 @@ stub_distance_is law v which info kind l w m s r x h =
     record {
       is = value_is info kinds.PltRelative None kind mask ∙ sized_is info.size StubDistance refl;
       symbol = (w.base + h.term) % 2 ^ 64;
-      referent = stub_refers law v l w m s r info x h (ap (λ (k : RelocationKind). (expression_of k).term) kind) treated (inl which) (λ on. ap is_place less);
+      referent = stub_refers law v l w m s r info x h (ap (λ (k : RelocationKind). (expression_of k).term) kind) treated (inl which) (λ on. ap is_place less) none;
       value = less_place l w m s r info x h value;
     }
 
 stub_distance : StubLaws → (info : RelocationKindInfo) → info.kind ≡ kinds.PltRelative → RowGives info
 stub_distance law info kind = λ l w m s r x h f.
-    let d = stub_distance_is law StubDistance (inl refl) info kind l w m s r x h in
+    let d = stub_distance_is law StubDistance (inl refl) info kind l w m s r x h (λ t. t.0) in
     subst (λ (v : Value). Gives v l w m s r x) (sym d.is) (d.symbol, d.referent, d.value)
 
 flat : (x c q : ℕ) → (x + c + q) % 2 ^ 64 ≡ ((x + c) % 2 ^ 64 + q) % 2 ^ 64
 flat x c q = omega arith
 
 pub stubs_stand : StubLaws → StubsStand
-stubs_stand law info kind l w m s r x on h =
-    let d = stub_distance_is law Distance (inr refl) info kind l w m s r x h in
+stubs_stand law info kind l w m s r x on none h =
+    let d = stub_distance_is law Distance (inr refl) info kind l w m s r x h (λ t. none t.1) in
     ((d.symbol + more r) % 2 ^ 64, record { symbol = d.symbol; denoted = d.referent; sum = refl }, d.value ∙ flat d.symbol (more r) (2 ^ 64 - place_at w s r.offset))
 
 stub_offset : StubLaws → (info : RelocationKindInfo) → info.kind ≡ kinds.PltRelGotBase → RowGives info
@@ -150,7 +151,7 @@ stub_offset law info kind = λ l w m s r x h f.
     let is : value_by_row info ≡ StubFromTable = value_is info kinds.PltRelGotBase None kind mask ∙ sized_is info.size StubFromTable refl in
     let less : taken_of info.kind info.mask ≡ taken.Table = taken_is info kinds.PltRelGotBase None kind mask in
     let treated = subst (λ (k : RelocationKind). kind_treatment l s.flags h.number r.symbol h.row k ≡ treatments.Value h.row) kind h.treated in
-    let a = stub_refers law StubFromTable l w m s r info x h (ap (λ (k : RelocationKind). (expression_of k).term) kind) treated (inr x86) (λ on. (let e : machine.AArch64 ≡ machine.X86_64 = sym on ∙ x86 in cc)) in
+    let a = stub_refers law StubFromTable l w m s r info x h (ap (λ (k : RelocationKind). (expression_of k).term) kind) treated (inr x86) (λ on. (let e : machine.AArch64 ≡ machine.X86_64 = sym on ∙ x86 in cc)) (λ t. t.0) in
     let value = subst (λ (u : Taken). value_less l u h.term r.addend (place_of s.address r) ≡ x) less h.value in
     subst (λ (v : Value). Gives v l w m s r x) (sym is) ((w.base + h.term) % 2 ^ 64, a, less_table l w m s r info x h value)
 
@@ -344,11 +345,11 @@ no_slot sort info e f mask takes = neither (subst (λ (v : Value). TakesOffset v
     neither (inr a) = a
 
 pub parts_link : StubLaws → PartsGiveLinked
-parts_link law = λ info c l w m s r x i h zero named alone takes. by_term law info (part_kind info.kind c).0 (part_kind info.kind c).1 l w m s r x i h zero named alone takes
+parts_link law = λ info c l w m s r x i h zero named whose alone takes. by_term law info (part_kind info.kind c).0 (part_kind info.kind c).1 l w m s r x i h zero named whose alone takes
   where
-    by_term : StubLaws → (info : RelocationKindInfo) → (expression_of info.kind).taken ≡ taken.Nothing → ((expression_of info.kind).term ≡ term.Symbol) ⊎ ((sort : SlotSort) × ((expression_of info.kind).term ≡ term.Slot sort)) → (l : Layout) (w : World) (m : Memory) (s : Item) (r : InputRelocation) (x i : ℕ) → HasTerm l w m s r info x → w.base ≡ 0 → r.symbol ≡ Some i → (IsStubbed l i → ⊥) ⊎ TakesOffset (value_by_row info) → TakesOffset (value_by_row info) ⊎ TakesAddress (value_by_row info) → GivesLinked (value_by_row info) l w s r x
-    by_term law info nothing (inl symbol) l w m s r x i h zero named alone takes = links_address law info symbol nothing l w m s r x i h zero named alone
-    by_term law info nothing (inr slot) l w m s r x i h zero named alone takes =
+    by_term : StubLaws → (info : RelocationKindInfo) → (expression_of info.kind).taken ≡ taken.Nothing → ((expression_of info.kind).term ≡ term.Symbol) ⊎ ((sort : SlotSort) × ((expression_of info.kind).term ≡ term.Slot sort)) → (l : Layout) (w : World) (m : Memory) (s : Item) (r : InputRelocation) (x i : ℕ) → HasTerm l w m s r info x → w.base ≡ 0 → r.symbol ≡ Some i → IsReplaceable l i true → (IsStubbed l i → ⊥) ⊎ TakesOffset (value_by_row info) → TakesOffset (value_by_row info) ⊎ TakesAddress (value_by_row info) → GivesLinked (value_by_row info) l w s r x
+    by_term law info nothing (inl symbol) l w m s r x i h zero named whose alone takes = links_address law info symbol nothing l w m s r x i h zero named whose alone
+    by_term law info nothing (inr slot) l w m s r x i h zero named whose alone takes =
         let fit = subst (λ (t : Term). is_expressed l.machine t taken.Nothing info.mask ≡ true) slot.1 (subst (λ (u : Taken). is_expressed l.machine (expression_of info.kind).term u info.mask ≡ true) nothing h.expressed) in
         absurd (no_slot slot.0 info slot.1 nothing (no_mask l.machine (term.Slot slot.0) taken.Nothing info.mask fit refl) takes)
 

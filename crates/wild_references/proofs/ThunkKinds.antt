@@ -28,7 +28,7 @@ use Rattle.wild_layout.specs.SymbolValues.{less}
 use Rattle.wild_layout.specs.SlotValues.{resolution_of, stub_of, stub_address, address_of}
 use Rattle.wild_layout.specs.Thunks.{thunk_target, goes_by_definition, thunk_for}
 use Rattle.wild_layout.proofs.ReachedLemmas.{thunk_found}
-use Rattle.wild_layout.specs.Values.{term_of, value_less, is_absent, is_symbol, is_place, is_own_place, undefined_weak_target}
+use Rattle.wild_layout.specs.Values.{term_of, value_less, is_absent, is_symbol, is_place, is_own_place, undefined_weak_target, term_by}
 use Rattle.wild_loader.specs.declared.memory.Memory.{Memory}
 use Rattle.wild_loader.specs.declared.world.World.{World}
 use Rattle.wild_loader.specs.Reach.{ReachesWithin, JumpsTo}
@@ -41,6 +41,8 @@ use Rattle.wild_references.proofs.StubCode.{StubLaws}
 use Rattle.wild_references.proofs.ThunkTargets.{IsThunkOf, IsTargeted, stub_targeted, symbol_targeted}
 use Rattle.wild_references.proofs.ValueKinds.{more, value_is, taken_is}
 use Rattle.wild_references.proofs.Written.{given_some}
+use Rattle.wild_layout.specs.Merged.{names_merged}
+use Rattle.wild_layout.proofs.MergedLemmas.{term_plain}
 
 -- ---- the thunk
 
@@ -149,16 +151,21 @@ from_place info c = by_kind c.kind
     by_kind (inl k) = (symbol_row info c.whole k).taken
     by_kind (inr k) = (stub_row info c.whole k).taken
 
-there : StubLaws → (l : Layout) (w : World) (m : Memory) (s : Item) (r : InputRelocation) (info : RelocationKindInfo) (x i target : ℕ) (t : Thunk) → l.machine ≡ machine.AArch64 → (h : HasTerm l w m s r info x) → Carries info → IsFollowed l r (value_by_row info) → contains info.range x ≡ false → cast_unsigned w64 r.addend ≡ 0 → r.symbol ≡ Some i → IsThunkOf l i t → thunk_target l t ≡ Ok target → IsThere l w m i target
-there law l w m s r info x i target t on h c f far none named of known = by_own (is_own_place l.machine l r info) refl h.given
+-- S or L of a branch that a thunk may carry is the symbol's
+term_carried : (l : Layout) (r : InputRelocation) (info : RelocationKindInfo) → (info.kind ≡ kinds.Relative) ⊎ (info.kind ≡ kinds.PltRelative) → (info.kind ≡ kinds.Relative → names_merged l r.symbol ≡ false) → term_by l r (expression_of info.kind).term ≡ term_of l r.symbol info.kind
+term_carried l r info (inl k) plain = term_plain l r (expression_of info.kind).term (plain k)
+term_carried l r info (inr k) plain = subst (λ (j : RelocationKind). term_by l r (expression_of j).term ≡ term_of l r.symbol j) (sym k) refl
+
+there : StubLaws → (l : Layout) (w : World) (m : Memory) (s : Item) (r : InputRelocation) (info : RelocationKindInfo) (x i target : ℕ) (t : Thunk) → l.machine ≡ machine.AArch64 → (h : HasTerm l w m s r info x) → Carries info → (info.kind ≡ kinds.Relative → names_merged l r.symbol ≡ false) → IsFollowed l r (value_by_row info) → contains info.range x ≡ false → cast_unsigned w64 r.addend ≡ 0 → r.symbol ≡ Some i → IsThunkOf l i t → thunk_target l t ≡ Ok target → IsThere l w m i target
+there law l w m s r info x i target t on h c plain f far none named of known = by_own (is_own_place l.machine l r info) refl h.given
   where
-    by_own : (b : Bool) → is_own_place l.machine l r info ≡ b → (if b then Ok (undefined_weak_target r.number (place_of s.address r)) else term_of l r.symbol info.kind) ≡ Ok h.term → IsThere l w m i target
+    by_own : (b : Bool) → is_own_place l.machine l r info ≡ b → (if b then Ok (undefined_weak_target r.number (place_of s.address r)) else term_by l r (expression_of info.kind).term) ≡ Ok h.term → IsThere l w m i target
     by_own true e g =
         let term : undefined_weak_target r.number (place_of s.address r) ≡ h.term = cc in
         absurd (not_far l w m s r info x h c (from_place info c) none term far)
     by_own false e g = record {
       present = subst (λ (o : Option ℕ). is_absent l o ≡ false) named (not_own l.machine l r info e on (is_branch info.kind c.kind) (ap is_place (from_place info c)));
-      targeted = targeted_by law l w m s r info x i target t h c f named of known (subst (λ (o : Option ℕ). term_of l o info.kind ≡ Ok h.term) named g);
+      targeted = targeted_by law l w m s r info x i target t h c f named of known (subst (λ (o : Option ℕ). term_of l o info.kind ≡ Ok h.term) named (sym (term_carried l r info c.kind plain) ∙ g));
     }
 
 -- ---- the distance
@@ -182,17 +189,20 @@ comes l w m r t symbol g none at =
 referent_by : (l : Layout) (w : World) (m : Memory) (s : Item) (r : InputRelocation) (i : ℕ) (t : Thunk) → l.machine ≡ machine.AArch64 → r.symbol ≡ Some i → cast_unsigned w64 r.addend ≡ 0 → (g : GoesOn l w m t) → IsThere l w m i g.target → IsReferent l.machine StubDistance l w m s r (w.base + t.address)
 referent_by l w m s r i t on named none g h =
     subst (λ (k : Machine). IsReferent k StubDistance l w m s r (w.base + t.address)) (sym on)
-    (subst (λ (o : Option ℕ). IsReferentOnAArch64 StubDistance l w m s r o (w.base + t.address)) (sym named)
-    (inr (λ own. present l i h.present own.1, record { symbol = h.targeted.symbol; denoted = h.targeted.denoted; comes = comes l w m r t h.targeted.symbol g none h.targeted.at })))
+    (inr (
+      (λ u. u.0),
+      subst (λ (o : Option ℕ). IsReferentOnAArch64 StubDistance l w m s r o (w.base + t.address)) (sym named)
+          (inr (λ own. present l i h.present own.1, record { symbol = h.targeted.symbol; denoted = h.targeted.denoted; comes = comes l w m r t h.targeted.symbol g none h.targeted.at })),
+    ))
 
 pub thunks_give : StubLaws → ThunksGive
-thunks_give law = λ info c l w m s r x t on h goes f far found none. by_symbol info c l w m s r x t on h goes f far none r.symbol refl found
+thunks_give law = λ info c l w m s r x t on h goes plain f far found none. by_symbol info c l w m s r x t on h goes plain f far none r.symbol refl found
   where
-    by_symbol : (info : RelocationKindInfo) → Carries info → (l : Layout) (w : World) (m : Memory) (s : Item) (r : InputRelocation) (x : ℕ) (t : Thunk) → l.machine ≡ machine.AArch64 → HasTerm l w m s r info x → EachThunkGoesOn l w m → IsFollowed l r (value_by_row info) → contains info.range x ≡ false → added r ≡ 0 → (o : Option ℕ) → r.symbol ≡ o → thunk_for l s.thunk_block o ≡ Some t → Gives StubDistance l w m s r (less t.address (place_of s.address r))
-    by_symbol info c l w m s r x t on h goes f far none None named found = cc
-    by_symbol info c l w m s r x t on h goes f far none (Some i) named found =
+    by_symbol : (info : RelocationKindInfo) → Carries info → (l : Layout) (w : World) (m : Memory) (s : Item) (r : InputRelocation) (x : ℕ) (t : Thunk) → l.machine ≡ machine.AArch64 → HasTerm l w m s r info x → EachThunkGoesOn l w m → (info.kind ≡ kinds.Relative → names_merged l r.symbol ≡ false) → IsFollowed l r (value_by_row info) → contains info.range x ≡ false → added r ≡ 0 → (o : Option ℕ) → r.symbol ≡ o → thunk_for l s.thunk_block o ≡ Some t → Gives StubDistance l w m s r (less t.address (place_of s.address r))
+    by_symbol info c l w m s r x t on h goes plain f far none None named found = cc
+    by_symbol info c l w m s r x t on h goes plain f far none (Some i) named found =
         let b = of_block l s.thunk_block i t found in
         let g = goes b.block t b.listed b.holds in
         let a = w.base + t.address in
         let at = ap (λ (p : ℕ). (a + more r + (2 ^ 64 - p)) % 2 ^ 64) (sym h.place) in
-        (a, referent_by l w m s r i t on named none g (there law l w m s r info x i g.target t on h c f far none named b.of g.known), distance_moved w.base t.address (place_of s.address r) (more r) none h.ends ∙ at)
+        (a, referent_by l w m s r i t on named none g (there law l w m s r info x i g.target t on h c plain f far none named b.of g.known), distance_moved w.base t.address (place_of s.address r) (more r) none h.ends ∙ at)

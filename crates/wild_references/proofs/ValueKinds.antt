@@ -30,7 +30,7 @@ use Rattle.wild_reloc.specs.declared.info.RelocationKindInfo.{RelocationKindInfo
 use Rattle.wild_reloc.specs.declared.info.RelocationSize.{RelocationSize}
 use Rattle.wild_reloc.specs.declared.info.RelocationSize.TheVariants.{ByteSize, BitMasking}
 use Rattle.wild_layout.specs.SymbolValues.{symbol_size}
-use Rattle.wild_layout.specs.Values.{term_of, term_at, value_less, is_symbol, is_own_place, undefined_weak_target}
+use Rattle.wild_layout.specs.Values.{term_of, term_at, value_less, is_symbol, is_own_place, undefined_weak_target, term_by, term_value}
 use Rattle.wild_loader.specs.declared.world.World.{World}
 use Rattle.wild_loader.specs.declared.memory.Memory.{Memory}
 use Rattle.wild_meaning.specs.Value.{IsSymbol, IsReplaceable, HasOwnSize, moved}
@@ -60,12 +60,17 @@ value_is info k mask e f = ap (λ (j : RelocationKind). value_of j info.mask inf
 pub taken_is : (info : RelocationKindInfo) (k : RelocationKind) (mask : Option PageMask) → info.kind ≡ k → info.mask ≡ mask → taken_of info.kind info.mask ≡ taken_of k mask
 taken_is info k mask e f = ap (λ (j : RelocationKind). taken_of j info.mask) e ∙ ap (λ (o : Option PageMask). taken_of k o) f
 
+-- a term other than S is the symbol's alone
+term_plain : (l : Layout) (r : InputRelocation) (t : Term) → is_symbol t ≡ false → term_by l r t ≡ term_value l r.symbol t
+term_plain l r term.Symbol none = cc
+term_plain l r other none = refl
+
 -- a term that is neither S nor L is no place
 pub plain_given : (l : Layout) (r : InputRelocation) (info : RelocationKindInfo) (p term : ℕ) → term_at l r info p ≡ Ok term → is_symbol (expression_of info.kind).term ≡ false → term_of l r.symbol info.kind ≡ Ok term
 plain_given l r info p term h none = by_own (is_own_place l.machine l r info) refl h
   where
-    by_own : (b : Bool) → is_own_place l.machine l r info ≡ b → (if b then Ok (undefined_weak_target r.number p) else term_of l r.symbol info.kind) ≡ Ok term → term_of l r.symbol info.kind ≡ Ok term
-    by_own false e g = g
+    by_own : (b : Bool) → is_own_place l.machine l r info ≡ b → (if b then Ok (undefined_weak_target r.number p) else term_by l r (expression_of info.kind).term) ≡ Ok term → term_of l r.symbol info.kind ≡ Ok term
+    by_own false e g = sym (term_plain l r (expression_of info.kind).term none) ∙ g
     by_own true e g = (let o = own_parts l.machine l r info e in let f : true ≡ false = sym o.symbol ∙ none in cc)
 
 pub plain_term : (l : Layout) (w : World) (m : Memory) (s : Item) (r : InputRelocation) (info : RelocationKindInfo) (x : ℕ) → (h : HasTerm l w m s r info x) → is_symbol (expression_of info.kind).term ≡ false → term_of l r.symbol info.kind ≡ Ok h.term
@@ -260,25 +265,25 @@ no_offset (ByteSize n) h = h
 no_offset (BitMasking bits) h = h
 
 pub links_address : StubLaws → (info : RelocationKindInfo) → (expression_of info.kind).term ≡ term.Symbol → (expression_of info.kind).taken ≡ taken.Nothing → RowGivesLinked info
-links_address law info symbol nothing = λ l w m s r x i h zero named alone.
+links_address law info symbol nothing = λ l w m s r x i h zero named whose alone.
     let a = address_row l w m s r info x h symbol nothing in
-    let t = own_refers law l w m s r info x i h symbol named (bare (value_by_row info) l i (λ o. no_offset info.size (subst TakesOffset a.value o)) alone) in
+    let t = own_refers law l w m s r info x i h symbol named whose (bare (value_by_row info) l i (λ o. no_offset info.size (subst TakesOffset a.value o)) alone) in
     let e = sum_is t.still w.base h.term (more r) (inl zero) in
     let sum = subst (λ (n : ℕ). IsOwnSum (value_by_row info) l w s r n) (sym e ∙ a.sum) (own_sum (value_by_row info) l w s r h.term t) in
     subst (λ (v : Value). GivesLinked v l w s r x) (sym a.value) (links_of_sum info.size l w s r x (subst (λ (v : Value). IsOwnSum v l w s r x) a.value sum))
 
 pub links_distance : StubLaws → (info : RelocationKindInfo) → info.kind ≡ kinds.Relative → RowGivesLinked info
-links_distance law info kind = λ l w m s r x i h zero named alone. by_row law info kind l w m s r x i h zero named alone (distance_row l w m s r info x h kind)
+links_distance law info kind = λ l w m s r x i h zero named whose alone. by_row law info kind l w m s r x i h zero named whose alone (distance_row l w m s r info x h kind)
   where
-    by_row : StubLaws → (info : RelocationKindInfo) → info.kind ≡ kinds.Relative → (l : Layout) (w : World) (m : Memory) (s : Item) (r : InputRelocation) (x i : ℕ) → (h : HasTerm l w m s r info x) → w.base ≡ 0 → r.symbol ≡ Some i → (IsStubbed l i → ⊥) ⊎ TakesOffset (value_by_row info) → IsDistanceRow l w m s r info x h.term ⊎ IsPageRow l w m s r info x h.term → GivesLinked (value_by_row info) l w s r x
-    by_row law info kind l w m s r x i h zero named alone (inl d) =
-        let t = own_refers law l w m s r info x i h (ap (λ (k : RelocationKind). (expression_of k).term) kind) named (bare (value_by_row info) l i (λ o. subst TakesOffset d.value o) alone) in
+    by_row : StubLaws → (info : RelocationKindInfo) → info.kind ≡ kinds.Relative → (l : Layout) (w : World) (m : Memory) (s : Item) (r : InputRelocation) (x i : ℕ) → (h : HasTerm l w m s r info x) → w.base ≡ 0 → r.symbol ≡ Some i → IsReplaceable l i true → (IsStubbed l i → ⊥) ⊎ TakesOffset (value_by_row info) → IsDistanceRow l w m s r info x h.term ⊎ IsPageRow l w m s r info x h.term → GivesLinked (value_by_row info) l w s r x
+    by_row law info kind l w m s r x i h zero named whose alone (inl d) =
+        let t = own_refers law l w m s r info x i h (ap (λ (k : RelocationKind). (expression_of k).term) kind) named whose (bare (value_by_row info) l i (λ o. subst TakesOffset d.value o) alone) in
         let e = distance_is t.still w.base h.term (more r) (place_of s.address r) (inl zero) h.ends in
         let n = (moved t.still w.base h.term + more r) % 2 ^ 64 in
         let at = ap (λ (p : ℕ). (n + (2 ^ 64 - p)) % 2 ^ 64) (sym h.place) in
         subst (λ (v : Value). GivesLinked v l w s r x) (sym d.value) (n, subst (λ (v : Value). IsOwnSum v l w s r n) d.value (own_sum (value_by_row info) l w s r h.term t), sym d.distance ∙ e ∙ at)
-    by_row law info kind l w m s r x i h zero named alone (inr d) =
-        let t = own_refers law l w m s r info x i h (ap (λ (k : RelocationKind). (expression_of k).term) kind) named (bare (value_by_row info) l i (λ o. subst TakesOffset d.value o) alone) in
+    by_row law info kind l w m s r x i h zero named whose alone (inr d) =
+        let t = own_refers law l w m s r info x i h (ap (λ (k : RelocationKind). (expression_of k).term) kind) named whose (bare (value_by_row info) l i (λ o. subst TakesOffset d.value o) alone) in
         let pages = (paged_on l w h.placed.paged d.on).pages in
         let e = page_distance_is t.still w.base h.term (more r) (place_of s.address r) pages (inl zero) h.ends in
         let n = (moved t.still w.base h.term + more r) % 2 ^ 64 in
@@ -286,9 +291,9 @@ links_distance law info kind = λ l w m s r x i h zero named alone. by_row law i
         subst (λ (v : Value). GivesLinked v l w s r x) (sym d.value) (n, subst (λ (v : Value). IsOwnSum v l w s r n) d.value (own_sum (value_by_row info) l w s r h.term t), sym d.distance ∙ e ∙ at)
 
 pub links_from_table : StubLaws → (info : RelocationKindInfo) → info.kind ≡ kinds.SymRelGotBase → RowGivesLinked info
-links_from_table law info kind = λ l w m s r x i h zero named alone.
+links_from_table law info kind = λ l w m s r x i h zero named whose alone.
     let d = table_row l w m s r info x h kind in
-    let t = own_refers law l w m s r info x i h (ap (λ (k : RelocationKind). (expression_of k).term) kind) named (bare (value_by_row info) l i (λ o. subst TakesOffset d.value o) alone) in
+    let t = own_refers law l w m s r info x i h (ap (λ (k : RelocationKind). (expression_of k).term) kind) named whose (bare (value_by_row info) l i (λ o. subst TakesOffset d.value o) alone) in
     let e = table_is t.still w.base h.term (more r) l.got_base (inl zero) h.placed.got in
     let n = (moved t.still w.base h.term + more r) % 2 ^ 64 in
     subst (λ (v : Value). GivesLinked v l w s r x) (sym d.value) (n, subst (λ (v : Value). IsOwnSum v l w s r n) d.value (own_sum (value_by_row info) l w s r h.term t), sym d.distance ∙ e)

@@ -152,7 +152,7 @@ run_word together l s i r row decided t c j n at =
     let p = run_part l s i r row t.sequence t.word c j n at in
     let o = together (question_around l s i r t.symbol) row t.sequence t.word t.chosen t.among in
     let x = row_at o.whole o.known j n (subst (λ (q : Sequence). slice_get (types_of q) j ≡ Some n) (sym o.same) at) in
-    let w = word_of_run l s i r row t.sequence t c o (words_are_written l s t.symbol t.on decided) j n p.relocation x.0 x.1 x.2 (type_is t.sequence j n at).before (0, omega arith, sym p.number) p.listed (p.names ∙ t.named) in
+    let w = word_of_run l s i r row t.sequence t c o (words_are_written l s t.symbol t.on t.plain decided) j n p.relocation x.0 x.1 x.2 (type_is t.sequence j n at).before (0, omega arith, sym p.number) p.listed (p.names ∙ t.named) in
     record { relocation = p.relocation; number = p.number; offset = p.offset; row = x.0; value = w.value; has = w.written.has }
 
 -- ---- the word of a call

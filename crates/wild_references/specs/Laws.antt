@@ -40,7 +40,7 @@ use Rattle.wild_geometry.specs.Thunks.{HasThunks}
 use Rattle.wild_loader.specs.declared.memory.Memory.{Memory}
 use Rattle.wild_loader.specs.declared.world.World.{World}
 use Rattle.wild_meaning.specs.World.{IsFirstModule, IsLoadable, IsLegal}
-use Rattle.wild_meaning.specs.Value.{HasRaw}
+use Rattle.wild_meaning.specs.Value.{HasRaw, IsReplaceable}
 use Rattle.wild_meaning.specs.Thread.{thread_pointer, HasDistance, IsThreadPlace}
 use Rattle.wild_records.specs.Abi.Relocation.{r_x86_64_none}
 use Rattle.wild_types.specs.Item.{Item}
@@ -50,6 +50,7 @@ use Rattle.wild_meaning.specs.Formula.{IsSum, HasOffsetMode, Gives, IsOwnSum, Gi
 use Rattle.wild_meaning.specs.Reference.{IsAsked, IsStubbed, IsLinkedAlone}
 use Rattle.wild_references.specs.Terms.{IsPlaced, MovesByPages, value_by_row, HasTerm, IsFollowed}
 use Rattle.wild_meaning.specs.Linked.{processor_of}
+use Rattle.wild_meaning.specs.Strings.{NamesStrings}
 
 -- the value that the writer computes for a row is what the expression of that row gives, where that is followed (x86-64 psABI,
 -- "Relocation Types"; aaelf64, "Relocation operations")
@@ -59,7 +60,7 @@ RowGives info = (l : Layout) (w : World) (m : Memory) (s : Item) (r : InputReloc
 -- else, at base 0, it is what the expression gives with the output's own symbol: of the rows that take a symbol's address or its
 -- offset from the thread pointer
 abbrev pub RowGivesLinked : RelocationKindInfo → Type 0
-RowGivesLinked info = (l : Layout) (w : World) (m : Memory) (s : Item) (r : InputRelocation) (x i : ℕ) → HasTerm l w m s r info x → w.base ≡ 0 → r.symbol ≡ Some i → (IsStubbed l i → ⊥) ⊎ TakesOffset (value_by_row info) → GivesLinked (value_by_row info) l w s r x
+RowGivesLinked info = (l : Layout) (w : World) (m : Memory) (s : Item) (r : InputRelocation) (x i : ℕ) → HasTerm l w m s r info x → w.base ≡ 0 → r.symbol ≡ Some i → IsReplaceable l i true → (IsStubbed l i → ⊥) ⊎ TakesOffset (value_by_row info) → GivesLinked (value_by_row info) l w s r x
 
 -- so it is of each row with that term whose field has all of the value
 abbrev pub TermGives : Term → Type 0
@@ -68,9 +69,10 @@ TermGives t = (info : RelocationKindInfo) → (expression_of info.kind).term ≡
 abbrev pub TermGivesLinked : Term → Type 0
 TermGivesLinked t = (info : RelocationKindInfo) → (expression_of info.kind).term ≡ t → writes (expression_of info.kind).class ≡ true → RowGivesLinked info
 
--- on AArch64 what a row writes as the distance of a stub is the distance of the symbol, for which the stub stands
+-- on AArch64 what a row writes as the distance of a stub is the distance of the symbol, for which the stub stands, where
+-- that names no merged string
 abbrev pub StubsStand : Type 0
-StubsStand = (info : RelocationKindInfo) → info.kind ≡ kinds.PltRelative → (l : Layout) (w : World) (m : Memory) (s : Item) (r : InputRelocation) (x : ℕ) → l.machine ≡ machine.AArch64 → HasTerm l w m s r info x → Gives Distance l w m s r x
+StubsStand = (info : RelocationKindInfo) → info.kind ≡ kinds.PltRelative → (l : Layout) (w : World) (m : Memory) (s : Item) (r : InputRelocation) (x : ℕ) → l.machine ≡ machine.AArch64 → (NamesStrings l r → ⊥) → HasTerm l w m s r info x → Gives Distance l w m s r x
 
 -- of slots whichever module has the symbol; of a descriptor's in code whose references are no offsets ("ELF Handling For Thread-Local
 -- Storage", "Linker Relaxations")
@@ -87,15 +89,15 @@ PartsGive = (info : RelocationKindInfo) → (expression_of info.kind).class ≡ 
 
 -- else, at base 0, with the output's own symbol
 abbrev pub PartsGiveLinked : Type 0
-PartsGiveLinked = (info : RelocationKindInfo) → (expression_of info.kind).class ≡ class.Part → (l : Layout) (w : World) (m : Memory) (s : Item) (r : InputRelocation) (x i : ℕ) → HasTerm l w m s r info x → w.base ≡ 0 → r.symbol ≡ Some i → (IsStubbed l i → ⊥) ⊎ TakesOffset (value_by_row info) → TakesOffset (value_by_row info) ⊎ TakesAddress (value_by_row info) → GivesLinked (value_by_row info) l w s r x
+PartsGiveLinked = (info : RelocationKindInfo) → (expression_of info.kind).class ≡ class.Part → (l : Layout) (w : World) (m : Memory) (s : Item) (r : InputRelocation) (x i : ℕ) → HasTerm l w m s r info x → w.base ≡ 0 → r.symbol ≡ Some i → IsReplaceable l i true → (IsStubbed l i → ⊥) ⊎ TakesOffset (value_by_row info) → TakesOffset (value_by_row info) ⊎ TakesAddress (value_by_row info) → GivesLinked (value_by_row info) l w s r x
 
 -- an address that is decided to move is S + A of the world, once it is more by the base, where the symbol is followed
 abbrev pub AddressesGive : Type 0
-AddressesGive = (l : Layout) (w : World) (m : Memory) (s : Item) (r : InputRelocation) (v : ℕ) (packed : Bool) → IsPlaced l w m → NamesSymbol l r → decided l s r ≡ Ok (Moved v packed) → IsFollowed l r SymbolAddress → IsSum SymbolAddress l w m s r (number_at InMemory w v packed)
+AddressesGive = (l : Layout) (w : World) (m : Memory) (s : Item) (r : InputRelocation) (v : ℕ) (packed : Bool) → IsPlaced l w m → NamesSymbol l r → FitsSigned w64 r.addend → decided l s r ≡ Ok (Moved v packed) → IsFollowed l r SymbolAddress → IsSum SymbolAddress l w m s r (number_at InMemory w v packed)
 
 -- else, at base 0, with the output's own symbol
 abbrev pub AddressesGiveLinked : Type 0
-AddressesGiveLinked = (l : Layout) (w : World) (m : Memory) (s : Item) (r : InputRelocation) (v i : ℕ) (packed : Bool) → IsPlaced l w m → NamesSymbol l r → decided l s r ≡ Ok (Moved v packed) → w.base ≡ 0 → r.symbol ≡ Some i → (IsStubbed l i → ⊥) → IsOwnSum SymbolAddress l w s r (number_at InMemory w v packed)
+AddressesGiveLinked = (l : Layout) (w : World) (m : Memory) (s : Item) (r : InputRelocation) (v i : ℕ) (packed : Bool) → IsPlaced l w m → NamesSymbol l r → decided l s r ≡ Ok (Moved v packed) → w.base ≡ 0 → r.symbol ≡ Some i → IsReplaceable l i true → (IsStubbed l i → ⊥) → IsOwnSum SymbolAddress l w s r (number_at InMemory w v packed)
 
 -- a field that is left to an entry has what the formula of the relocation's type gives, by what the entry stores, and is whole bytes
 abbrev pub EntriesGive : Type 0

@@ -28,6 +28,7 @@ use Rattle.wild_reloc.specs.declared.expression.Taken.TheVariants as taken
 use Rattle.wild_reloc.specs.declared.info.PageMask.{PageMask}
 use Rattle.wild_reloc.specs.declared.info.PageMask.TheVariants as masks
 use Rattle.wild_reloc.specs.declared.info.RelocationKindInfo.{RelocationKindInfo}
+use Rattle.wild_layout.specs.Merged.{names_merged}
 use Rattle.wild_layout.specs.Values.{term_at, value_in}
 use Rattle.wild_layout.specs.Geometry.{DefinitionNames, DefinitionsAreFinal, NamesSymbol}
 use Rattle.wild_layout.specs.SlotOrder.{EachAgrees}
@@ -44,6 +45,7 @@ use Rattle.wild_meaning.specs.Item.{place_at}
 use Rattle.wild_meaning.specs.Formula.{IsPlaceRelative, TakesAddress, TakesOffset}
 use Rattle.wild_meaning.specs.Reference.{IsStubbed}
 use Rattle.wild_meaning.specs.Linked.{processor_of}
+use Rattle.std.specs.Int.{w64, cast_unsigned}
 
 -- each symbol's definition is one of the layout's symbols, which defines itself, resolutions have their symbols' flags, which agree with slots and
 -- stubs, indexes are positions in the dynamic symbol table, and the addresses that were decided of them fit
@@ -116,7 +118,7 @@ abbrev pub value_by_row : RelocationKindInfo → Value
 value_by_row info = value_of info.kind info.mask info.size
 
 -- a relocation of an allocated section whose value x in its field is the writer's expression of a row, at a place that does
--- not wrap; the layout treats it as a value, and it is asked at this base
+-- not wrap; the layout treats it as a value, it is asked at this base, and an addend that finds a merged string is a number of the machine
 pub record HasTerm (l : Layout) (w : World) (m : Memory) (s : Item) (r : InputRelocation) (info : RelocationKindInfo) (x : ℕ) : Type 0 where
   pub placed : IsPlaced l w m
   pub room : allocated s.flags ≡ true
@@ -131,6 +133,7 @@ pub record HasTerm (l : Layout) (w : World) (m : Memory) (s : Item) (r : InputRe
   pub value : value_in l info term r.addend (place_of s.address r) ≡ x
   pub place : place_at w s r.offset ≡ w.base + place_of s.address r
   pub ends : w.base + place_of s.address r ≤ 2 ^ 64
+  pub addend : names_merged l r.symbol ≡ true → cast_unsigned w64 r.addend < 2 ^ 64
   pub asked : IsPlaceRelative (value_by_row info) → IsMovable l.kind → (i : ℕ) → r.symbol ≡ Some i → IsAbsolute l i → w.base ≡ 0
 
 -- whichever module has the relocation's symbol, it is not taken by itself: it is the output's own, or the expression

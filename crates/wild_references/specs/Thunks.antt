@@ -28,6 +28,7 @@ use Rattle.wild_loader.specs.Reach.{JumpsTo}
 use Rattle.wild_meaning.specs.Linked.{processor_of}
 use Rattle.wild_meaning.specs.Formula.{Gives}
 use Rattle.wild_references.specs.Terms.{MovesByPages, value_by_row, HasTerm, IsFollowed}
+use Rattle.wild_layout.specs.Merged.{names_merged}
 
 -- the thunk has a target, and the code at its loaded address, which does not wrap, goes on, by one jump, to the base and that
 pub record GoesOn (l : Layout) (w : World) (m : Memory) (t : Thunk) : Type 0 where
@@ -55,7 +56,7 @@ pub record Carries (info : RelocationKindInfo) : Type 0 where
   pub next : contains info.range 4 ≡ true
 
 -- where the row's value is out of its range, the thunk of the symbol's definition in the item's block goes on to what the symbol is, so that a
--- branch which adds nothing comes there by the distance of the thunk
+-- branch which adds nothing comes there by the distance of the thunk; a branch to the symbol itself goes to no merged string
 abbrev pub ThunksGive : Type 0
-ThunksGive = (info : RelocationKindInfo) → Carries info → (l : Layout) (w : World) (m : Memory) (s : Item) (r : InputRelocation) (x : ℕ) (t : Thunk) → l.machine ≡ machine.AArch64 → HasTerm l w m s r info x → EachThunkGoesOn l w m → IsFollowed l r (value_by_row info)
+ThunksGive = (info : RelocationKindInfo) → Carries info → (l : Layout) (w : World) (m : Memory) (s : Item) (r : InputRelocation) (x : ℕ) (t : Thunk) → l.machine ≡ machine.AArch64 → HasTerm l w m s r info x → EachThunkGoesOn l w m → (info.kind ≡ kinds.Relative → names_merged l r.symbol ≡ false) → IsFollowed l r (value_by_row info)
     → contains info.range x ≡ false → thunk_for l s.thunk_block r.symbol ≡ Some t → added r ≡ 0 → Gives StubDistance l w m s r (less t.address (place_of s.address r))

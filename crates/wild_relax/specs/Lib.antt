@@ -16,6 +16,7 @@ pub mod Section
 pub mod Laws
 pub mod ThunkAArch64
 pub mod Padding
+pub mod Properties
 pub mod LawsAArch64
 pub mod FieldsAArch64
 pub mod KeepAArch64

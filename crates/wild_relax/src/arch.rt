@@ -5,8 +5,10 @@ ghost use Rattle.wild_slot.specs.SlotParts.{type_of};
 ghost use Rattle.wild_slot.specs.Storage.{thread_pointer};
 ghost use Rattle.wild_slot.specs.Treatment.{is_barred_type, is_barred_in_shared};
 ghost use Rattle.wild_relax.specs.Padding.{code_filling, filling, repeated};
+ghost use Rattle.wild_relax.specs.Properties.{property_class};
 
 use crate::padding::{code_filling, fill_over_and_over, filling};
+use crate::property::{PropertyClass, property_class};
 use crate::reference::{Reference, UnknownSequence};
 use crate::relaxation::Relaxation;
 use wild_reloc::{DynamicRelocationKind, RelName, RelocationKindInfo};
@@ -67,6 +69,13 @@ pub trait Arch {
         ensures { room.new ≡ repeated (filling Self.machine section_flags) (length room.old) }
     {
         fill_over_and_over(room, filling(Self::arch_identifier(), section_flags));
+    }
+
+    /// How the values of a property of that type are joined; none where the machine has no such type (`pr_type`).
+    fn get_property_class(ptype: u32) -> Option<PropertyClass>
+        ensures { result ≡ property_class Self.machine ptype }
+    {
+        property_class(Self::arch_identifier(), ptype)
     }
 
     /// Whether the field of that type cannot hold the address of a symbol that another module may define.

@@ -7,6 +7,7 @@ mod laws;
 mod laws_aarch64;
 mod padding;
 mod pattern;
+mod property;
 mod reference;
 mod relaxation;
 mod rewrite;
@@ -30,6 +31,7 @@ pub use laws_aarch64::{
 };
 pub use padding::filling;
 pub use pattern::{Cell, GeneralForm, LocalForm, Operation, Pattern, Prefix, Sequence};
+pub use property::{PropertyClass, property_class};
 pub use reference::{NO_RELOCATION, Reference, RelocationInfo, UnknownSequence};
 pub use relaxation::{Relaxation, RelaxationKind, RelocationModifier};
 pub use rewrite::Change;

@@ -20,8 +20,8 @@ use Rattle.wild_layout.specs.declared.decision.Decision.{Decision}
 use Rattle.wild_layout.specs.declared.decision.Decision.TheVariants.{Nothing, Field, Moved, Left, Rewritten, Partner}
 use Rattle.wild_relax.specs.Linked.{pattern_size}
 use Rattle.wild_layout.specs.Decide.{decide}
-use Rattle.wild_layout.specs.Sites.{Written, written_by, field_site, template_site, site_by, site_of, site, sites, extent_of, shared_byte, item_bytes}
-use Rattle.wild_layout.specs.Faults.{relocation_errors, at_section, overlap_errors, item_errors}
+use Rattle.wild_layout.specs.Sites.{Written, written_by, field_site, template_site, site_by, site_of, site, sites, extent_of, shared_byte, MovesApart, item_bytes}
+use Rattle.wild_layout.specs.Faults.{relocation_errors, relocations_errors}
 use Rattle.wild_layout.specs.SectionPlaces.{FieldLies}
 use Rattle.wild_layout.proofs.SiteLemmas.{LiesIn, length-field_site}
 use Rattle.wild_sections.specs.Decided.{put_decision, WrittenLies, DecisionLies, reach_of, reach_behind, IsNext}
@@ -30,14 +30,14 @@ use Rattle.wild_sections.proofs.DecidedLemmas.{none_refused, refuses_decision, d
 use Rattle.wild_sections.proofs.InstructionLemmas.{length-instruction, decision_lies}
 
 -- the first i relocations were written one behind the other
-pub record HasAscended (l : Layout) (g f k : ℕ) (s : Item) (i reach : ℕ) (room : List ℕ) : Type 0 where
-  pub none : flat_map (relocation_errors l g f k s) (range_with_len 0 i) ≡ []
+pub record HasAscended (l : Layout) (g f k : ℕ) (s : Item) (os : List InputRelocation) (i reach : ℕ) (room : List ℕ) : Type 0 where
+  pub none : flat_map (relocation_errors l g f k s os) (range_with_len 0 i) ≡ []
   pub bytes : room ≡ overlay (flat_map (site l s) (range_with_len 0 i)) s.bytes
   pub apart : AreApart (length s.bytes) (flat_map (site l s) (range_with_len 0 i))
   pub ends : All (LiesIn reach) (flat_map (site l s) (range_with_len 0 i))
 
-pub not_begun : (l : Layout) (g f k : ℕ) (s : Item) (room : List ℕ) → room ≡ s.bytes → HasAscended l g f k s 0 0 room
-not_begun l g f k s room is = record {
+pub not_begun : (l : Layout) (g f k : ℕ) (s : Item) (os : List InputRelocation) (room : List ℕ) → room ≡ s.bytes → HasAscended l g f k s os 0 0 room
+not_begun l g f k s os room is = record {
   none = refl;
   bytes = is;
   apart = record { within = All-nil (λ (p : Piece). p.at + length p.bytes ≤ length s.bytes); apart = AllPairs-nil Apart };
@@ -92,9 +92,9 @@ site_behind s reach next ps r d apart ends lies is = by_decision s reach next ps
     by_decision s reach next ps r Partner apart ends lies is = by s (length s.bytes) reach next ps r None apart ends lies is
 
 -- one more relocation, written behind the others
-pub ascended_more : (l : Layout) (g f k : ℕ) (s : Item) (i reach next : ℕ) (x : InputRelocation) (d : Decision) (now room : List ℕ) → slice_get s.relocations i ≡ Some x → All (FieldLies l.machine (length s.bytes)) s.relocations
-    → HasAscended l g f k s i reach now → relocation_errors l g f k s i ≡ [] → decide l s i ≡ Ok d → reach_behind reach x d ≡ Some next → room ≡ put_decision now x d → HasAscended l g f k s (i + 1) next room
-ascended_more l g f k s i reach next x d now room listed lies before none is reaches put =
+pub ascended_more : (l : Layout) (g f k : ℕ) (s : Item) (os : List InputRelocation) (i reach next : ℕ) (x : InputRelocation) (d : Decision) (now room : List ℕ) → slice_get s.relocations i ≡ Some x → All (FieldLies l.machine (length s.bytes)) s.relocations
+    → HasAscended l g f k s os i reach now → relocation_errors l g f k s os i ≡ [] → decide l s i ≡ Ok d → reach_behind reach x d ≡ Some next → room ≡ put_decision now x d → HasAscended l g f k s os (i + 1) next room
+ascended_more l g f k s os i reach next x d now room listed lies before none is reaches put =
     let ps = flat_map (site l s) (range_with_len 0 i) in
     let here = decision_site l s i x d listed is in
     let more : flat_map (site l s) (range_with_len 0 (i + 1)) ≡ ps ++ site_of s x (Ok d) = flat_map-numbers (site l s) i ∙ ap (λ (qs : List Piece). ps ++ qs) here in
@@ -102,16 +102,16 @@ ascended_more l g f k s i reach next x d now room listed lies before none is rea
     let behind = site_behind s reach next ps x d before.apart before.ends lie reaches in
     let apart : AreApart (length s.bytes) (ps ++ (site_of s x (Ok d) ++ [])) = subst (λ (qs : List Piece). AreApart (length s.bytes) (ps ++ qs)) (sym (append-nil (site_of s x (Ok d)))) behind.apart in
     record {
-      none = none_refused l g f k s i before.none none;
+      none = none_refused l g f k s os i before.none none;
       bytes = put ∙ ap (λ (old : List ℕ). put_decision old x d) before.bytes ∙ put_next s ps [] x d lie apart ∙ ap (λ (qs : List Piece). overlay qs s.bytes) (sym more);
       apart = subst (AreApart (length s.bytes)) (sym more) behind.apart;
       ends = subst (λ (qs : List Piece). All (LiesIn next) qs) (sym more) behind.ends;
     }
 
 -- the same of what a step of the walk gives
-pub ascended_next : (l : Layout) (g f k : ℕ) (s : Item) (i reach next : ℕ) (o : Option ℕ) (now room : List ℕ) → All (FieldLies l.machine (length s.bytes)) s.relocations
-    → HasAscended l g f k s i reach now → relocation_errors l g f k s i ≡ [] → IsNext l s i reach o now room → o ≡ Some next → HasAscended l g f k s (i + 1) next room
-ascended_next l g f k s i reach next o now room lies before none step is = ascended_more l g f k s i reach next step.relocation step.decision now room step.listed lies before none step.is (sym step.reached ∙ is) (step.written next is)
+pub ascended_next : (l : Layout) (g f k : ℕ) (s : Item) (os : List InputRelocation) (i reach next : ℕ) (o : Option ℕ) (now room : List ℕ) → All (FieldLies l.machine (length s.bytes)) s.relocations
+    → HasAscended l g f k s os i reach now → relocation_errors l g f k s os i ≡ [] → IsNext l s i reach o now room → o ≡ Some next → HasAscended l g f k s os (i + 1) next room
+ascended_next l g f k s os i reach next o now room lies before none step is = ascended_more l g f k s os i reach next step.relocation step.decision now room step.listed lies before none step.is (sym step.reached ∙ is) (step.written next is)
 
 -- ---- all of them
 
@@ -126,22 +126,22 @@ pairs_beside (p ∷ ps) h = AllPairs-cons SharesNothing (extent_of p) (map exten
 nothing_shared : (n : ℕ) (ps : List Piece) → AreApart n ps → least_extent (map extent_of ps) ≡ None
 nothing_shared n ps h = none-shared (map extent_of ps) (pairs_beside ps h.apart)
 
--- the first fault of a relocation is that of the item
-pub ascending_refused : (l : Layout) (g f k : ℕ) (s : Item) (i reach : ℕ) (room : List ℕ) (e : Error) → i < length s.relocations → HasAscended l g f k s i reach room
-    → Refuses e (relocation_errors l g f k s i) → Refuses e (item_errors l g f k s)
-ascending_refused l g f k s i reach room e h before here =
-    Refuses-front e (flat_map (relocation_errors l g f k s) (range_with_len 0 (length s.relocations))) (overlap_errors (at_section g f k) (shared_byte l s)) (refuses_decision l g f k s i e h before.none here)
+-- the first fault of a relocation is that of all
+pub ascending_refused : (l : Layout) (g f k : ℕ) (s : Item) (os : List InputRelocation) (i reach : ℕ) (room : List ℕ) (e : Error) → i < length s.relocations → HasAscended l g f k s os i reach room
+    → Refuses e (relocation_errors l g f k s os i) → Refuses e (relocations_errors l g f k s os)
+ascending_refused l g f k s os i reach room e h before here = refuses_decision l g f k s os i e h before.none here
 
-at_end : (l : Layout) (g f k : ℕ) (s : Item) (i reach : ℕ) (room : List ℕ) → i ≡ length s.relocations → HasAscended l g f k s i reach room → HasAscended l g f k s (length s.relocations) reach room
-at_end l g f k s i reach room end h = subst (λ (n : ℕ). HasAscended l g f k s n reach room) end h
+at_end : (l : Layout) (g f k : ℕ) (s : Item) (os : List InputRelocation) (i reach : ℕ) (room : List ℕ) → i ≡ length s.relocations → HasAscended l g f k s os i reach room → HasAscended l g f k s os (length s.relocations) reach room
+at_end l g f k s os i reach room end h = subst (λ (n : ℕ). HasAscended l g f k s os n reach room) end h
 
--- an item that was written so has no fault
-pub ascending_passes : (l : Layout) (g f k : ℕ) (s : Item) (i reach : ℕ) (room : List ℕ) → i ≡ length s.relocations → HasAscended l g f k s i reach room → item_errors l g f k s ≡ []
-ascending_passes l g f k s i reach room end h =
-    let all = at_end l g f k s i reach room end h in
-    let shared : shared_byte l s ≡ None = nothing_shared (length s.bytes) (sites l s) all.apart in
-    rw (all.none, shared) refl
+-- an item that was written so has none
+pub ascending_passes : (l : Layout) (g f k : ℕ) (s : Item) (os : List InputRelocation) (i reach : ℕ) (room : List ℕ) → i ≡ length s.relocations → HasAscended l g f k s os i reach room → relocations_errors l g f k s os ≡ []
+ascending_passes l g f k s os i reach room end h = (at_end l g f k s os i reach room end h).none
+
+-- no byte of the input is written twice
+pub ascending_apart : (l : Layout) (g f k : ℕ) (s : Item) (os : List InputRelocation) (i reach : ℕ) (room : List ℕ) → i ≡ length s.relocations → MovesApart l s os → HasAscended l g f k s os i reach room → shared_byte l s os ≡ None
+ascending_apart l g f k s os i reach room end moves h = moves.back (nothing_shared (length s.bytes) (sites l s) (at_end l g f k s os i reach room end h).apart)
 
 -- and its bytes are there
-pub ascending_written : (l : Layout) (g f k : ℕ) (s : Item) (i reach : ℕ) (room : List ℕ) → i ≡ length s.relocations → HasAscended l g f k s i reach room → room ≡ item_bytes l s
-ascending_written l g f k s i reach room end h = (at_end l g f k s i reach room end h).bytes
+pub ascending_written : (l : Layout) (g f k : ℕ) (s : Item) (os : List InputRelocation) (i reach : ℕ) (room : List ℕ) → i ≡ length s.relocations → HasAscended l g f k s os i reach room → room ≡ item_bytes l s
+ascending_written l g f k s os i reach room end h = (at_end l g f k s os i reach room end h).bytes

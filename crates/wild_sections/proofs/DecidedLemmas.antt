@@ -1,18 +1,18 @@
 -- Laws of what the decisions on a section's relocations make.
 use Rattle.std.proofs.Common.{◌≡◌, ℕ, zero, suc, ◌+◌, ◌<◌, ◌≤◌, ◌⊎◌, inl, inr, Bool, true, false, List, [], ◌∷◌, ◌++◌, length, get_or, take, drop, map, max, nat_le, ◌&&◌, slice_get, slice_range, refl, sym, ap, ◌∙◌, arith, subst}
-use Rattle.std.specs.Prelude.{All, AllPairs, Option, Some, None, Ok, option_to_list}
+use Rattle.std.specs.Prelude.{All, AllPairs, Option, Some, None, Result, Ok, option_to_list, ◌-◌}
 use Rattle.std.specs.List.{flat_map, range_with_len}
 use Rattle.std.proofs.lemmas.Bool.{and_parts, leb-true, le-leb, lt-leb}
 use Rattle.std.proofs.lemmas.List.{take_more, append-nil, append_assoc, take_all, length-take, length-append}
 use Rattle.std.proofs.lemmas.List.Elements.{All-nil, All-cons}
-use Rattle.std.proofs.lemmas.Option.{slice_get-get_or, get_or_from_slice_get}
+use Rattle.std.proofs.lemmas.Option.{slice_get-get_or, get_or_from_slice_get, slice_get_within}
 use Rattle.wild_words.specs.Words.{place}
 use Rattle.wild_words.specs.Overlay.{Piece, overlay, AreApart}
 use Rattle.wild_words.specs.declared.extents.Extent.{Extent}
 use Rattle.wild_words.specs.Extents.{SharesNothing, least_extent}
 use Rattle.wild_words.proofs.ExtentLemmas.{none-shared, beside-nothing}
 use Rattle.wild_words.proofs.OrderLemmas.{own_range_next}
-use Rattle.wild_words.proofs.ListLemmas.{flat_map-numbers}
+use Rattle.wild_words.proofs.ListLemmas.{flat_map-numbers, flat_map-same}
 use Rattle.wild_words.proofs.Basics.{slice_get_inside}
 use Rattle.wild_types.specs.declared.input.InputRelocation.{InputRelocation}
 use Rattle.wild_types.specs.Item.{Item}
@@ -23,16 +23,16 @@ use Rattle.wild_layout.specs.declared.decision.Decision.{Decision}
 use Rattle.wild_layout.specs.declared.decision.Decision.TheVariants.{Nothing, Field, Moved, Left, Rewritten, Partner}
 use Rattle.wild_relax.specs.Linked.{pattern_size, template_of}
 use Rattle.wild_layout.specs.Decide.{decide}
-use Rattle.wild_layout.specs.Sites.{Written, written_by, field_site, template_site, site_by, site_of, site, extent_of, shared_byte}
-use Rattle.wild_types.specs.Faults.{Refuses}
-use Rattle.wild_layout.specs.Faults.{relocation_errors, at_section, overlap_errors, item_errors}
+use Rattle.wild_layout.specs.Sites.{Written, written_by, field_site, template_site, site_by, site_of, site, extent_of, extent_back, extents_by, input_extents, shared_byte, MovesApart}
+use Rattle.wild_types.specs.Faults.{Refuses, Answers}
+use Rattle.wild_layout.specs.Faults.{relocation_errors, at_section, overlap_errors, relocations_errors, item_errors}
 use Rattle.wild_layout.specs.SectionPlaces.{FieldLies}
 use Rattle.wild_layout.proofs.SiteLemmas.{length-field_site, sites_apart}
 use Rattle.wild_layout.proofs.FaultLemmas.{no_overlap}
-use Rattle.wild_sections.specs.Decided.{decided_sites, written_extent, decided_extent, decided_extents, ascends, put_written, put_decision, DecisionLies, DecisionsLie, AreDecided}
+use Rattle.wild_sections.specs.Decided.{decided_sites, written_extent, decided_extent, extent_by, extent_at, decided_extents, ascends, put_written, put_decision, DecisionLies, DecisionsLie, AreDecided}
 use Rattle.wild_sections.proofs.InstructionLemmas.{length-instruction, decision_lies}
 use Rattle.wild_sections.proofs.PieceLemmas.{overlay-append}
-use Rattle.wild_sections.proofs.FaultLemmas.{refuses_number}
+use Rattle.wild_sections.proofs.FaultLemmas.{refuses_number, Refuses-front, Refuses-behind}
 
 -- ---- fields in order
 
@@ -70,20 +70,9 @@ sites-append s [] qs (d ∷ ds) es h = absurd (omega arith)
 sites-append s (r ∷ rs) qs [] es h = absurd (omega arith)
 sites-append s (r ∷ rs) qs (d ∷ ds) es h = ap (λ (ps : List Piece). site_of s r (Ok d) ++ ps) (sites-append s rs qs ds es (omega arith)) ∙ sym (append_assoc (site_of s r (Ok d)) (decided_sites s rs ds) (decided_sites s qs es))
 
-pub extents-append : (rs qs : List InputRelocation) (ds es : List Decision) → length rs ≡ length ds → decided_extents (rs ++ qs) (ds ++ es) ≡ decided_extents rs ds ++ decided_extents qs es
-unfolding decided_extents
-extents-append [] qs [] es h = refl
-extents-append [] qs (d ∷ ds) es h = absurd (omega arith)
-extents-append (r ∷ rs) qs [] es h = absurd (omega arith)
-extents-append (r ∷ rs) qs (d ∷ ds) es h = ap (λ (ps : List Extent). option_to_list (decided_extent r d) ++ ps) (extents-append rs qs ds es (omega arith)) ∙ sym (append_assoc (option_to_list (decided_extent r d)) (decided_extents rs ds) (decided_extents qs es))
-
 one_site : (s : Item) (r : InputRelocation) (d : Decision) → decided_sites s (r ∷ []) (d ∷ []) ≡ site_of s r (Ok d)
 unfolding decided_sites
 one_site s r d = append-nil (site_of s r (Ok d))
-
-one_extent : (r : InputRelocation) (d : Decision) → decided_extents (r ∷ []) (d ∷ []) ≡ option_to_list (decided_extent r d)
-unfolding decided_extents
-one_extent r d = append-nil (option_to_list (decided_extent r d))
 
 length-both : {X Y : Type 0} (xs : List X) (ys : List Y) (i : ℕ) → length ys ≡ length xs → length (take i xs) ≡ length (take i ys)
 length-both xs ys i h = let a = length-take i xs in let b = length-take i ys in omega (arith, a, b, h)
@@ -97,65 +86,55 @@ sites-more s rs ds i r d n h =
     ∙ sites-append s (take i rs) (get_or rs i r ∷ []) (take i ds) (get_or ds i d ∷ []) (length-both rs ds i n)
     ∙ ap (λ (ps : List Piece). decided_sites s (take i rs) (take i ds) ++ ps) (one_site s (get_or rs i r) (get_or ds i d))
 
-pub extents-more : (rs : List InputRelocation) (ds : List Decision) (i : ℕ) (r : InputRelocation) (d : Decision) → length ds ≡ length rs → i < length ds
-    → decided_extents (take (i + 1) rs) (take (i + 1) ds) ≡ decided_extents (take i rs) (take i ds) ++ option_to_list (decided_extent (get_or rs i r) (get_or ds i d))
-extents-more rs ds i r d n h =
-    ap (λ (qs : List InputRelocation). decided_extents qs (take (i + 1) ds)) (take_more rs i r (omega arith))
-    ∙ ap (λ (es : List Decision). decided_extents (take i rs ++ get_or rs i r ∷ []) es) (take_more ds i d h)
-    ∙ extents-append (take i rs) (get_or rs i r ∷ []) (take i ds) (get_or ds i d ∷ []) (length-both rs ds i n)
-    ∙ ap (λ (ps : List Extent). decided_extents (take i rs) (take i ds) ++ ps) (one_extent (get_or rs i r) (get_or ds i d))
+-- ---- extents by their places
 
--- the two lists from a place on
-extents-from : (rs : List InputRelocation) (ds : List Decision) (i : ℕ) (r : InputRelocation) (d : Decision) → length ds ≡ length rs → i < length ds
-    → decided_extents (drop i rs) (drop i ds) ≡ option_to_list (decided_extent (get_or rs i r) (get_or ds i d)) ++ decided_extents (drop (suc i) rs) (drop (suc i) ds)
-unfolding decided_extents
-extents-from [] [] i r d n h = absurd (omega arith)
-extents-from [] (x ∷ ds) i r d n h = absurd (omega arith)
-extents-from (q ∷ rs) [] i r d n h = absurd (omega arith)
-extents-from (q ∷ rs) (x ∷ ds) zero r d n h = refl
-extents-from (q ∷ rs) (x ∷ ds) (suc i) r d n h = extents-from rs ds i r d (omega arith) (omega arith)
+-- those from a place on
+extents-from : (f : ℕ → List Extent) (i n reach : ℕ) (all : Bool) → i < n → ascends reach (flat_map f (range_with_len i (n - i))) ≡ all → ascends reach (f i ++ flat_map f (range_with_len (i + 1) (n - (i + 1)))) ≡ all
+extents-from f i n reach all h before = (let e : n - i ≡ suc (n - (i + 1)) = omega (arith, h) in subst (λ (k : ℕ). ascends reach (flat_map f (range_with_len i k)) ≡ all) e before)
 
-ascends-from : (rs : List InputRelocation) (ds : List Decision) (i reach : ℕ) (all : Bool) (r : InputRelocation) (d : Decision) (o : Option Extent) → length ds ≡ length rs → i < length ds → o ≡ decided_extent (get_or rs i r) (get_or ds i d)
-    → ascends reach (decided_extents (drop i rs) (drop i ds)) ≡ all → ascends reach (option_to_list o ++ decided_extents (drop (i + 1) rs) (drop (i + 1) ds)) ≡ all
-ascends-from rs ds i reach all r d o n h is before =
-    let s : suc i ≡ i + 1 = omega arith in
-    let from = subst (λ (es : List Extent). ascends reach es ≡ all) (extents-from rs ds i r d n h) before in
-    let at = subst (λ (k : ℕ). ascends reach (option_to_list (decided_extent (get_or rs i r) (get_or ds i d)) ++ decided_extents (drop k rs) (drop k ds)) ≡ all) s from in
-    subst (λ (x : Option Extent). ascends reach (option_to_list x ++ decided_extents (drop (i + 1) rs) (drop (i + 1) ds)) ≡ all) (sym is) at
+ascends-from : (f : ℕ → List Extent) (i n reach : ℕ) (all : Bool) (o : Option Extent) → i < n → option_to_list o ≡ f i → ascends reach (flat_map f (range_with_len i (n - i))) ≡ all
+    → ascends reach (option_to_list o ++ flat_map f (range_with_len (i + 1) (n - (i + 1)))) ≡ all
+ascends-from f i n reach all o h is before = subst (λ (es : List Extent). ascends reach (es ++ flat_map f (range_with_len (i + 1) (n - (i + 1)))) ≡ all) (sym is) (extents-from f i n reach all h before)
 
-pub ascends-none : (rs : List InputRelocation) (ds : List Decision) (i reach : ℕ) (all : Bool) (r : InputRelocation) (d : Decision) (o : Option Extent) → length ds ≡ length rs → i < length ds → o ≡ decided_extent (get_or rs i r) (get_or ds i d)
-    → o ≡ None → ascends reach (decided_extents (drop i rs) (drop i ds)) ≡ all → ascends reach (decided_extents (drop (i + 1) rs) (drop (i + 1) ds)) ≡ all
-ascends-none rs ds i reach all r d o n h is none before =
-    subst (λ (x : Option Extent). ascends reach (option_to_list x ++ decided_extents (drop (i + 1) rs) (drop (i + 1) ds)) ≡ all) none (ascends-from rs ds i reach all r d o n h is before)
+pub ascends-none : (f : ℕ → List Extent) (i n reach : ℕ) (all : Bool) (o : Option Extent) → i < n → option_to_list o ≡ f i → o ≡ None → ascends reach (flat_map f (range_with_len i (n - i))) ≡ all
+    → ascends reach (flat_map f (range_with_len (i + 1) (n - (i + 1)))) ≡ all
+ascends-none f i n reach all o h is none before =
+    subst (λ (x : Option Extent). ascends reach (option_to_list x ++ flat_map f (range_with_len (i + 1) (n - (i + 1)))) ≡ all) none (ascends-from f i n reach all o h is before)
 
-pub ascends-some : (rs : List InputRelocation) (ds : List Decision) (i reach next : ℕ) (all : Bool) (r : InputRelocation) (d : Decision) (o : Option Extent) (e : Extent) → length ds ≡ length rs → i < length ds → o ≡ decided_extent (get_or rs i r) (get_or ds i d)
-    → o ≡ Some e → reach ≤ e.start → next ≡ max reach e.end → ascends reach (decided_extents (drop i rs) (drop i ds)) ≡ all → ascends next (decided_extents (drop (i + 1) rs) (drop (i + 1) ds)) ≡ all
+pub ascends-some : (f : ℕ → List Extent) (i n reach next : ℕ) (all : Bool) (o : Option Extent) (e : Extent) → i < n → option_to_list o ≡ f i → o ≡ Some e → reach ≤ e.start → next ≡ max reach e.end → ascends reach (flat_map f (range_with_len i (n - i))) ≡ all
+    → ascends next (flat_map f (range_with_len (i + 1) (n - (i + 1)))) ≡ all
 unfolding ascends
-ascends-some rs ds i reach next all r d o e n h is some low more before =
-    let rest = decided_extents (drop (i + 1) rs) (drop (i + 1) ds) in
-    let here : (nat_le reach e.start && ascends (max reach e.end) rest) ≡ all = subst (λ (x : Option Extent). ascends reach (option_to_list x ++ rest) ≡ all) some (ascends-from rs ds i reach all r d o n h is before) in
+ascends-some f i n reach next all o e h is some low more before =
+    let rest = flat_map f (range_with_len (i + 1) (n - (i + 1))) in
+    let here : (nat_le reach e.start && ascends (max reach e.end) rest) ≡ all = subst (λ (x : Option Extent). ascends reach (option_to_list x ++ rest) ≡ all) some (ascends-from f i n reach all o h is before) in
     let t = le-leb _ _ low in
     let then : ascends (max reach e.end) rest ≡ all = subst (λ (b : Bool). (b && ascends (max reach e.end) rest) ≡ all) t here in
     subst (λ (k : ℕ). ascends k rest ≡ all) (sym more) then
 
-pub ascends-fails : (rs : List InputRelocation) (ds : List Decision) (i reach : ℕ) (all : Bool) (r : InputRelocation) (d : Decision) (o : Option Extent) (e : Extent) → length ds ≡ length rs → i < length ds → o ≡ decided_extent (get_or rs i r) (get_or ds i d)
-    → o ≡ Some e → e.start < reach → ascends reach (decided_extents (drop i rs) (drop i ds)) ≡ all → false ≡ all
+pub ascends-fails : (f : ℕ → List Extent) (i n reach : ℕ) (all : Bool) (o : Option Extent) (e : Extent) → i < n → option_to_list o ≡ f i → o ≡ Some e → e.start < reach → ascends reach (flat_map f (range_with_len i (n - i))) ≡ all → false ≡ all
 unfolding ascends
-ascends-fails rs ds i reach all r d o e n h is some low before =
-    let rest = decided_extents (drop (i + 1) rs) (drop (i + 1) ds) in
-    let here : (nat_le reach e.start && ascends (max reach e.end) rest) ≡ all = subst (λ (x : Option Extent). ascends reach (option_to_list x ++ rest) ≡ all) some (ascends-from rs ds i reach all r d o n h is before) in
+ascends-fails f i n reach all o e h is some low before =
+    let rest = flat_map f (range_with_len (i + 1) (n - (i + 1))) in
+    let here : (nat_le reach e.start && ascends (max reach e.end) rest) ≡ all = subst (λ (x : Option Extent). ascends reach (option_to_list x ++ rest) ≡ all) some (ascends-from f i n reach all o h is before) in
     let t : nat_le reach e.start ≡ false = lt-leb _ _ low in
     subst (λ (b : Bool). (b && ascends (max reach e.end) rest) ≡ all) t here
 
-pub extents-some : (rs : List InputRelocation) (ds : List Decision) (i : ℕ) (r : InputRelocation) (d : Decision) (o : Option Extent) (e : Extent) (before now : List Extent) → length ds ≡ length rs → i < length ds → o ≡ decided_extent (get_or rs i r) (get_or ds i d)
-    → o ≡ Some e → before ≡ decided_extents (take i rs) (take i ds) → now ≡ before ++ e ∷ [] → now ≡ decided_extents (take (i + 1) rs) (take (i + 1) ds)
-extents-some rs ds i r d o e before now n h is some was pushed =
-    pushed ∙ ap (λ (es : List Extent). es ++ e ∷ []) was ∙ ap (λ (x : Option Extent). decided_extents (take i rs) (take i ds) ++ option_to_list x) (sym some ∙ is) ∙ sym (extents-more rs ds i r d n h)
+-- behind the last there is none
+pub ascends-end : (f : ℕ → List Extent) (i n reach : ℕ) (all : Bool) → n ≤ i → ascends reach (flat_map f (range_with_len i (n - i))) ≡ all → true ≡ all
+unfolding ascends
+ascends-end f i n reach all h before = (let e : n - i ≡ 0 = omega (arith, h) in subst (λ (k : ℕ). ascends reach (flat_map f (range_with_len i k)) ≡ all) e before)
 
-pub extents-none : (rs : List InputRelocation) (ds : List Decision) (i : ℕ) (r : InputRelocation) (d : Decision) (o : Option Extent) (before : List Extent) → length ds ≡ length rs → i < length ds → o ≡ decided_extent (get_or rs i r) (get_or ds i d)
-    → o ≡ None → before ≡ decided_extents (take i rs) (take i ds) → before ≡ decided_extents (take (i + 1) rs) (take (i + 1) ds)
-extents-none rs ds i r d o before n h is none was =
-    was ∙ sym (append-nil (decided_extents (take i rs) (take i ds))) ∙ ap (λ (x : Option Extent). decided_extents (take i rs) (take i ds) ++ option_to_list x) (sym none ∙ is) ∙ sym (extents-more rs ds i r d n h)
+pub extents-some : (f : ℕ → List Extent) (i : ℕ) (o : Option Extent) (e : Extent) (before now : List Extent) → option_to_list o ≡ f i → o ≡ Some e → before ≡ flat_map f (range_with_len 0 i) → now ≡ before ++ e ∷ [] → now ≡ flat_map f (range_with_len 0 (i + 1))
+extents-some f i o e before now is some was pushed =
+    pushed ∙ ap (λ (es : List Extent). es ++ e ∷ []) was ∙ ap (λ (es : List Extent). flat_map f (range_with_len 0 i) ++ es) (ap option_to_list (sym some) ∙ is) ∙ sym (flat_map-numbers f i)
+
+pub extents-none : (f : ℕ → List Extent) (i : ℕ) (o : Option Extent) (before : List Extent) → option_to_list o ≡ f i → o ≡ None → before ≡ flat_map f (range_with_len 0 i) → before ≡ flat_map f (range_with_len 0 (i + 1))
+extents-none f i o before is none was =
+    was ∙ sym (append-nil (flat_map f (range_with_len 0 i))) ∙ ap (λ (es : List Extent). flat_map f (range_with_len 0 i) ++ es) (ap option_to_list (sym none) ∙ is) ∙ sym (flat_map-numbers f i)
+
+-- where one stands
+pub extent_is : (rs os : List InputRelocation) (ds : List Decision) (i : ℕ) (o r : InputRelocation) (d : Decision) → slice_get os i ≡ Some o → slice_get rs i ≡ Some r → slice_get ds i ≡ Some d → option_to_list (decided_extent o.offset r d) ≡ extent_at rs os ds i
+extent_is rs os ds i o r d origin listed made = rw (origin, listed, made) refl
 
 -- the decisions before a place, at it and behind
 sites-split : (s : Item) (rs : List InputRelocation) (ds : List Decision) (i : ℕ) (r : InputRelocation) (d : Decision) → length ds ≡ length rs → i < length ds
@@ -169,34 +148,21 @@ sites-split s (q ∷ rs) (x ∷ ds) (suc i) r d n h =
     ap (λ (ps : List Piece). site_of s q (Ok x) ++ ps) (sites-split s rs ds i r d (omega arith) (omega arith))
     ∙ sym (append_assoc (site_of s q (Ok x)) (decided_sites s (take i rs) (take i ds)) (site_of s (get_or rs i r) (Ok (get_or ds i d)) ++ decided_sites s (drop (suc i) rs) (drop (suc i) ds)))
 
--- where the sites are
-one_extent_is : (s : Item) (r : InputRelocation) (d : Decision) → DecisionLies (length s.bytes) r d → map extent_of (site_of s r (Ok d)) ≡ option_to_list (decided_extent r d)
-one_extent_is s r d lies = by_decision s r d lies
+-- where the sites are in the input
+one_extent_is : (s : Item) (from : ℕ) (r : InputRelocation) (d : Decision) → DecisionLies (length s.bytes) r d → option_to_list (decided_extent from r d) ≡ map (extent_back from r.offset) (site_of s r (Ok d))
+one_extent_is s from r d lies = by_decision s r d lies
   where
-    by : (s : Item) (r : InputRelocation) (o : Option Written) → map extent_of (site_by s r o) ≡ option_to_list (written_extent r.offset o)
+    by : (s : Item) (r : InputRelocation) (o : Option Written) → option_to_list (written_extent from o) ≡ map (extent_back from r.offset) (site_by s r o)
     by s r None = refl
-    by s r (Some w) = let n = length-field_site s r.offset w.size w.value in rw n refl
+    by s r (Some w) = (let n = length-field_site s r.offset w.size w.value in let e : r.offset + from - r.offset ≡ from = omega arith in rw (n, e) refl)
 
-    by_decision : (s : Item) (r : InputRelocation) (d : Decision) → DecisionLies (length s.bytes) r d → map extent_of (site_of s r (Ok d)) ≡ option_to_list (decided_extent r d)
+    by_decision : (s : Item) (r : InputRelocation) (d : Decision) → DecisionLies (length s.bytes) r d → option_to_list (decided_extent from r d) ≡ map (extent_back from r.offset) (site_of s r (Ok d))
     by_decision s r Nothing lies = refl
     by_decision s r (Field z v) lies = by s r (written_by (Field z v))
     by_decision s r (Moved v packed) lies = by s r (written_by (Moved v packed))
     by_decision s r (Left z n i a) lies = by s r (written_by (Left z n i a))
     by_decision s r (Rewritten row v) lies = let n = length-instruction s r row v lies in rw n refl
     by_decision s r Partner lies = refl
-
-map-append : (ps qs : List Piece) → map extent_of (ps ++ qs) ≡ map extent_of ps ++ map extent_of qs
-map-append [] qs = refl
-map-append (p ∷ ps) qs = ap (λ (es : List Extent). extent_of p ∷ es) (map-append ps qs)
-
-pub extents_are : (s : Item) (rs : List InputRelocation) (ds : List Decision) → DecisionsLie (length s.bytes) rs ds → map extent_of (decided_sites s rs ds) ≡ decided_extents rs ds
-unfolding decided_sites decided_extents
-extents_are s [] ds lie = refl
-extents_are s (r ∷ rs) [] lie = refl
-extents_are s (r ∷ rs) (d ∷ ds) lie =
-    map-append (site_of s r (Ok d)) (decided_sites s rs ds)
-    ∙ ap (λ (es : List Extent). map extent_of (site_of s r (Ok d)) ++ es) (extents_are s rs ds (λ i q e listed made. lie (suc i) q e listed made))
-    ∙ ap (λ (es : List Extent). es ++ decided_extents rs ds) (one_extent_is s r d (lie 0 r d refl refl))
 
 pub lies_in_bytes : (l : Layout) (s : Item) (n : ℕ) → n ≡ length s.bytes → All (FieldLies l.machine n) s.relocations → All (FieldLies l.machine (length s.bytes)) s.relocations
 lies_in_bytes l s n whole lies = subst (λ (m : ℕ). All (FieldLies l.machine m) s.relocations) whole lies
@@ -205,21 +171,45 @@ lies_in_bytes l s n whole lies = subst (λ (m : ℕ). All (FieldLies l.machine m
 pub decisions_lie : (l : Layout) (s : Item) (ds : List Decision) (n : ℕ) → AreDecided l s ds → n ≡ length s.bytes → All (FieldLies l.machine n) s.relocations → DecisionsLie n s.relocations ds
 decisions_lie l s ds n h whole lies = λ i r d listed made. decision_lies l s i n r d listed whole lies (h.each i d made)
 
-pub shared_is : (l : Layout) (s : Item) (ds : List Decision) → AreDecided l s ds → All (FieldLies l.machine (length s.bytes)) s.relocations → least_extent (decided_extents s.relocations ds) ≡ shared_byte l s
-shared_is l s ds h lies = ap least_extent (sym (extents_are s s.relocations ds (decisions_lie l s ds (length s.bytes) h refl lies)) ∙ ap (map extent_of) h.same)
-
 -- ---- deciding
 
 pub decision_site : (l : Layout) (s : Item) (i : ℕ) (r : InputRelocation) (d : Decision) → slice_get s.relocations i ≡ Some r → decide l s i ≡ Ok d → site l s i ≡ site_of s r (Ok d)
 unfolding site
 decision_site l s i r d e is = rw (e, is) refl
 
-pub refuses_decision : (l : Layout) (g f k : ℕ) (s : Item) (i : ℕ) (e : Error) → i < length s.relocations → flat_map (relocation_errors l g f k s) (range_with_len 0 i) ≡ []
-    → Refuses e (relocation_errors l g f k s i) → Refuses e (flat_map (relocation_errors l g f k s) (range_with_len 0 (length s.relocations)))
-refuses_decision l g f k s i e h none here = refuses_number (relocation_errors l g f k s) 0 (length s.relocations) i i e h (omega arith) none here
+none_there : (l : Layout) (s : Item) (i : ℕ) → slice_get s.relocations i ≡ None → site l s i ≡ []
+unfolding site
+none_there l s i is = rw is refl
 
-pub none_refused : (l : Layout) (g f k : ℕ) (s : Item) (i : ℕ) → flat_map (relocation_errors l g f k s) (range_with_len 0 i) ≡ [] → relocation_errors l g f k s i ≡ [] → flat_map (relocation_errors l g f k s) (range_with_len 0 (i + 1)) ≡ []
-none_refused l g f k s i none here = flat_map-numbers (relocation_errors l g f k s) i ∙ ap (λ (es : List Error). es ++ relocation_errors l g f k s i) none ∙ here
+pub shared_is : (l : Layout) (s : Item) (os : List InputRelocation) (ds : List Decision) → length os ≡ length s.relocations → AreDecided l s ds → All (FieldLies l.machine (length s.bytes)) s.relocations → least_extent (decided_extents s.relocations os ds) ≡ shared_byte l s os
+unfolding decided_extents
+shared_is l s os ds count h lies =
+    ap (λ (n : ℕ). least_extent (flat_map (extent_at s.relocations os ds) (range_with_len 0 n))) h.count
+    ∙ ap least_extent (flat_map-same (extent_at s.relocations os ds) (input_extents l s os) (range_with_len 0 (length s.relocations)) (λ i. by_listed i (slice_get s.relocations i) refl))
+  where
+    past : (a : Option InputRelocation) (b : Option Decision) → extent_by a None b ≡ extents_by a None []
+    past None b = refl
+    past (Some o) b = refl
+
+    by_listed : (i : ℕ) (o : Option InputRelocation) → slice_get s.relocations i ≡ o → extent_at s.relocations os ds i ≡ input_extents l s os i
+    by_listed i None is = rw (is, none_there l s i is) (past (slice_get os i) (slice_get ds i))
+    by_listed i (Some r) is =
+        let low = slice_get_within s.relocations i r is in
+        let few = h.count in
+        let there = slice_get_inside os i (omega (arith, low, count)) in
+        let made = slice_get_inside ds i (omega (arith, low, few)) in
+        let decided = h.each i made.0 made.1 in
+        let lie = decision_lies l s i (length s.bytes) r made.0 is refl lies decided in
+        let e = decision_site l s i r made.0 is decided in
+        let here = one_extent_is s there.0.offset r made.0 lie in
+        rw (there.1, is, made.1, e) here
+
+pub refuses_decision : (l : Layout) (g f k : ℕ) (s : Item) (os : List InputRelocation) (i : ℕ) (e : Error) → i < length s.relocations → flat_map (relocation_errors l g f k s os) (range_with_len 0 i) ≡ []
+    → Refuses e (relocation_errors l g f k s os i) → Refuses e (flat_map (relocation_errors l g f k s os) (range_with_len 0 (length s.relocations)))
+refuses_decision l g f k s os i e h none here = refuses_number (relocation_errors l g f k s os) 0 (length s.relocations) i i e h (omega arith) none here
+
+pub none_refused : (l : Layout) (g f k : ℕ) (s : Item) (os : List InputRelocation) (i : ℕ) → flat_map (relocation_errors l g f k s os) (range_with_len 0 i) ≡ [] → relocation_errors l g f k s os i ≡ [] → flat_map (relocation_errors l g f k s os) (range_with_len 0 (i + 1)) ≡ []
+none_refused l g f k s os i none here = flat_map-numbers (relocation_errors l g f k s os) i ∙ ap (λ (es : List Error). es ++ relocation_errors l g f k s os i) none ∙ here
 
 -- the first i relocations were decided
 pub record HasDecided (l : Layout) (s : Item) (i : ℕ) (ds : List Decision) : Type 0 where
@@ -279,17 +269,28 @@ all_decided l s ds i end h = record {
 }
 
 -- the faults of an item whose relocations have none
-pub overlap_refused : (l : Layout) (g f k : ℕ) (s : Item) (ds : List Decision) (e : Error) → AreDecided l s ds → All (FieldLies l.machine (length s.bytes)) s.relocations → flat_map (relocation_errors l g f k s) (range_with_len 0 (length s.relocations)) ≡ []
-    → Refuses e (overlap_errors (at_section g f k) (least_extent (decided_extents s.relocations ds))) → Refuses e (item_errors l g f k s)
-overlap_refused l g f k s ds e dec lies none h =
-    let h' : Refuses e (overlap_errors (at_section g f k) (shared_byte l s)) = subst (λ (o : Option ℕ). Refuses e (overlap_errors (at_section g f k) o)) (shared_is l s ds dec lies) h in
-    rw none h'
+pub overlap_refused : (l : Layout) (g f k : ℕ) (s : Item) (os : List InputRelocation) (ending : List Error) (ds : List Decision) (e : Error) → length os ≡ length s.relocations → AreDecided l s ds → All (FieldLies l.machine (length s.bytes)) s.relocations → relocations_errors l g f k s os ≡ [] → ending ≡ []
+    → Refuses e (overlap_errors (at_section g f k) (least_extent (decided_extents s.relocations os ds))) → Refuses e (item_errors l g f k s os ending)
+overlap_refused l g f k s os ending ds e count dec lies none ended h =
+    let h' : Refuses e (overlap_errors (at_section g f k) (shared_byte l s os)) = subst (λ (o : Option ℕ). Refuses e (overlap_errors (at_section g f k) o)) (shared_is l s os ds count dec lies) h in
+    Refuses-behind e (relocations_errors l g f k s os) (ending ++ overlap_errors (at_section g f k) (shared_byte l s os)) none (Refuses-behind e ending (overlap_errors (at_section g f k) (shared_byte l s os)) ended h')
 
-pub item_passes : (l : Layout) (g f k : ℕ) (s : Item) (ds : List Decision) → AreDecided l s ds → All (FieldLies l.machine (length s.bytes)) s.relocations → flat_map (relocation_errors l g f k s) (range_with_len 0 (length s.relocations)) ≡ []
-    → overlap_errors (at_section g f k) (least_extent (decided_extents s.relocations ds)) ≡ [] → item_errors l g f k s ≡ []
-item_passes l g f k s ds dec lies none h =
-    let h' : overlap_errors (at_section g f k) (shared_byte l s) ≡ [] = subst (λ (o : Option ℕ). overlap_errors (at_section g f k) o ≡ []) (shared_is l s ds dec lies) h in
-    rw none h'
+pub ending_refused : (l : Layout) (g f k : ℕ) (s : Item) (os : List InputRelocation) (ending : List Error) (e : Error) → relocations_errors l g f k s os ≡ [] → Refuses e ending → Refuses e (item_errors l g f k s os ending)
+ending_refused l g f k s os ending e none h =
+    Refuses-behind e (relocations_errors l g f k s os) (ending ++ overlap_errors (at_section g f k) (shared_byte l s os)) none (Refuses-front e ending (overlap_errors (at_section g f k) (shared_byte l s os)) h)
+
+pub relocation_refused : (l : Layout) (g f k : ℕ) (s : Item) (os : List InputRelocation) (ending : List Error) (e : Error) → Refuses e (relocations_errors l g f k s os) → Refuses e (item_errors l g f k s os ending)
+relocation_refused l g f k s os ending e h = Refuses-front e (relocations_errors l g f k s os) (ending ++ overlap_errors (at_section g f k) (shared_byte l s os)) h
+
+pub item_passes : (l : Layout) (g f k : ℕ) (s : Item) (os : List InputRelocation) (ending : List Error) (ds : List Decision) → length os ≡ length s.relocations → AreDecided l s ds → All (FieldLies l.machine (length s.bytes)) s.relocations → relocations_errors l g f k s os ≡ [] → ending ≡ []
+    → overlap_errors (at_section g f k) (least_extent (decided_extents s.relocations os ds)) ≡ [] → item_errors l g f k s os ending ≡ []
+item_passes l g f k s os ending ds count dec lies none ended h =
+    let h' : overlap_errors (at_section g f k) (shared_byte l s os) ≡ [] = subst (λ (o : Option ℕ). overlap_errors (at_section g f k) o ≡ []) (shared_is l s os ds count dec lies) h in
+    rw (none, ended) h'
+
+-- an item whose relocations have no fault and share no byte has that of its frames
+pub ending_answers : (l : Layout) (g f k : ℕ) (s : Item) (os : List InputRelocation) (ending : List Error) (r : Result (Unit {0}) Error) → relocations_errors l g f k s os ≡ [] → shared_byte l s os ≡ None → Answers r ending → Answers r (item_errors l g f k s os ending)
+ending_answers l g f k s os ending r none shared h = rw (none, shared, append-nil ending) h
 
 -- ---- writing
 
@@ -344,9 +345,10 @@ step_put s ds i r d first room next count h read whole lie apart before is =
     let is' = is ∙ ap (λ (q : InputRelocation). put_decision room q (get_or ds i d)) read in
     own_step s ds i r d room next count h lie' apart' before' is' ∙ ap (overlay (decided_sites s (take (i + 1) s.relocations) (take (i + 1) ds))) (sym whole)
 
--- the decided sites are apart, where no byte is of two of them
-pub decided_apart : (l : Layout) (s : Item) (ds : List Decision) (g f k n : ℕ) → AreDecided l s ds → n ≡ length s.bytes → All (FieldLies l.machine n) s.relocations → overlap_errors (at_section g f k) (least_extent (decided_extents s.relocations ds)) ≡ [] → AreApart n (decided_sites s s.relocations ds)
-decided_apart l s ds g f k n h len lies none =
+-- the decided sites are apart, where no byte of the input is of two of them
+pub decided_apart : (l : Layout) (s : Item) (os : List InputRelocation) (ds : List Decision) (g f k n : ℕ) → MovesApart l s os → AreDecided l s ds → n ≡ length s.bytes → All (FieldLies l.machine n) s.relocations → overlap_errors (at_section g f k) (least_extent (decided_extents s.relocations os ds)) ≡ []
+    → AreApart n (decided_sites s s.relocations ds)
+decided_apart l s os ds g f k n moves h len lies none =
     let lies' = subst (λ (m : ℕ). All (FieldLies l.machine m) s.relocations) len lies in
-    let apart = sites_apart l s lies' (sym (shared_is l s ds h lies') ∙ no_overlap _ _ none) in
+    let apart = sites_apart l s os lies' moves (sym (shared_is l s os ds moves.count h lies') ∙ no_overlap _ _ none) in
     subst (λ (m : ℕ). AreApart m (decided_sites s s.relocations ds)) (sym len) (subst (λ (ps : List Piece). AreApart (length s.bytes) ps) (sym h.same) apart)

@@ -43,14 +43,14 @@ decided_with l s i r c alone listed is = rw (alone, listed) (ap (decide_with l s
 
 -- ---- faults
 
-pub ok_has_none : (l : Layout) (g f k : ℕ) (s : Item) (i : ℕ) (d : Decision) → decide l s i ≡ Ok d → relocation_errors l g f k s i ≡ []
+pub ok_has_none : (l : Layout) (g f k : ℕ) (s : Item) (os : List InputRelocation) (i : ℕ) (d : Decision) → decide l s i ≡ Ok d → relocation_errors l g f k s os i ≡ []
 unfolding relocation_errors
-ok_has_none l g f k s i d is = rw is (by g f k d (slice_get s.relocations i))
+ok_has_none l g f k s os i d is = rw is (by g f k d (slice_get os i))
   where
     by : (g f k : ℕ) (d : Decision) (o : Option InputRelocation) → refusal_at g f k (Ok d) o ≡ []
     by g f k d None = refl
     by g f k d (Some r) = refl
 
-pub err_is_first : (l : Layout) (g f k : ℕ) (s : Item) (i : ℕ) (r : InputRelocation) (fault : Fault) → slice_get s.relocations i ≡ Some r → decide l s i ≡ Err fault → Refuses (record { fault = fault; at = at_offset g f k r.offset }) (relocation_errors l g f k s i)
+pub err_is_first : (l : Layout) (g f k : ℕ) (s : Item) (os : List InputRelocation) (i : ℕ) (r : InputRelocation) (fault : Fault) → slice_get os i ≡ Some r → decide l s i ≡ Err fault → Refuses (record { fault = fault; at = at_offset g f k r.offset }) (relocation_errors l g f k s os i)
 unfolding relocation_errors
-err_is_first l g f k s i r fault listed is = rw (listed, is) (Refuses-head (record { fault = fault; at = at_offset g f k r.offset }) [])
+err_is_first l g f k s os i r fault listed is = rw (listed, is) (Refuses-head (record { fault = fault; at = at_offset g f k r.offset }) [])

@@ -32,6 +32,8 @@ with-front (faults.PltTooFar d) e es fs h = IsFirst-front e es fs h
 with-front (faults.TlsOutOfSegment v) e es fs h = IsFirst-front e es fs h
 with-front (faults.StaticTlsDesc s) e es fs h = IsFirst-front e es fs h
 with-front (faults.OutOfRange v) e es fs h = IsFirst-front e es fs h
+with-front (faults.BadFrameData w) e es fs h = IsFirst-front e es fs h
+with-front (faults.FrameOffsetOverflow v) e es fs h = IsFirst-front e es fs h
 with-front (faults.OverlappingSites b) e es fs h = IsFirst-front e es fs h
 
 -- the first of some errors is the first of those and others behind them
@@ -55,6 +57,8 @@ with-head (faults.PltTooFar d) e es = refl
 with-head (faults.TlsOutOfSegment v) e es = refl
 with-head (faults.StaticTlsDesc s) e es = refl
 with-head (faults.OutOfRange v) e es = refl
+with-head (faults.BadFrameData w) e es = refl
+with-head (faults.FrameOffsetOverflow v) e es = refl
 with-head (faults.OverlappingSites b) e es = refl
 
 -- an error is the first of those that begin with it

@@ -8,3 +8,5 @@ pub mod InstructionLemmas
 pub mod DecidedLemmas
 pub mod AscendingLemmas
 pub mod HomeLemmas
+pub mod StringLemmas
+pub mod OwnerLemmas

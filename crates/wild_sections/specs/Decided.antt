@@ -1,13 +1,14 @@
 -- What the decisions on a section's relocations make.
 --   decided_sites s rs ds   what the relocations write, as they were decided
---   decided_extents rs ds   where that stands
+--   decided_extents rs os ds   where that stands in the input, whose relocations are os
 --   ascends reach es        each extent begins where those before it end, or behind
 --   put_decision old r d    bytes after one relocation was written over them
 --   reach_behind n r d      where what a relocation writes ends, if it begins at n or behind; none where it begins before
 --   DecisionsLie n rs ds    what the relocations write lies in n bytes
 --   IsNext l s i n e a b    relocation i was decided and written behind n
 --   AreDecided l s ds       the decisions are those of the section's relocations
-use Rattle.std.specs.Prelude.{◌≡◌, ℕ, ◌+◌, ◌≤◌, Bool, true, false, ◌&&◌, nat_le, nat_lt, if◌then◌else◌, max, List, [], ◌∷◌, ◌++◌, length, Option, Some, None, Ok, option_to_list, slice_get, slice_range}
+use Rattle.std.specs.Prelude.{◌≡◌, ℕ, ◌+◌, ◌-◌, ◌≤◌, Bool, true, false, ◌&&◌, nat_le, nat_lt, if◌then◌else◌, max, List, [], ◌∷◌, ◌++◌, length, Option, Some, None, Ok, option_to_list, slice_get, slice_range}
+use Rattle.std.specs.List.{flat_map, range_with_len}
 use Rattle.wild_words.specs.Words.{place}
 use Rattle.wild_words.specs.Overlay.{Piece}
 use Rattle.wild_words.specs.declared.extents.Extent.{Extent}
@@ -33,24 +34,30 @@ decided_sites s (r ∷ rs) (d ∷ ds) = site_of s r (Ok d) ++ decided_sites s rs
 abbrev pub field_extent : ℕ → RelocationSize → Extent
 field_extent at size = record { start = at; end = at + size_width size }
 
--- where the instruction of a row stands
-abbrev pub template_extent : InputRelocation → Row → Extent
-template_extent r row = record { start = template_start row r; end = template_start row r + pattern_size row }
+-- where the instruction of a row stands in the input, whose relocation is there at an offset
+abbrev pub template_extent : ℕ → InputRelocation → Row → Extent
+template_extent from r row = record { start = template_start row r + from - r.offset; end = template_start row r + from - r.offset + pattern_size row }
 
 abbrev pub written_extent : ℕ → Option Written → Option Extent
 written_extent at None = None
 written_extent at (Some w) = Some (field_extent at w.size)
 
--- where one stands that writes something
-abbrev pub decided_extent : InputRelocation → Decision → Option Extent
-decided_extent r (Rewritten row v) = Some (template_extent r row)
-decided_extent r d = written_extent r.offset (written_by d)
+-- where one stands that writes something, and is at an offset in the input
+abbrev pub decided_extent : ℕ → InputRelocation → Decision → Option Extent
+decided_extent from r (Rewritten row v) = Some (template_extent from r row)
+decided_extent from r d = written_extent from (written_by d)
 
--- where they stand
-unfoldable pub decided_extents : List InputRelocation → List Decision → List Extent
-decided_extents [] ds = []
-decided_extents (r ∷ rs) [] = []
-decided_extents (r ∷ rs) (d ∷ ds) = option_to_list (decided_extent r d) ++ decided_extents rs ds
+abbrev pub extent_by : Option InputRelocation → Option InputRelocation → Option Decision → List Extent
+extent_by (Some o) (Some r) (Some d) = option_to_list (decided_extent o.offset r d)
+extent_by _ _ _ = []
+
+-- the same of the relocation in a place
+abbrev pub extent_at : List InputRelocation → List InputRelocation → List Decision → ℕ → List Extent
+extent_at rs os ds i = extent_by (slice_get os i) (slice_get rs i) (slice_get ds i)
+
+-- where they stand in the input
+unfoldable pub decided_extents : List InputRelocation → List InputRelocation → List Decision → List Extent
+decided_extents rs os ds = flat_map (extent_at rs os ds) (range_with_len 0 (length ds))
 
 -- each begins where those before it end, or behind
 unfoldable pub ascends : ℕ → List Extent → Bool

@@ -1,11 +1,15 @@
 //! Which rewrite of instructions stands at a relocation. Rows are asked of four relocations at most, which stand on the stack.
 ghost use Rattle.std.specs.Prelude.{◌≡◌, ◌<◌, ◌+◌, length, slice_get};
 ghost use Rattle.wild_relax.specs.Relaxation.{chosen_of};
-ghost use Rattle.wild_layout.specs.Choice.{same_names, is_getter, info_of, nameless, asked_of, infos_of, info_at, question_around, choice, takes_next, is_partner, may_take_next, may_be_partner};
+ghost use Rattle.wild_layout.specs.Choice.{same_names, is_getter, info_of, nameless, asked_of, infos_of, info_at, question_around, is_thread_type, merged_on, choice, takes_next, is_partner, may_take_next, may_be_partner};
 ghost use Rattle.wild_types.specs.Item.{item_now};
 
 use crate::values::Resolved;
-use wild_records::abi::relocation::{R_X86_64_PC32, R_X86_64_TLSGD, R_X86_64_TLSLD};
+use wild_records::abi::relocation::{
+    R_X86_64_CODE_4_GOTPC32_TLSDESC, R_X86_64_GOTPC32_TLSDESC, R_X86_64_PC32,
+    R_X86_64_TLSDESC_CALL, R_X86_64_TLSGD, R_X86_64_TLSLD,
+};
+use wild_relax::table::DESCRIPTOR_CALL;
 use wild_relax::{
     Arch, NO_RELOCATION, Reference, Relaxation, RelocationInfo, Row, UnknownSequence, words_before,
 };
@@ -163,6 +167,35 @@ fn choice_around<A: Arch>(
     asked(resolved, item, symbol, &infos, index - first)
 }
 
+/// Whether references of that type to thread-local storage are rewritten in each executable.
+fn is_thread_type(number: u32) -> bool
+    ensures { result ≡ is_thread_type number }
+{
+    number == R_X86_64_TLSGD
+        || number == R_X86_64_TLSLD
+        || number == R_X86_64_GOTPC32_TLSDESC
+        || number == R_X86_64_CODE_4_GOTPC32_TLSDESC
+        || number == R_X86_64_TLSDESC_CALL
+}
+
+/// No row would find a merged string by another addend, and none is thread-local storage.
+fn choice_merged(
+    machine: Machine,
+    relocation: &InputRelocation,
+) -> Result<Option<Row>, UnknownSequence>
+    ensures { result ≡ merged_on machine relocation.now }
+{
+    match machine {
+        Machine::X86_64 if is_thread_type(relocation.number) => {
+            Err(UnknownSequence {
+                number: relocation.number,
+                written: DESCRIPTOR_CALL.row_written(),
+            })
+        }
+        Machine::X86_64 | Machine::AArch64 => Ok(None),
+    }
+}
+
 /// The row that stands at a relocation of an item, or why it is refused. Others and names are looked at where a row of the type
 /// asks for them.
 pub(crate) fn choice<A: Arch>(
@@ -180,6 +213,9 @@ pub(crate) fn choice<A: Arch>(
     };
     if relocation.number == R_X86_64_PC32 {
         return Ok(None);
+    }
+    if resolved.names_merged(symbol) {
+        return choice_merged(resolved.layout.machine, relocation);
     }
     match resolved.layout.machine {
         Machine::AArch64 => choice_around(resolved, item, index, relocation, symbol),

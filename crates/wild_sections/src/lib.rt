@@ -6,7 +6,10 @@ mod common;
 mod fields;
 mod home;
 mod indirect;
+mod merged;
+mod origin;
 mod overlap;
+mod owner;
 mod place;
 mod placed;
 mod relocation;
@@ -18,6 +21,7 @@ mod values;
 
 pub use home::{Home, section_in_file};
 pub use indirect::{decided_address, index_of, stub_of};
+pub use origin::Origin;
 pub use place::InputPlace;
 pub use relocation::added;
 pub use resolve::{moved_value, or_zero, raw_address};

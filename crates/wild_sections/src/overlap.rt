@@ -1,7 +1,7 @@
-//! The least byte of a section that two relocations write.
-ghost use Rattle.std.specs.Prelude.{◌≡◌, length, IfOk};
+//! The least byte of the input that two relocations write.
+ghost use Rattle.std.specs.Prelude.{◌≡◌, ◌<◌, length, IfOk, option_to_list};
 ghost use Rattle.wild_words.specs.Extents.{least_extent};
-ghost use Rattle.wild_sections.specs.Decided.{field_extent, template_extent, decided_extent, decided_extents, ascends};
+ghost use Rattle.wild_sections.specs.Decided.{field_extent, template_extent, decided_extent, extent_at, decided_extents, ascends};
 
 use crate::fields::template_start;
 use crate::relocation::ADDRESS;
@@ -23,41 +23,64 @@ fn field_extent(offset: u64, size: RelocationSize) -> Extent
     }
 }
 
-/// Where the instruction of a row stands.
-fn template_extent(relocation: &InputRelocation, row: Row) -> Extent
-    ensures { result ≡ template_extent relocation.now row }
+/// Where the instruction of a row stands, whose relocation is at that offset.
+fn template_extent(offset: u64, relocation: &InputRelocation, row: Row) -> Extent
+    ensures { result ≡ template_extent offset relocation.now row }
 {
-    let start = template_start(row, relocation);
+    let before = relocation.offset - template_start(row, relocation);
+    let start = offset.saturating_sub(before);
     Extent {
         start,
         end: start as u128 + row.pattern_size() as u128,
     }
 }
 
-/// Where a relocation writes; none where it writes nothing.
+/// Where a relocation writes that is at that offset in the input; none where it writes nothing.
 #[inline]
-fn extent_of(relocation: &InputRelocation, decision: Decision) -> Option<Extent>
-    ensures { result ≡ decided_extent relocation.now decision }
+fn extent_of(offset: u64, relocation: &InputRelocation, decision: Decision) -> Option<Extent>
+    ensures { result ≡ decided_extent offset relocation.now decision }
 {
     match decision {
         Decision::Nothing | Decision::Partner => None,
         Decision::Field { size, .. } | Decision::Left { size, .. } => {
-            Some(field_extent(relocation.offset, size))
+            Some(field_extent(offset, size))
         }
-        Decision::Moved { .. } => Some(field_extent(relocation.offset, ADDRESS)),
-        Decision::Rewritten { row, .. } => Some(template_extent(relocation, row)),
+        Decision::Moved { .. } => Some(field_extent(offset, ADDRESS)),
+        Decision::Rewritten { row, .. } => Some(template_extent(offset, relocation, row)),
     }
+}
+
+/// The same of the relocation in that place.
+#[inline]
+fn extent_at(
+    relocations: &[InputRelocation],
+    origins: &[InputRelocation],
+    decisions: &[Decision],
+    index: usize,
+) -> Option<Extent>
+    requires count { length decisions.now ≡ length relocations.now }
+    requires origins { length origins.now ≡ length relocations.now }
+    requires index { index < length decisions.now }
+    ensures { option_to_list result ≡ extent_at relocations.now origins.now decisions.now index }
+{
+    let origin = &origins[index];
+    extent_of(origin.offset, &relocations[index], decisions[index])
 }
 
 /// Whether each field begins where those before it end, or behind.
 #[tactic(auto, unfolding(crate::specs::Decided::ascends, crate::specs::Decided::decided_extents))]
-fn is_ascending(relocations: &[InputRelocation], decisions: &[Decision]) -> bool
-    requires { length decisions.now ≡ length relocations.now }
-    ensures { result ≡ ascends 0 (decided_extents relocations.now decisions.now) }
+fn is_ascending(
+    relocations: &[InputRelocation],
+    origins: &[InputRelocation],
+    decisions: &[Decision],
+) -> bool
+    requires count { length decisions.now ≡ length relocations.now }
+    requires origins { length origins.now ≡ length relocations.now }
+    ensures { result ≡ ascends 0 (decided_extents relocations.now origins.now decisions.now) }
 {
     let mut reach: u128 = 0;
     for i in 0..decisions.len() {
-        if let Some(extent) = extent_of(&relocations[i], decisions[i]) {
+        if let Some(extent) = extent_at(relocations, origins, decisions, i) {
             if (extent.start as u128) < reach {
                 return false;
             }
@@ -68,36 +91,41 @@ fn is_ascending(relocations: &[InputRelocation], decisions: &[Decision]) -> bool
 }
 
 /// Where the fields are.
+#[tactic(auto, unfolding(crate::specs::Decided::decided_extents))]
 fn extents_of(
     alloc: Global,
     relocations: &[InputRelocation],
+    origins: &[InputRelocation],
     decisions: &[Decision],
 ) -> Result<Vec<Extent>, AllocError>
-    requires { length decisions.now ≡ length relocations.now }
-    ensures { IfOk result (λ v. v.items ≡ decided_extents relocations.now decisions.now) }
+    requires count { length decisions.now ≡ length relocations.now }
+    requires origins { length origins.now ≡ length relocations.now }
+    ensures { IfOk result (λ v. v.items ≡ decided_extents relocations.now origins.now decisions.now) }
 {
     let mut extents = Vec::with_capacity(alloc, decisions.len())?;
     for i in 0..decisions.len() {
-        if let Some(extent) = extent_of(&relocations[i], decisions[i]) {
+        if let Some(extent) = extent_at(relocations, origins, decisions, i) {
             extents.push(extent)?;
         }
     }
     Ok(extents)
 }
 
-/// The least byte of a section that two relocations write. Fields in order are seen once; others are sorted.
+/// The least byte of the input that two relocations write. Fields in order are seen once; others are sorted.
 #[tactic(auto, using(crate::proofs::DecidedLemmas::ascending_shares_none))]
 pub(crate) fn shared_byte(
     alloc: Global,
     relocations: &[InputRelocation],
+    origins: &[InputRelocation],
     decisions: &[Decision],
 ) -> Result<Option<u64>, AllocError>
-    requires { length decisions.now ≡ length relocations.now }
-    ensures { IfOk result (λ o. o ≡ least_extent (decided_extents relocations.now decisions.now)) }
+    requires count { length decisions.now ≡ length relocations.now }
+    requires origins { length origins.now ≡ length relocations.now }
+    ensures { IfOk result (λ o. o ≡ least_extent (decided_extents relocations.now origins.now decisions.now)) }
 {
-    if is_ascending(relocations, decisions) {
+    if is_ascending(relocations, origins, decisions) {
         return Ok(None);
     }
-    let mut extents = extents_of(alloc, relocations, decisions)?;
+    let mut extents = extents_of(alloc, relocations, origins, decisions)?;
     Ok(least_shared(&mut extents))
 }

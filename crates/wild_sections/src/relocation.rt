@@ -3,7 +3,8 @@ ghost use Rattle.std.specs.Prelude.{◌≡◌, true, false, None};
 ghost use Rattle.wild_types.specs.Kinds.{is_position_independent};
 ghost use Rattle.wild_types.specs.Rows.{row_of};
 ghost use Rattle.wild_reloc.specs.declared.info.RelocationKind.TheVariants.{Relative};
-ghost use Rattle.wild_layout.specs.SlotValues.{address_of, index_of, decided_address};
+ghost use Rattle.wild_layout.specs.SlotValues.{index_of, decided_address};
+ghost use Rattle.wild_layout.specs.Merged.{address_for};
 ghost use Rattle.wild_layout.specs.Values.{term_at};
 ghost use Rattle.wild_types.specs.Lookups.{place_of};
 ghost use Rattle.wild_slot.specs.Treatment.{suited};
@@ -13,7 +14,7 @@ ghost use Rattle.wild_layout.specs.Decide.{field, reached, field_for, moved_to, 
 ghost use Rattle.wild_types.specs.Item.{item_now};
 
 use crate::indirect::{decided_address, index_of};
-use crate::resolve::{address_of, displacement, sum, symbol_size, term_at, value_in};
+use crate::resolve::{address_for, displacement, sum, symbol_size, term_at, value_in};
 use crate::thunk::reached;
 use crate::values::Resolved;
 use wild_layout::Decision;
@@ -65,9 +66,9 @@ fn moved_to<A: Arch>(
     item: &ItemRef,
     relocation: &InputRelocation,
 ) -> Result<Decision, Fault>
-    ensures { result ≡ moved_to resolved.now.layout.now (item_now item.now) relocation.now (address_of resolved.now.layout.now relocation.now.symbol) }
+    ensures { result ≡ moved_to resolved.now.layout.now (item_now item.now) relocation.now (address_for resolved.now.layout.now relocation.now) }
 {
-    let address = address_of(resolved, relocation.symbol)?;
+    let address = address_for(resolved, relocation)?;
     Ok(Decision::Moved {
         value: sum(address, relocation.addend),
         packed: resolved.layout.packs(relocation.place_from(item.address)),
@@ -160,7 +161,7 @@ pub(crate) fn distance_for<A: Arch>(
     requires machine { resolved.now.layout.now.machine ≡ X86_64 }
     ensures { result ≡ field_for resolved.now.layout.now (item_now item.now) relocation.now row.now (term_at resolved.now.layout.now relocation.now row.now (place_of item.now.address relocation.now)) }
 {
-    let address = address_of(resolved, relocation.symbol)?;
+    let address = address_for(resolved, relocation)?;
     let place = relocation.place_from(item.address);
     field(row, displacement(address, relocation.addend, place))
 }

@@ -2,14 +2,15 @@
 ghost use Rattle.std.specs.Prelude.{◌≡◌};
 ghost use Rattle.wild_layout.specs.SymbolValues.{sum, displacement, less, storage_start, is_undefined, symbol_size, raw_address};
 ghost use Rattle.wild_layout.specs.SlotValues.{address_of};
-ghost use Rattle.wild_layout.specs.Values.{behind, pointer_offset, size_of, term_value, value_less, term_of, value_in, is_absent, is_place, is_symbol, is_own_place, undefined_weak_target, term_at};
+ghost use Rattle.wild_layout.specs.Values.{behind, pointer_offset, size_of, term_value, value_less, term_by, value_in, is_absent, is_place, is_symbol, is_own_place, undefined_weak_target, term_at};
+ghost use Rattle.wild_layout.specs.Merged.{merged_byte, address_for};
 ghost use Rattle.wild_layout.specs.Moved.{or_zero, moved_value};
 
 use crate::indirect::{address_or, is_chosen, slot_address, stub_address};
 use crate::values::Resolved;
 use wild_relax::Arch;
 use wild_reloc::aarch64::is_branch;
-use wild_reloc::{RelocationKind, RelocationKindInfo, Taken, Term};
+use wild_reloc::{RelocationKindInfo, Taken, Term};
 use wild_slot::{flags_at, page_of, thread_pointer};
 use wild_types::{Fault, InputRelocation, Layout, Machine, Missing, Place, SymbolIndex};
 
@@ -43,6 +44,56 @@ pub(crate) fn address_of<A: Arch>(
     }
 }
 
+/// The byte of a merged section that a symbol's value and an addend tell.
+fn merged_byte(layout: &Layout, symbol: SymbolIndex, relocation: &InputRelocation) -> u64
+    ensures { result ≡ merged_byte layout.now symbol relocation.now }
+{
+    let value = match layout.symbols.as_slice().get(symbol.0) {
+        Some(found) => found.value,
+        None => 0,
+    };
+    sum(value, relocation.addend)
+}
+
+/// S of a relocation in a layout with merged sections: where the symbol is the section symbol of one, so much less than the string's
+/// place that A gives that.
+#[inline(never)]
+#[tactic(auto, unfolding(wild_layout::specs::Merged::address_for))]
+fn address_among<A: Arch>(
+    resolved: &Resolved<A>,
+    relocation: &InputRelocation,
+) -> Result<u64, Fault>
+    ensures { result ≡ address_for resolved.now.layout.now relocation.now }
+{
+    let Some(symbol) = relocation.symbol else {
+        return Ok(0);
+    };
+    let byte = merged_byte(resolved.layout, symbol, relocation);
+    match resolved.string_place(symbol, byte) {
+        Some(place) => {
+            let place = address_or(Missing::Address, symbol, place)?;
+            Ok(place.wrapping_sub(relocation.addend.cast_unsigned()))
+        }
+        None => address_of(resolved, relocation.symbol),
+    }
+}
+
+/// S of a relocation.
+#[inline]
+#[tactic(auto, using(wild_layout::proofs::MergedLemmas::address_plain))]
+pub(crate) fn address_for<A: Arch>(
+    resolved: &Resolved<A>,
+    relocation: &InputRelocation,
+) -> Result<u64, Fault>
+    ensures { result ≡ address_for resolved.now.layout.now relocation.now }
+{
+    if resolved.has_strings() {
+        address_among(resolved, relocation)
+    } else {
+        address_of(resolved, relocation.symbol)
+    }
+}
+
 /// S + A.
 #[inline]
 pub(crate) fn sum(symbol: u64, addend: i64) -> u64
@@ -68,7 +119,7 @@ pub fn moved_value<A: Arch>(resolved: &Resolved<A>, relocation: &InputRelocation
     ensures { result ≡ moved_value resolved.now.layout.now relocation.now }
 {
     sum(
-        or_zero(address_of(resolved, relocation.symbol)),
+        or_zero(address_for(resolved, relocation)),
         relocation.addend,
     )
 }
@@ -182,16 +233,19 @@ fn term_value<A: Arch>(
     }
 }
 
-/// The same, by the kind of the row.
+/// The same of a relocation, whose addend tells of merged strings where S is.
 #[inline]
-fn term_of<A: Arch>(
+fn term_by<A: Arch>(
     resolved: &Resolved<A>,
-    symbol: Option<SymbolIndex>,
-    kind: RelocationKind,
+    relocation: &InputRelocation,
+    term: Term,
 ) -> Result<u64, Fault>
-    ensures { result ≡ term_of resolved.now.layout.now symbol kind }
+    ensures { result ≡ term_by resolved.now.layout.now relocation.now term }
 {
-    term_value(resolved, symbol, kind.expression().term)
+    match term {
+        Term::Symbol => address_for(resolved, relocation),
+        _ => term_value(resolved, relocation.symbol, term),
+    }
 }
 
 /// The sum of what A is added to and A, less what is taken from it.
@@ -282,6 +336,6 @@ pub(crate) fn term_at<A: Arch>(
     if is_own_place(resolved.layout, relocation, row) {
         Ok(undefined_weak_target(relocation.number, place))
     } else {
-        term_of(resolved, relocation.symbol, row.kind)
+        term_by(resolved, relocation, row.kind.expression().term)
     }
 }

@@ -1,21 +1,22 @@
 //! The bytes of items: input bytes with their relocations.
-ghost use Rattle.std.specs.Prelude.{◌≡◌, [], length, Ok, OnOk, IfOk, IfErr, All, true, slice_get, ◌<◌, ◌^◌};
+ghost use Rattle.std.specs.Prelude.{◌≡◌, [], length, Ok, None, OnOk, IfOk, IfErr, All, true, slice_get, ◌<◌, ◌^◌};
 ghost use Rattle.std.specs.List.{flat_map, range_with_len};
 ghost use Rattle.wild_words.specs.Overlay.{overlay, AreApart};
 ghost use Rattle.wild_words.specs.Extents.{least_extent};
 ghost use Rattle.wild_types.specs.Faults.{Answers, Refuses};
 ghost use Rattle.wild_types.specs.Item.{item_now};
 ghost use Rattle.wild_layout.specs.Decide.{decide};
-ghost use Rattle.wild_layout.specs.Sites.{item_bytes};
+ghost use Rattle.wild_layout.specs.Sites.{item_bytes, shared_byte, MovesApart};
 ghost use Rattle.wild_layout.specs.Image.{offset_in};
-ghost use Rattle.wild_layout.specs.Faults.{at_section, relocation_errors, overlap_errors, item_errors};
+ghost use Rattle.wild_layout.specs.Faults.{at_section, relocation_errors, overlap_errors, relocations_errors, item_errors};
 ghost use Rattle.wild_layout.specs.SectionPlaces.{FieldLies};
+ghost use Rattle.wild_sections.specs.Origins.{ending_errors};
 ghost use Rattle.wild_sections.specs.Decided.{AreDecided, DecisionsLie, IsNext, decided_sites, decided_extents};
 
 use crate::common::common_value;
 use crate::fields::{four_behind, write_behind, write_decision};
+use crate::origin::{Origin, check_ending};
 use crate::overlap::shared_byte;
-use crate::place::InputPlace;
 use crate::rewritten::decide;
 use crate::values::Resolved;
 use std::alloc::Global;
@@ -27,21 +28,22 @@ use wild_types::{Error, Fault, ItemRef, Part};
 #[inline(always)]
 fn decide_at<A: Arch>(
     resolved: &Resolved<A>,
-    place: InputPlace,
+    origin: &Origin,
     item: &ItemRef,
     index: usize,
 ) -> Result<Decision, Error>
     requires index { index < length item.now.relocations.now }
-    ensures faults { Answers result (relocation_errors resolved.now.layout.now place.group place.file place.section (item_now item.now) index) }
+    requires origins { length origin.now.relocations.now ≡ length item.now.relocations.now }
+    ensures faults { Answers result (relocation_errors resolved.now.layout.now origin.now.place.group origin.now.place.file origin.now.place.section (item_now item.now) origin.now.relocations.now index) }
     ensures decision { IfOk result (λ d. decide resolved.now.layout.now (item_now item.now) index ≡ Ok d) }
 {
-    let relocations = item.relocations;
+    let relocations = origin.relocations;
     let relocation = &relocations[index];
     match decide(resolved, item, index) {
         Ok(decision) => Ok(decision),
         Err(fault) => Err(Error {
             fault,
-            at: place.offset(relocation.offset),
+            at: origin.place.offset(relocation.offset),
         }),
     }
 }
@@ -50,34 +52,36 @@ fn decide_at<A: Arch>(
 fn decide_all<A: Arch>(
     alloc: Global,
     resolved: &Resolved<A>,
-    place: InputPlace,
+    origin: &Origin,
     item: &ItemRef,
 ) -> Result<Vec<Decision>, Error>
-    ensures faults { Answers result (flat_map (relocation_errors resolved.now.layout.now place.group place.file place.section (item_now item.now)) (range_with_len 0 (length item.now.relocations.now))) }
+    requires origins { length origin.now.relocations.now ≡ length item.now.relocations.now }
+    ensures faults { Answers result (flat_map (relocation_errors resolved.now.layout.now origin.now.place.group origin.now.place.file origin.now.place.section (item_now item.now) origin.now.relocations.now) (range_with_len 0 (length item.now.relocations.now))) }
     ensures decisions { IfOk result (λ v. AreDecided resolved.now.layout.now (item_now item.now) v.items) }
 {
     let count = item.relocations.len();
     let mut decisions = Vec::with_capacity(alloc, count)?;
     for index in 0..count {
-        decisions.push(decide_at(resolved, place, item, index)?)?;
+        decisions.push(decide_at(resolved, origin, item, index)?)?;
     }
     Ok(decisions)
 }
 
-/// Refuses an item in which two relocations write one byte.
+/// Refuses an item of which two relocations write one byte of the input.
 fn check_overlap(
     alloc: Global,
-    place: InputPlace,
+    origin: &Origin,
     item: &ItemRef,
     decisions: &[Decision],
 ) -> Result<(), Error>
     requires count { length decisions.now ≡ length item.now.relocations.now }
-    ensures { Answers result (overlap_errors (at_section place.group place.file place.section) (least_extent (decided_extents item.now.relocations.now decisions.now))) }
+    requires origins { length origin.now.relocations.now ≡ length item.now.relocations.now }
+    ensures { Answers result (overlap_errors (at_section origin.now.place.group origin.now.place.file origin.now.place.section) (least_extent (decided_extents item.now.relocations.now origin.now.relocations.now decisions.now))) }
 {
-    match shared_byte(alloc, item.relocations, decisions)? {
+    match shared_byte(alloc, item.relocations, origin.relocations, decisions)? {
         Some(byte) => Err(Error {
             fault: Fault::OverlappingSites { byte },
-            at: place.section(),
+            at: origin.place.section(),
         }),
         None => Ok(()),
     }
@@ -102,19 +106,20 @@ fn write_decisions(item: &ItemRef, decisions: &[Decision], room: &mut [u8])
 /// begin before.
 fn write_decided<A: Arch>(
     resolved: &Resolved<A>,
-    place: InputPlace,
+    origin: &Origin,
     item: &ItemRef,
     index: usize,
     reach: u64,
     room: &mut [u8],
 ) -> Result<Option<u64>, Error>
     requires index { index < length item.now.relocations.now }
+    requires origins { length origin.now.relocations.now ≡ length item.now.relocations.now }
     requires lies { All (FieldLies resolved.now.layout.now.machine (length room.old)) item.now.relocations.now }
     requires whole { length room.old ≡ length item.now.bytes.now }
-    ensures faults { Answers result (relocation_errors resolved.now.layout.now place.group place.file place.section (item_now item.now) index) }
+    ensures faults { Answers result (relocation_errors resolved.now.layout.now origin.now.place.group origin.now.place.file origin.now.place.section (item_now item.now) origin.now.relocations.now index) }
     ensures next { IfOk result (λ next. IsNext resolved.now.layout.now (item_now item.now) index reach next room.old room.new) }
 {
-    let decision = decide_at(resolved, place, item, index)?;
+    let decision = decide_at(resolved, origin, item, index)?;
     let relocations = item.relocations;
     let relocation = &relocations[index];
     Ok(write_behind(reach, relocation, decision, room))
@@ -124,23 +129,24 @@ fn write_decided<A: Arch>(
 #[inline(always)]
 fn write_next<A: Arch>(
     resolved: &Resolved<A>,
-    place: InputPlace,
+    origin: &Origin,
     item: &ItemRef,
     index: usize,
     reach: u64,
     room: &mut [u8],
 ) -> Result<Option<u64>, Error>
     requires index { index < length item.now.relocations.now }
+    requires origins { length origin.now.relocations.now ≡ length item.now.relocations.now }
     requires lies { All (FieldLies resolved.now.layout.now.machine (length room.old)) item.now.relocations.now }
     requires whole { length room.old ≡ length item.now.bytes.now }
-    ensures faults { Answers result (relocation_errors resolved.now.layout.now place.group place.file place.section (item_now item.now) index) }
+    ensures faults { Answers result (relocation_errors resolved.now.layout.now origin.now.place.group origin.now.place.file origin.now.place.section (item_now item.now) origin.now.relocations.now index) }
     ensures next { IfOk result (λ next. IsNext resolved.now.layout.now (item_now item.now) index reach next room.old room.new) }
 {
     let relocations = item.relocations;
     let relocation = &relocations[index];
     match common_value(resolved, item, index) {
         Some(value) => Ok(four_behind(reach, relocation.offset, value, room)),
-        None => write_decided(resolved, place, item, index, reach, room),
+        None => write_decided(resolved, origin, item, index, reach, room),
     }
 }
 
@@ -148,19 +154,21 @@ fn write_next<A: Arch>(
 /// end, or behind: tells whether all did, or answers the first fault of a relocation.
 fn write_ascending<A: Arch>(
     resolved: &Resolved<A>,
-    place: InputPlace,
+    origin: &Origin,
     item: &ItemRef,
     room: &mut [u8],
 ) -> Result<bool, Error>
     requires lies { All (FieldLies resolved.now.layout.now.machine (length room.old)) item.now.relocations.now }
     requires bytes { room.old ≡ item.now.bytes.now }
-    ensures faults { IfErr result (λ e. Refuses e (item_errors resolved.now.layout.now place.group place.file place.section (item_now item.now))) }
-    ensures none { IfOk result (λ all. all ≡ true → item_errors resolved.now.layout.now place.group place.file place.section (item_now item.now) ≡ []) }
+    requires moves { MovesApart resolved.now.layout.now (item_now item.now) origin.now.relocations.now }
+    ensures faults { IfErr result (λ e. Refuses e (relocations_errors resolved.now.layout.now origin.now.place.group origin.now.place.file origin.now.place.section (item_now item.now) origin.now.relocations.now)) }
+    ensures none { IfOk result (λ all. all ≡ true → relocations_errors resolved.now.layout.now origin.now.place.group origin.now.place.file origin.now.place.section (item_now item.now) origin.now.relocations.now ≡ []) }
+    ensures apart { IfOk result (λ all. all ≡ true → shared_byte resolved.now.layout.now (item_now item.now) origin.now.relocations.now ≡ None) }
     ensures bytes { IfOk result (λ all. all ≡ true → room.new ≡ item_bytes resolved.now.layout.now (item_now item.now)) }
 {
     let mut reach = 0;
     for index in 0..item.relocations.len() {
-        match write_next(resolved, place, item, index, reach, room)? {
+        match write_next(resolved, origin, item, index, reach, room)? {
             Some(end) => reach = end,
             None => return Ok(false),
         }
@@ -172,41 +180,44 @@ fn write_ascending<A: Arch>(
 fn write_apart<A: Arch>(
     alloc: Global,
     resolved: &Resolved<A>,
-    place: InputPlace,
+    origin: &Origin,
     item: &ItemRef,
     room: &mut [u8],
 ) -> Result<(), Error>
     requires lies { All (FieldLies resolved.now.layout.now.machine (length room.old)) item.now.relocations.now }
     requires room { length room.old ≡ length item.now.bytes.now }
-    ensures faults { Answers result (item_errors resolved.now.layout.now place.group place.file place.section (item_now item.now)) }
+    requires moves { MovesApart resolved.now.layout.now (item_now item.now) origin.now.relocations.now }
+    ensures faults { Answers result (item_errors resolved.now.layout.now origin.now.place.group origin.now.place.file origin.now.place.section (item_now item.now) origin.now.relocations.now (ending_errors origin.now.place origin.now.ending)) }
     ensures bytes { OnOk result (room.new ≡ item_bytes resolved.now.layout.now (item_now item.now)) }
 {
-    let decisions = decide_all(alloc, resolved, place, item)?;
-    check_overlap(alloc, place, item, &decisions)?;
+    let decisions = decide_all(alloc, resolved, origin, item)?;
+    check_ending(origin)?;
+    check_overlap(alloc, origin, item, &decisions)?;
     room.copy_from_slice(item.bytes);
     write_decisions(item, &decisions, room);
     Ok(())
 }
 
-/// Writes the bytes of an item of the section at that place, with its fields, or answers its first fault. Fields in order
+/// Writes the bytes of an item with its fields, or answers its first fault, with the place that it has in the input. Fields in order
 /// are decided and written once; only others ask for memory.
 pub fn write_data<A: Arch>(
     alloc: Global,
     resolved: &Resolved<A>,
-    place: InputPlace,
+    origin: &Origin,
     item: &ItemRef,
     room: &mut [u8],
 ) -> Result<(), Error>
     requires lies { All (FieldLies resolved.now.layout.now.machine (length room.old)) item.now.relocations.now }
     requires room { length room.old ≡ length item.now.bytes.now }
-    ensures faults { Answers result (item_errors resolved.now.layout.now place.group place.file place.section (item_now item.now)) }
+    requires moves { MovesApart resolved.now.layout.now (item_now item.now) origin.now.relocations.now }
+    ensures faults { Answers result (item_errors resolved.now.layout.now origin.now.place.group origin.now.place.file origin.now.place.section (item_now item.now) origin.now.relocations.now (ending_errors origin.now.place origin.now.ending)) }
     ensures bytes { OnOk result (room.new ≡ item_bytes resolved.now.layout.now (item_now item.now)) }
 {
     room.copy_from_slice(item.bytes);
-    if write_ascending(resolved, place, item, room)? {
-        return Ok(());
+    if write_ascending(resolved, origin, item, room)? {
+        return check_ending(origin);
     }
-    write_apart(alloc, resolved, place, item, room)
+    write_apart(alloc, resolved, origin, item, room)
 }
 
 /// The file offset of an address in a part.

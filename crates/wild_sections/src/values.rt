@@ -1,6 +1,6 @@
 //! What is known of all symbols, told once and kept beside their layout: their values, and the files of those that the
 //! dynamic symbol table may have.
-ghost use Rattle.std.specs.Prelude.{◌≡◌, ◌<◌, true, [], length, map, IfOk, Some, None, replicate, slice_get};
+ghost use Rattle.std.specs.Prelude.{◌≡◌, ℕ, ◌<◌, true, false, List, [], length, map, Option, IfOk, IfSome, Some, None, replicate, slice_get, option_copied, option_map, option_and_then};
 ghost use Rattle.wild_types.specs.Kinds.{needs_dynsym};
 ghost use Rattle.wild_types.specs.Lookups.{files_of, file_of};
 ghost use Rattle.wild_symbols.specs.DynamicFields.{named_sections};
@@ -9,14 +9,23 @@ ghost use Rattle.wild_sections.specs.Homes.{home_of, HasHomes};
 ghost use Rattle.wild_types.specs.Addresses.{raw_value};
 ghost use Rattle.wild_sections.specs.Values.{HasValues};
 ghost use Rattle.wild_sections.specs.Fits.{FieldsFit};
+ghost use Rattle.wild_slot.specs.Treatment.{flags_at};
+ghost use Rattle.wild_layout.specs.Merged.{is_plain_own, merged_strings, names_merged, string_place};
+ghost use Rattle.wild_types.specs.declared.input.MergedString.{MergedString};
+ghost use Rattle.wild_types.specs.declared.input.InputSection.{InputSection};
+ghost use Rattle.wild_sections.specs.Strings.{are_unmerged, all_ascend, section_ascends};
+ghost use Rattle.wild_sections.specs.Owners.{HasOwners, owner_among};
 
 use crate::home::Home;
+use crate::merged::{IsUnmerged, StringsAscend, is_plain_own, merged_section, string_place};
+use crate::owner::{Owner, file_at, own_groups};
 use crate::placed::place_groups;
 use std::alloc::{AllocError, Global};
 use std::marker::PhantomData;
 use wild_relax::Arch;
+use wild_slot::flags_at;
 use wild_symbols::NamedSections;
-use wild_types::{Layout, Symbol, SymbolIndex};
+use wild_types::{File, InputSection, Layout, Symbol, SymbolIndex, all_pass};
 
 /// The value that was decided of the symbol's definition.
 fn decided(layout: &Layout, symbol: SymbolIndex) -> Option<u64>
@@ -69,6 +78,34 @@ fn homes_of(alloc: Global, layout: &Layout) -> Result<Vec<Option<Home>>, AllocEr
     Ok(homes)
 }
 
+/// Whether no section of the layout is one of merged strings.
+fn are_unmerged(layout: &Layout) -> bool
+    ensures { result ≡ are_unmerged layout.now }
+{
+    all_pass(&IsUnmerged, layout.groups.as_slice())
+}
+
+/// Whether the strings of each section are in the order of their offsets.
+fn all_ascend(layout: &Layout) -> bool
+    ensures { result ≡ all_ascend layout.now }
+{
+    all_pass(&StringsAscend, layout.groups.as_slice())
+}
+
+/// Where the files of the symbols of a layout with merged sections are; of another nothing is kept.
+fn owners_of(alloc: Global, layout: &Layout) -> Result<Vec<Option<Owner>>, AllocError>
+    ensures { IfOk result (λ v. HasOwners layout.now v.items) }
+{
+    let count = if are_unmerged(layout) {
+        0
+    } else {
+        layout.symbols.len()
+    };
+    let mut owners = vec![in alloc; None; count]?;
+    own_groups(layout.groups.as_slice(), &mut owners);
+    Ok(owners)
+}
+
 /// A layout of that machine with what is known of all its symbols: what the steps of the writer read.
 #[derive(Drop)]
 pub struct Resolved<'a, A: Arch> {
@@ -77,11 +114,15 @@ pub struct Resolved<'a, A: Arch> {
     pub named: NamedSections,
     values: Vec<Option<u64>>,
     homes: Vec<Option<Home>>,
+    owners: Vec<Option<Owner>>,
+    ascend: bool,
     arch: PhantomData<A>,
     ghost machine: { layout.now.machine ≡ A.machine },
     ghost named_are: { named ≡ named_sections layout.now },
     ghost values_are: { HasValues layout.now values.items },
     ghost homes_are: { HasHomes layout.now homes.items },
+    ghost owners_are: { HasOwners layout.now owners.items },
+    ghost ascend_is: { ascend ≡ all_ascend layout.now },
     ghost fits: { FieldsFit layout.now },
 }
 
@@ -94,11 +135,14 @@ impl<'a, A: Arch> Resolved<'a, A> {
     {
         let values = values_of(alloc, layout)?;
         let homes = homes_of(alloc, layout)?;
+        let owners = owners_of(alloc, layout)?;
         Ok(Resolved {
             layout,
             named: NamedSections::of(layout),
             values,
             homes,
+            owners,
+            ascend: all_ascend(layout),
             arch: PhantomData,
         })
     }
@@ -113,6 +157,86 @@ impl<'a, A: Arch> Resolved<'a, A> {
             self.values[symbol.0]
         } else {
             None
+        }
+    }
+
+    /// Whether symbols may stand for merged strings.
+    #[inline]
+    #[tactic(auto, using(crate::proofs::OwnerLemmas::nothing_merged))]
+    pub(crate) fn has_strings(&self) -> bool
+        ensures { result ≡ false → (o : Option ℕ) → names_merged self.now.layout.now o ≡ false }
+    {
+        self.owners.len() != 0
+    }
+
+    /// The file of a symbol.
+    #[tactic(auto, using(crate::proofs::OwnerLemmas::owner_there, crate::proofs::OwnerLemmas::owner_missing))]
+    fn file(&self, symbol: SymbolIndex) -> Option<&'a File>
+        requires { symbol < length self.now.owners.items }
+        ensures { option_copied result ≡ file_of (files_of self.now.layout.now.groups) symbol }
+    {
+        match self.owners[symbol.0] {
+            Some(owner) => file_at(self.layout, owner),
+            None => None,
+        }
+    }
+
+    /// The merged section that a symbol, which is the output's own, is the section symbol of.
+    #[tactic(auto, using(crate::proofs::OwnerLemmas::merged_is, crate::proofs::OwnerLemmas::merged_fileless))]
+    fn section_in(&self, index: SymbolIndex, symbol: &Symbol) -> Option<&'a InputSection>
+        requires known { index < length self.now.owners.items }
+        requires plain { is_plain_own (flags_at self.now.layout.now index) ≡ true }
+        requires symbol { slice_get self.now.layout.now.symbols index ≡ Some symbol.now }
+        ensures { option_map (λ (s : InputSection). s.strings) (option_copied result) ≡ merged_strings self.now.layout.now index }
+    {
+        match self.file(index) {
+            Some(file) => merged_section(file, symbol),
+            None => None,
+        }
+    }
+
+    /// The same of any symbol whose file is known.
+    #[tactic(auto, using(crate::proofs::OwnerLemmas::merged_plain, crate::proofs::OwnerLemmas::merged_missing))]
+    fn section_of(&self, symbol: SymbolIndex) -> Option<&'a InputSection>
+        requires { symbol < length self.now.owners.items }
+        ensures { option_map (λ (s : InputSection). s.strings) (option_copied result) ≡ merged_strings self.now.layout.now symbol }
+    {
+        if !is_plain_own(flags_at(self.layout, symbol)) {
+            return None;
+        }
+        match self.layout.symbols.as_slice().get(symbol.0) {
+            Some(found) => self.section_in(symbol, found),
+            None => None,
+        }
+    }
+
+    /// The merged section that a symbol is the section symbol of.
+    #[tactic(auto, using(crate::proofs::OwnerLemmas::merged_past))]
+    fn merged_section(&self, symbol: SymbolIndex) -> Option<&'a InputSection>
+        ensures { option_map (λ (s : InputSection). s.strings) (option_copied result) ≡ merged_strings self.now.layout.now symbol }
+    {
+        if symbol.0 < self.owners.len() {
+            self.section_of(symbol)
+        } else {
+            None
+        }
+    }
+
+    /// Whether a symbol is the section symbol of a merged section.
+    pub(crate) fn names_merged(&self, symbol: SymbolIndex) -> bool
+        ensures { result ≡ names_merged self.now.layout.now (Some symbol) }
+    {
+        self.has_strings() && self.merged_section(symbol).is_some()
+    }
+
+    /// Where a byte went of the merged section that a symbol is the section symbol of; none where it is no such symbol.
+    #[tactic(auto, using(crate::proofs::OwnerLemmas::its_strings_ascend))]
+    pub(crate) fn string_place(&self, symbol: SymbolIndex, byte: u64) -> Option<Option<u64>>
+        ensures { result ≡ option_map (λ (ss : List MergedString). string_place ss byte) (merged_strings self.now.layout.now symbol) }
+    {
+        match self.merged_section(symbol) {
+            Some(section) => Some(string_place(section.strings.as_slice(), self.ascend, byte)),
+            None => None,
         }
     }
 

@@ -24,6 +24,8 @@ use Rattle.wild_needs.specs.SlotShares.{stub_size, words_in, symbol_share, heade
 use Rattle.wild_types.specs.FileSymbols.{own_symbols}
 use Rattle.wild_slot.specs.SymbolWords.{slots_of}
 use Rattle.wild_types.specs.SymbolSlots.{slots_at}
+use Rattle.wild_laid.specs.Laid.{laid_files}
+use Rattle.wild_laid.proofs.LaidFiles.{ReadsNoSection, laid_same}
 use Rattle.wild_layout.specs.SlotBytes.{stub_bytes, slot_words_of, stubs_of, slot_bytes}
 use Rattle.wild_layout.specs.Content.{file_content, group_bytes, content}
 use Rattle.wild_layout.specs.TablePlaces.{table_bytes}
@@ -42,6 +44,7 @@ symbol_bytes l other s = []
 pub record IsTable (l : Layout) (r : Role) (head : List ℕ) : Type 0 where
   pub file : (f : File) → file_content l r f ≡ (if is_prelude f.role then head else []) ++ flat_map (symbol_bytes l r) (own_symbols l f)
   pub block : (g : Group) → group_bytes l r g ≡ []
+  pub stays : ReadsNoSection l (file_content l r)
   pub share : (s : Symbol) → length (symbol_bytes l r s) ≡ symbol_share l r s
 
 -- ---- the three tables
@@ -59,6 +62,7 @@ unfolding slot_words_of
 got_table l = record {
   file = λ f. behind_head (is_prelude f.role) (word_bytes (header_words l)) (slot_bytes l role.Got f) (flat_map (symbol_bytes l role.Got) (own_symbols l f)) (flat_map-flat_map (λ (w : ℕ). word 8 w) (words_in words.Got l) (own_symbols l f));
   block = λ g. refl;
+  stays = λ at f. refl;
   share = λ s. length-word_bytes (words_in words.Got l s);
 }
 
@@ -67,6 +71,7 @@ unfolding slot_words_of
 block_table l = record {
   file = λ f. behind_head (is_prelude f.role) [] (slot_bytes l role.GotRelr f) (flat_map (symbol_bytes l role.GotRelr) (own_symbols l f)) (flat_map-flat_map (λ (w : ℕ). word 8 w) (words_in words.Block l) (own_symbols l f));
   block = λ g. refl;
+  stays = λ at f. refl;
   share = λ s. length-word_bytes (words_in words.Block l s);
 }
 
@@ -75,6 +80,7 @@ unfolding stubs_of
 stub_table l = record {
   file = λ f. behind_head (is_prelude f.role) [] (slot_bytes l role.PltGot f) (flat_map (symbol_bytes l role.PltGot) (own_symbols l f)) refl;
   block = λ g. refl;
+  stays = λ at f. refl;
   share = λ s. stub_length l (slots_of l s).has_stub (slots_at s) _;
 }
 
@@ -104,7 +110,7 @@ files_given l r head (f ∷ fs) t a =
 
 group_given : (l : Layout) (r : Role) (head : List ℕ) (g : Group) (front : List ℕ) → IsTable l r head → flat_map (file_content l r) g.files ≡ front ++ flat_map (symbol_bytes l r) (group_symbols l g) → content l r g ≡ front ++ flat_map (symbol_bytes l r) (group_symbols l g)
 group_given l r head g front t e =
-    ap (λ (bs : List ℕ). flat_map (file_content l r) g.files ++ bs) (t.block g) ∙ append-nil (flat_map (file_content l r) g.files) ∙ e
+    ap (λ (bs : List ℕ). flat_map (file_content l r) (laid_files l g) ++ bs) (t.block g) ∙ append-nil (flat_map (file_content l r) (laid_files l g)) ∙ laid_same l (file_content l r) g t.stays ∙ e
 
 abbrev pub FilesGiveNoHead : List ℕ → Group → Type 0
 FilesGiveNoHead head g = All (GivesNoHead head) g.files

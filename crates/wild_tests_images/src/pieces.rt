@@ -16,14 +16,18 @@ use wild_plan::{Error, Layout, Part, well_formed};
 use wild_tests_plans::{LINKED, MOVED, PACKED, SLOTTED, SMALLEST, THREE, VERSIONED};
 
 /// What each group has of a layout.
-fn pieces_of(alloc: Global, layout: &Layout) -> Result<Vec<GroupPiece>, Fail>
+fn pieces_of(
+    rt: &(impl Threads + Sync),
+    alloc: Global,
+    layout: &Layout,
+) -> Result<Vec<GroupPiece>, Fail>
     requires { layout.now.machine ≡ machine.X86_64 }
 {
     let mut pieces = Vec::new(alloc);
     match (well_formed(layout), check_shares(layout)) {
         (Ok(()), Ok(())) => {
             for index in 0..layout.groups.len() {
-                pieces.push(write_group::<ElfX86_64>(alloc, layout, index)?)?;
+                pieces.push(write_group::<ElfX86_64>(rt, alloc, layout, index)?)?;
             }
             Ok(pieces)
         }
@@ -77,10 +81,15 @@ fn has_parts(layout: &Layout, pieces: &[GroupPiece], image: &[u8]) -> bool {
 }
 
 /// Whether the pieces of all groups are the image.
-fn are_pieces(alloc: Global, layout: &Layout, image: &SizedOutput) -> Result<bool, Fail>
+fn are_pieces(
+    rt: &(impl Threads + Sync),
+    alloc: Global,
+    layout: &Layout,
+    image: &SizedOutput,
+) -> Result<bool, Fail>
     requires { layout.now.machine ≡ machine.X86_64 }
 {
-    let pieces = pieces_of(alloc, layout)?;
+    let pieces = pieces_of(rt, alloc, layout)?;
     let counts = counts_of(alloc, pieces.as_slice(), image.counts.len())?;
     Ok(
         pieces.len() == layout.groups.len()
@@ -101,7 +110,7 @@ fn pieces_of_groups(rt: HostRuntime) -> Result<(), Fail> {
     for plan in [SMALLEST, THREE, SLOTTED, MOVED, PACKED, LINKED, VERSIONED] {
         let layout = layout_of(rt.alloc(), plan)?;
         let image = written(&rt, rt.alloc(), &layout)?;
-        assert!(rt; are_pieces(rt.alloc(), &layout, &image)?);
+        assert!(rt; are_pieces(&rt, rt.alloc(), &layout, &image)?);
     }
     Ok(())
 }

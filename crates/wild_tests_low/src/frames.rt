@@ -6,10 +6,10 @@ use std::marker::Sync;
 use std::test::Fail;
 use std::thread::Threads;
 use wild_frames::{
-    BadFrame, Fde, FrameError, FrameSource, TableError, Target, Why, count_frames,
-    write_eh_frame_data, write_search_table,
+    BadFrame, Fde, FrameError, FrameSource, TableError, Target, count_frames, write_eh_frame_data,
+    write_search_table,
 };
-use wild_types::{InputRelocation, SymbolIndex};
+use wild_types::{InputRelocation, SymbolIndex, Why};
 
 /// A section whose fields have 4 bytes. Symbol 0 stands in a discarded section, and each other one in a loaded section.
 #[derive(Clone, Copy)]
@@ -80,7 +80,7 @@ fn kept(alloc: Global, bytes: &[u8], fields: &[(u64, u8)]) -> Result<(Vec<u8>, u
         bytes,
         relocations: relocations.as_slice(),
     };
-    let counts = count_frames(alloc, &frames)?;
+    let counts = count_frames(&frames);
     let mut out = vec![in alloc; 0; counts.bytes as usize]?;
     write_eh_frame_data(alloc, &frames, &mut out)?;
     Ok((out, counts.fdes))

@@ -45,7 +45,7 @@ const WRONG: [(&str, &str); 59] = [
     ),
     (r#"{"parts":[{"role":"rela_dyn_other"}]}"#, "/parts/0/role"),
     (
-        r#"{"parts":[{"role":"strtab"},{"role":"eh_frame"}]}"#,
+        r#"{"parts":[{"role":"strtab"},{"role":"eh_frames"}]}"#,
         "/parts/1/role",
     ),
     (r#"{"got_base":null,"tls":null}"#, "/tls"),
@@ -58,8 +58,8 @@ const WRONG: [(&str, &str); 59] = [
         "/groups/0/dynstr_start",
     ),
     (
-        r#"{"groups":[{"strtab_start":1,"eh_frame_start":0}]}"#,
-        "/groups/0/eh_frame_start",
+        r#"{"groups":[{"strtab_start":1,"frames_start":0}]}"#,
+        "/groups/0/frames_start",
     ),
     (
         r#"{"groups":[{"symtab_global_start":"","symtab_local_start":-1,"strtab_start":0}]}"#,
@@ -68,7 +68,7 @@ const WRONG: [(&str, &str); 59] = [
     (r#"{"interp":"","\u0061bc":0}"#, "/abc"),
     (r#"{"sections":[{"name":"0"}]}"#, "/sections/0/name"),
     (r#"{"sections":[{"kind":4294967296}]}"#, "/sections/0/kind"),
-    (r#"{"sections":[{"fill":null}]}"#, "/sections/0/fill"),
+    (r#"{"sections":[{"fill":0}]}"#, "/sections/0/fill"),
     (r#"{"segments":[{"flags":null}]}"#, "/segments/0/flags"),
     (r#"{"symbols":[{"info":256}]}"#, "/symbols/0/info"),
     (r#"{"symbols":[{"place":{}}]}"#, "/symbols/0/place"),
@@ -106,7 +106,7 @@ const WRONG: [(&str, &str); 59] = [
         "/groups/0/files/0/role",
     ),
     (
-        r#"{"groups":[{"files":[{"sections":[{"slot":"frame"}]}]}]}"#,
+        r#"{"groups":[{"files":[{"sections":[{"slot":"frames"}]}]}]}"#,
         "/groups/0/files/0/sections/0/slot",
     ),
     (

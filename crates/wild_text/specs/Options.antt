@@ -14,6 +14,8 @@ output_options d = do
   relax ← field (codes "relax") bool_in false d
   relr ← field (codes "relr") bool_in false d
   strip_all ← field (codes "strip_all") bool_in false d
+  eh_frame_hdr ← field (codes "eh_frame_hdr") bool_in false d
+  terminator ← field (codes "terminator") bool_in false d
   bti ← field (codes "bti") bool_in false d
   versions ← field (codes "versions") bool_in false d
   got_plt_syms ← field (codes "got_plt_syms") bool_in false d
@@ -22,6 +24,8 @@ output_options d = do
     relax = relax;
     relr = relr;
     strip_all = strip_all;
+    eh_frame_hdr = eh_frame_hdr;
+    terminator = terminator;
     bti = bti;
     versions = versions;
     got_plt_syms = got_plt_syms;
@@ -56,8 +60,8 @@ dynamic_options before d = do
 
 -- the members of options
 abbrev pub option_members : List (List ℕ)
-option_members = codes "relax" ∷ codes "relr" ∷ codes "strip_all" ∷ codes "bti" ∷ codes "versions" ∷ codes "got_plt_syms" ∷ codes "execstack"
-    ∷ codes "new_dtags" ∷ codes "origin" ∷ codes "nodelete" ∷ codes "interpose" ∷ codes "textrel" ∷ codes "static_tls" ∷ codes "variant_pcs" ∷ codes "rpath" ∷ codes "soname" ∷ codes "auxiliary" ∷ []
+option_members = codes "relax" ∷ codes "relr" ∷ codes "strip_all" ∷ codes "eh_frame_hdr" ∷ codes "terminator" ∷ codes "bti" ∷ codes "versions"
+    ∷ codes "got_plt_syms" ∷ codes "execstack" ∷ codes "new_dtags" ∷ codes "origin" ∷ codes "nodelete" ∷ codes "interpose" ∷ codes "textrel" ∷ codes "static_tls" ∷ codes "variant_pcs" ∷ codes "rpath" ∷ codes "soname" ∷ codes "auxiliary" ∷ []
 
 -- what the link was asked for
 unfoldable pub options_in : Data → Result Options (List ℕ)

@@ -2,6 +2,7 @@
 #![tactic(auto)]
 
 mod answer;
+mod extras;
 mod fault;
 mod input;
 mod laws;

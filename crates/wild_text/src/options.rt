@@ -18,6 +18,8 @@ fn output_options(alloc: Global, json: &Value) -> std::result::Result<Options, P
     let relax = member(alloc, json, "relax", false)?;
     let relr = member(alloc, json, "relr", false)?;
     let strip_all = member(alloc, json, "strip_all", false)?;
+    let eh_frame_hdr = member(alloc, json, "eh_frame_hdr", false)?;
+    let terminator = member(alloc, json, "terminator", false)?;
     let bti = member(alloc, json, "bti", false)?;
     let versions = member(alloc, json, "versions", false)?;
     let got_plt_syms = member(alloc, json, "got_plt_syms", false)?;
@@ -26,6 +28,8 @@ fn output_options(alloc: Global, json: &Value) -> std::result::Result<Options, P
         relax,
         relr,
         strip_all,
+        eh_frame_hdr,
+        terminator,
         bti,
         versions,
         got_plt_syms,
@@ -83,6 +87,8 @@ impl Planned for Options {
                 "relax",
                 "relr",
                 "strip_all",
+                "eh_frame_hdr",
+                "terminator",
                 "bti",
                 "versions",
                 "got_plt_syms",

@@ -5,6 +5,7 @@
 --   is_without_data s      the section has no bytes in the file
 --   takes_file_bytes l k   the section with header index k has
 --   is_filled l s          the input section is loaded and owns bytes of the image
+--   is_read s              its relocations are read, where it stands as it is or is one of frames; is_counted s they are counted
 --   image_size l           the greatest end of a file range of a part or a section
 --   has_address l s        the input section has an address
 --   canonical l i          the symbol that defines symbol i
@@ -91,17 +92,44 @@ abbrev pub is_loaded : Slot → Bool
 is_loaded slot.Loaded = true
 is_loaded other = false
 
+abbrev pub is_frame : Slot → Bool
+is_frame slot.Frame = true
+is_frame other = false
+
 abbrev pub is_discarded : Slot → Bool
 is_discarded slot.Discard = true
 is_discarded other = false
 
+-- there are bytes of the input section, or in a section with data zeros where it has none
+abbrev pub has_bytes : Layout → InputSection → Bool
+has_bytes l s = if s.nobits then not (s.size == 0) && takes_file_bytes l (section_of l s.part) else not (length s.bytes == 0)
+
 -- the input section is loaded and owns bytes of the image: its own, or zeros where it has none
 abbrev pub is_filled : Layout → InputSection → Bool
-is_filled l s = is_loaded s.slot && (if s.nobits then not (s.size == 0) && takes_file_bytes l (section_of l s.part) else not (length s.bytes == 0))
+is_filled l s = is_loaded s.slot && has_bytes l s
 
--- an input section's relocations are read where it is loaded and has data
+-- of a section that stands in the output as it is, or of frames, the relocations are read
+abbrev pub has_relocations : Slot → Bool
+has_relocations slot.Loaded = true
+has_relocations slot.Frame = true
+has_relocations other = false
+
+-- an input section's relocations are read where it has data
 abbrev pub is_read : InputSection → Bool
-is_read s = is_loaded s.slot && not s.nobits
+is_read s = has_relocations s.slot && not s.nobits
+
+-- they are counted for the output section, of a loaded section and of one in a given order
+abbrev pub has_counted : Slot → Bool
+has_counted slot.Loaded = true
+has_counted slot.Sorted = true
+has_counted other = false
+
+abbrev pub is_counted : InputSection → Bool
+is_counted s = has_counted s.slot && not s.nobits
+
+-- such a section owns bytes of the image
+abbrev pub owns_bytes : Layout → InputSection → Bool
+owns_bytes l s = has_counted s.slot && has_bytes l s
 
 abbrev pub file_end : Bool → ℕ → ℕ → ℕ
 file_end takes offset size = if takes && not (size == 0) then offset + size else 0

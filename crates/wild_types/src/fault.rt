@@ -19,6 +19,25 @@ pub enum Missing {
     Section,
 }
 
+/// What is wrong with a section of frames (LSB, "The .eh_frame section").
+#[derive(Clone, Copy, Debug, PartialEq, Eq)]
+pub enum Why {
+    /// The reader of the input failed at a relocation.
+    Malformed,
+    /// A relocation stands before the one in front of it.
+    Unsorted,
+    /// An entry goes past the section's end.
+    Cut,
+    /// An entry has no room for its id, or a kept FDE none for where its code begins.
+    Short,
+    /// The code of an FDE is that of no symbol, or of one that stands in no input section.
+    PcBegin,
+    /// Where an FDE points there is no CIE.
+    Cie,
+    /// A field goes past its entry.
+    Field,
+}
+
 /// Why a layout has no image. Parts, groups and symbols are places in their lists, as they are printed; sizes are in
 /// bytes.
 #[derive(Clone, Copy, Debug, PartialEq, Eq)]
@@ -87,6 +106,15 @@ pub enum Fault {
     /// A static executable has no code that a descriptor could name.
     StaticTlsDesc {
         symbol: usize,
+    },
+    /// A section of frames cannot be read: its list of relocations, or the entry at that place.
+    BadFrameData {
+        why: Why,
+    },
+    /// An address is further from the search table of frames than four signed bytes tell.
+    FrameOffsetOverflow {
+        /// The distance, modulo 2^64.
+        value: u64,
     },
     /// The value does not fit the field.
     OutOfRange {

@@ -23,7 +23,7 @@ mod symbol;
 mod warning;
 
 pub use extent::{behind_first, wide_sum};
-pub use fault::{At, Clause, Error, Fault, Missing};
+pub use fault::{At, Clause, Error, Fault, Missing, Why};
 pub use file::{File, FileRole, Group, NeededVersion, VersionNeeds};
 pub use index::{SectionIndex, SymbolIndex};
 pub use input::{InputRelocation, InputSection, MergedString, Slot};

@@ -2,7 +2,7 @@
 ghost use Rattle.std.specs.Prelude.{◌≡◌, ◌+◌, ◌^◌, ◌%◌, ◌<◌, true, length, drop, take, slice_range};
 ghost use Rattle.wild_types.specs.FileSymbols.{range_of, own_symbols, loaded_symbols};
 ghost use Rattle.wild_types.specs.FileThunks.{block_of, thunks_of};
-ghost use Rattle.wild_types.specs.Lookups.{place_of, packs, has_moved, writable, allocated, executable, thread_local, kind_at, section_of, is_allocated_section, is_allocated_part, is_without_data, takes_file_bytes, is_loaded, is_discarded, is_filled, is_read, has_address, canonical, has_table, has_many_sections};
+ghost use Rattle.wild_types.specs.Lookups.{place_of, packs, has_moved, writable, allocated, executable, thread_local, kind_at, section_of, is_allocated_section, is_allocated_part, is_without_data, takes_file_bytes, is_loaded, is_discarded, is_filled, is_read, is_frame, is_counted, has_bytes, owns_bytes, has_address, canonical, has_table, has_many_sections};
 ghost use Rattle.wild_types.specs.SymbolSlots.{names_slot, names_stub};
 
 use crate::file::File;
@@ -53,6 +53,13 @@ impl Slot {
         ensures { result ≡ is_loaded self }
     {
         matches!(self, Slot::Loaded)
+    }
+
+    /// Whether the section is one of frames.
+    pub fn is_frame(self) -> bool
+        ensures { result ≡ is_frame self }
+    {
+        matches!(self, Slot::Frame)
     }
 
     /// Whether the section is left out.
@@ -246,23 +253,44 @@ impl Section {
 }
 
 impl InputSection {
+    /// Whether there are bytes of the section, or in a section with data zeros where it has none.
+    pub fn has_bytes(&self, layout: &Layout) -> bool
+        ensures { result ≡ has_bytes layout.now self.now }
+    {
+        if self.nobits {
+            self.size != 0 && layout.takes_file_bytes(layout.section_of(self.part))
+        } else {
+            self.bytes.len() != 0
+        }
+    }
+
     /// Whether the section is loaded and owns bytes of the image: its own, or zeros where it has none.
     pub fn is_filled(&self, layout: &Layout) -> bool
         ensures { result ≡ is_filled layout.now self.now }
     {
-        let owns = if self.nobits {
-            self.size != 0 && layout.takes_file_bytes(layout.section_of(self.part))
-        } else {
-            self.bytes.len() != 0
-        };
-        self.slot.is_loaded() && owns
+        self.slot.is_loaded() && self.has_bytes(layout)
     }
 
-    /// Whether the relocations are read: those of a loaded section with data are.
+    /// The same of a loaded section or one that stands in a given order.
+    pub fn owns_bytes(&self, layout: &Layout) -> bool
+        ensures { result ≡ owns_bytes layout.now self.now }
+    {
+        matches!(self.slot, Slot::Loaded | Slot::Sorted) && self.has_bytes(layout)
+    }
+
+    /// Whether the relocations are read: those of a loaded section with data are, and those of frames.
     pub fn is_read(&self) -> bool
         ensures { result ≡ is_read self.now }
     {
-        self.slot.is_loaded() && !self.nobits
+        matches!(self.slot, Slot::Loaded | Slot::Frame) && !self.nobits
+    }
+
+    /// Whether the relocations are counted for the output section: those of a loaded section with data are, and those of one that
+    /// stands in a given order.
+    pub fn is_counted(&self) -> bool
+        ensures { result ≡ is_counted self.now }
+    {
+        matches!(self.slot, Slot::Loaded | Slot::Sorted) && !self.nobits
     }
 
     /// Whether the section has an address: one that is not discarded has, where that is not 0 or its part is not

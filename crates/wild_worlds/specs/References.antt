@@ -23,8 +23,8 @@ use Rattle.wild_meaning.specs.World.{IsFixed, IsBehind}
 use Rattle.wild_meaning.specs.Value.{HasFlag, IsAbsolute, IsReplaceable}
 use Rattle.wild_meaning.specs.Field.{formula_of}
 use Rattle.wild_meaning.specs.Formula.{IsPlaceRelative, TakesAddress, TakesOffset}
-use Rattle.wild_types.specs.Item.{Item, item_of}
-use Rattle.wild_meaning.specs.Item.{IsInput, IsKept, IsReference}
+use Rattle.wild_types.specs.Item.{Item}
+use Rattle.wild_meaning.specs.Item.{IsInput, IsKept, IsReference, stood_item}
 use Rattle.wild_meaning.specs.Reference.{HasPlace, GoesByPlace, IsAsked, IsLeftToLoader, IsStubbed, GoesByStub, IsLinkedAlone}
 use Rattle.wild_meaning.specs.Linked.{IsBlank}
 use Rattle.wild_reloc.specs.Formula.{Formula}
@@ -32,7 +32,7 @@ use Rattle.wild_laws.specs.FirstTypes.{IsLoadedSection}
 
 -- each loaded, allocated input section with data is kept, as its item
 abbrev pub SectionsAreKept : Type 0
-SectionsAreKept = (l : Layout) (s : InputSection) (k : IsLoadedSection l s) → IsKept l (item_of l k.file s)
+SectionsAreKept = (l : Layout) (s : InputSection) (k : IsLoadedSection l s) → IsKept l (stood_item l k.file s)
 
 -- each of an item's relocations but NONE is a reference
 abbrev pub RelocationsRefer : Type 0

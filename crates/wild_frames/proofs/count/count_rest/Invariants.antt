@@ -1,5 +1,5 @@
 use Rattle.std.proofs.Common.{◌-◌, length}
-use Rattle.wild_frames.proofs.WriteLemmas.{IsCounted}
+use Rattle.wild_frames.proofs.CountLemmas.{IsCounted}
 use Rattle.wild_frames.proofs.count.count_rest.Given as goal
 
 abbrev pub invariant-loop-walk : goal.invariant-loop-walk

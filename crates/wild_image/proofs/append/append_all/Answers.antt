@@ -47,7 +47,7 @@ append_batch-requires-clause-bytes c =
     let at : slice_get bs i ≡ Some b = slice_get_read bs (length bs) i b (search rules) c.loop-i-test.true c.index-batches-i.is in
     let given = c.requires.each i c.index-outcomes-i.result (slice_get_read c.args.outcomes.now (length c.args.outcomes.now) i c.index-outcomes-i.result (search rules) (omega arith) c.index-outcomes-i.is) in
     let p = bytes_given l bs i b c.index-outcomes-i.result.bytes c.in-Ok.bytes given at (ap (λ (o : Outcome). o.bytes) c.index-outcomes-i.is ∙ c.in-Ok.is) in
-    c.as_slice.ensures ∙ p.1
+    p.1
 
 pub append_batch-requires-clause-starts : goal.append_batch-requires-clause-starts
 append_batch-requires-clause-starts c = next_starts c.args.layout.now c.args.batches.now c.loop-i.i c.index-batches-i.result c.loop-i.starts c.loop-i-test.true c.index-batches-i.is c.loop-i.invariant.2

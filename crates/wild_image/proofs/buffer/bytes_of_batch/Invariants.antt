@@ -1,10 +1,12 @@
 use Rattle.std.proofs.Common.{◌≡◌, [], take}
 use Rattle.std.specs.List.{flat_map}
 use Rattle.wild_layout.specs.Faults.{flat_map_from, group_errors}
-use Rattle.wild_image.specs.Pieces.{group_bytes}
+use Rattle.wild_image.specs.Pieces.{group_tables, group_files}
 use Rattle.wild_image.proofs.buffer.bytes_of_batch.Given as goal
 
 abbrev pub invariant-loop-i : goal.invariant-loop-i
-invariant-loop-i g l =
-    (flat_map_from (group_errors l.resolved.layout.now) l.batch.first (take l.i l.batch.groups.now) ≡ [])
-    × (l.bytes ≡ flat_map (group_bytes l.resolved.layout.now) (take l.i l.batch.groups.now))
+invariant-loop-i g l = record {
+  faults : flat_map_from (group_errors l.resolved.layout.now) l.batch.first (take l.i l.batch.groups.now) ≡ [];
+  tables : l.bytes.tables ≡ flat_map (group_tables l.resolved.layout.now) (take l.i l.batch.groups.now);
+  files : l.bytes.files ≡ flat_map (group_files l.resolved.layout.now) (take l.i l.batch.groups.now);
+}

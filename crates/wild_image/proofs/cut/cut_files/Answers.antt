@@ -1,5 +1,5 @@
 use Rattle.std.proofs.Common.{sym, subst}
-use Rattle.wild_image.specs.Pieces.{file_bytes, file_owned}
+use Rattle.wild_image.specs.Pieces.{file_bytes, file_owned, group_files}
 use Rattle.wild_image.specs.Append.{FileLies}
 use Rattle.wild_image.proofs.AppendLemmas.{next_begins, stands_more}
 use Rattle.wild_image.proofs.OwnedLemmas.{owned_read}
@@ -12,6 +12,7 @@ cut_file-requires-clause-lies c =
     subst (FileLies c.args.layout.now) (sym read) (c.requires.lies c.loop-file.file-index c.file-item.result h)
 
 pub cut_file-requires-clause-own : goal.cut_file-requires-clause-own
+unfolding group_files
 cut_file-requires-clause-own c =
     let h = rw c.as_slice-file-items.ensures at c.loop-file-test.true in
     let read = rw c.as_slice-file-items.ensures at c.file-item.is in

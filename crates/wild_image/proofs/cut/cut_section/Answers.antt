@@ -1,33 +1,20 @@
-use Rattle.std.proofs.Common.{◌≡◌, ◌++◌, List, ℕ, get_or, refl, ap, ◌∙◌, true, rules}
-use Rattle.wild_types.specs.Lookups.{is_filled}
-use Rattle.wild_image.specs.Pieces.{section_owned}
-use Rattle.wild_image.proofs.AppendLemmas.{CutOff, cut_off, length_owned}
-use Rattle.wild_image.proofs.OwnedLemmas.{part_extended}
+use Rattle.std.proofs.Common.{◌≡◌, true, rules}
+use Rattle.std.proofs.lemmas.Result.{IfOk-weaker, on_ok_weaker}
+use Rattle.wild_types.specs.Lookups.{is_loaded}
 use Rattle.wild_image.proofs.cut.cut_section.Goals as goal
 
-pub split_at-requires : goal.split_at-requires
-split_at-requires c =
-    let l = c.args.layout.now in
-    let s = c.args.section.now in
-    let f = c.requires.own.0 in
-    let filled : is_filled l s ≡ true = search rules in
-    (cut_off (section_owned l f s) c.args.bytes.now s.size (length_owned l f s c.requires.lies filled) c.requires.own.1).within
+pub cut_standing-requires-clause-lies : goal.cut_standing-requires-clause-lies
+cut_standing-requires-clause-lies c = let t : is_loaded c.args.section.now.slot ≡ true = search rules in c.requires.lies t
 
-pub returns-clause-owned : goal.returns-clause-owned
-returns-clause-owned c =
-    let l = c.args.layout.now in
-    let s = c.args.section.now in
-    let filled : is_filled l s ≡ true = search rules in
-    let d = c.index-parts-section.result in
-    λ f own. (
-    let cut = cut_off (section_owned l f s) c.args.bytes.now s.size (length_owned l f s c.requires.lies filled) own in
-    part_extended l f s c.args.parts.now d _ filled (search rules) (c.in_ok-extend.ensures ∙ ap (λ (ys : List ℕ). get_or c.args.parts.now s.part d ++ ys) (c.split_at.ensures.front ∙ cut.front ∙ rw filled refl)))
+pub cut_standing-requires-clause-own : goal.cut_standing-requires-clause-own
+cut_standing-requires-clause-own c = let t : is_loaded c.args.section.now.slot ≡ true = search rules in (c.requires.own.0, rw t at c.requires.own.1)
 
-pub returns-clause-rest : goal.returns-clause-rest
-returns-clause-rest c =
-    let l = c.args.layout.now in
-    let s = c.args.section.now in
-    let filled : is_filled l s ≡ true = search rules in
-    λ f own. (
-    let cut = cut_off (section_owned l f s) c.args.bytes.now s.size (length_owned l f s c.requires.lies filled) own in
-    λ rest e. c.split_at.ensures.back ∙ cut.back rest e)
+pub returns-then-is_loaded-clause-owned : goal.returns-then-is_loaded-clause-owned
+returns-then-is_loaded-clause-owned c =
+    let t : is_loaded c.args.section.now.slot ≡ true = search rules in
+    on_ok_weaker c.cut_standing.result (λ each. λ f own. rw t (each f (rw t at own))) c.cut_standing.ensures.owned
+
+pub returns-then-is_loaded-clause-rest : goal.returns-then-is_loaded-clause-rest
+returns-then-is_loaded-clause-rest c =
+    let t : is_loaded c.args.section.now.slot ≡ true = search rules in
+    IfOk-weaker c.cut_standing.result _ _ (λ r each. λ f own. rw t (each f (rw t at own))) c.cut_standing.ensures.rest

@@ -6,7 +6,7 @@ use Rattle.wild_types.specs.Faults.{Answers}
 use Rattle.wild_layout.specs.Image.{group_pieces}
 use Rattle.wild_layout.specs.Faults.{group_errors}
 use Rattle.wild_layout.proofs.LayoutLemmas.{length-padding}
-use Rattle.wild_image.proofs.AppendLemmas.{each_file_lies}
+use Rattle.wild_image.proofs.StandingLemmas.{each_file_lies}
 use Rattle.wild_image.proofs.BatchLemmas.{cut_of, joined}
 use Rattle.wild_image.proofs.OutputLemmas.{image_is}
 use Rattle.wild_image.proofs.output.write_bytes.Goals as goal

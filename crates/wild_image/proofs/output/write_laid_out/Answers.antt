@@ -1,5 +1,6 @@
-use Rattle.std.proofs.Common.{◌≡◌, ℕ, List, [], ◌<◌, ◌^◌, length, ap, arith, subst, sym}
+use Rattle.std.proofs.Common.{◌≡◌, ℕ, List, [], ◌<◌, ◌^◌, length, ap, arith, rules, subst, sym}
 use Rattle.wild_crew.specs.Ended.{AreTotals}
+use Rattle.wild_types.specs.declared.part.Role.TheVariants as role
 use Rattle.wild_types.specs.declared.file.Group.{Group}
 use Rattle.wild_types.specs.declared.layout.Layout.{Layout}
 use Rattle.wild_clauses.specs.Places.{relocation_count}
@@ -7,9 +8,10 @@ use Rattle.wild_layout.specs.Faults.{flat_map_from, part_errors}
 use Rattle.wild_layout.specs.Geometry.{IsLaidOut}
 use Rattle.wild_image.specs.declared.batch.Batch.{Batch}
 use Rattle.wild_image.specs.Batches.{AreBatches, GivesBatch, pairs_at}
-use Rattle.wild_image.proofs.OutputLemmas.{FieldsFit-IsLaidOut}
+use Rattle.wild_image.proofs.OutputLemmas.{FieldsFit-IsLaidOut, role_address}
 use Rattle.wild_image.proofs.GatherLemmas.{pairs_below, sums_fit, totals_are}
 use Rattle.wild_image.proofs.JobLemmas.{few_groups}
+use Rattle.wild_image.proofs.StoodLemmas.{made}
 use Rattle.wild_image.proofs.output.write_laid_out.Goals as goal
 
 pub new-requires-clause-fits : goal.new-requires-clause-fits
@@ -67,3 +69,9 @@ returns-clause-counts g c =
     let all = subst (λ (gs : List Group). AreBatches gs bs) c.as_slice-groups.ensures cut in
     let totals = subst (λ (m : Layout). AreTotals (pairs_at m bs) (length bs) c.len-sections.result c.in_ok-gathered.gathered.totals) c.in_ok-resolved.ensures c.in_ok-gathered.ensures.totals in
     totals_are l bs c.in_ok-gathered.gathered.totals all (subst (λ (n : ℕ). AreTotals (pairs_at l bs) (length bs) n c.in_ok-gathered.gathered.totals) c.len-sections.ensures totals)
+
+pub make_search_table-requires : goal.make_search_table-requires
+make_search_table-requires g c = (search rules, role_address c.in_ok-resolved.resolved.layout.now (subst IsLaidOut (sym c.in_ok-resolved.ensures) c.requires.laid_out) role.EhFrameHdr)
+
+pub invariant_of-job-clause-table_is : goal.invariant_of-job-clause-table_is
+invariant_of-job-clause-table_is g c = made c.in_ok-resolved.resolved.layout.now c.in_ok-table.table c.in_ok-table.ensures

@@ -1,14 +1,15 @@
 use Rattle.std.proofs.Common.{◌≡◌, length, rules, arith, subst, sym}
 use Rattle.std.specs.Prelude.{slice_get, Some, All}
 use Rattle.std.proofs.lemmas.Option.{slice_get_read}
+use Rattle.wild_types.specs.declared.part.Role.TheVariants as role
 use Rattle.wild_types.specs.declared.file.Group.{Group}
 use Rattle.wild_types.specs.declared.layout.Layout.{Layout}
 use Rattle.wild_layout.specs.Geometry.{IsLaidOut}
-use Rattle.wild_image.specs.Append.{GivesItsShares, FileLies}
+use Rattle.wild_image.specs.Append.{GivesItsShares, FileLies, GroupStands}
 use Rattle.wild_image.specs.Jobs.{GivesPiece}
 use Rattle.wild_image.proofs.GatherLemmas.{section_below}
-use Rattle.wild_image.proofs.OutputLemmas.{FieldsFit-IsLaidOut}
-use Rattle.wild_image.proofs.AppendLemmas.{each_file_lies}
+use Rattle.wild_image.proofs.OutputLemmas.{FieldsFit-IsLaidOut, role_address}
+use Rattle.wild_image.proofs.StandingLemmas.{each_file_lies, each_stands}
 use Rattle.wild_image.proofs.TableLemmas.{gives_its_shares}
 use Rattle.wild_words.proofs.ListLemmas.{holds_at}
 use Rattle.wild_contents.specs.Given.{NeedsFit}
@@ -56,3 +57,16 @@ returns g c =
     let at : slice_get l.groups c.args.group ≡ Some found = slice_get_read l.groups (length l.groups) c.args.group found (search rules) c.requires.group (search rules) in
     let there = subst (λ (m : Layout). slice_get m.groups c.args.group ≡ Some found) (sym c.in_ok-resolved.ensures) at in
     subst (λ (m : Layout). GivesPiece m c.args.group c.piece_of.result) c.in_ok-resolved.ensures (piece_found c.in_ok-resolved.resolved.layout.now c.args.group found _ there c.piece_of.ensures.faults c.piece_of.ensures.parts c.piece_of.ensures.counts)
+
+pub piece_of-requires-clause-stands : goal.piece_of-requires-clause-stands
+piece_of-requires-clause-stands g c =
+    let l = c.args.layout.now in
+    let all = each_stands l (c.layouts_are_laid_out.ensures l c.requires.clauses c.requires.shares) in
+    let found = c.index-as_slice-group.result in
+    let at : slice_get l.groups c.args.group ≡ Some found = slice_get_read l.groups (length l.groups) c.args.group found (search rules) c.requires.group (search rules) in
+    subst (λ (m : Layout). GroupStands m found) (sym c.in_ok-resolved.ensures) (holds_at (GroupStands l) l.groups c.args.group found at all)
+
+pub table_for-requires : goal.table_for-requires
+table_for-requires g c =
+    let laid = subst IsLaidOut (sym c.in_ok-resolved.ensures) (c.layouts_are_laid_out.ensures c.args.layout.now c.requires.clauses c.requires.shares) in
+    (search rules, role_address c.in_ok-resolved.resolved.layout.now laid role.EhFrameHdr)

@@ -13,13 +13,13 @@ returns-in_err-decide_at-clause-faults g c =
     let p = err_from_is_err_and r.result r.ensures.1 in
     let test = c.loop-index-test.true in
     let below : c.loop-index.index < length c.args.item.now.relocations.now = omega (arith, test) in
-    rw (p.1, p.2) (refuses_decision c.args.resolved.now.layout.now c.args.place.group c.args.place.file c.args.place.section (item_now c.args.item.now) c.loop-index.index _ below c.loop-index.invariant.none c.in_err-decide_at.ensures.faults)
+    rw (p.1, p.2) (refuses_decision c.args.resolved.now.layout.now c.args.origin.now.place.group c.args.origin.now.place.file c.args.origin.now.place.section (item_now c.args.item.now) c.args.origin.now.relocations.now c.loop-index.index _ below c.loop-index.invariant.none c.in_err-decide_at.ensures.faults)
 
 pub loop-index-preserved : goal.loop-index-preserved
 loop-index-preserved g c =
     let test = c.loop-index-test.true in
     let below : c.loop-index.index < length c.args.item.now.relocations.now = omega (arith, test) in
     record {
-      none = none_refused c.args.resolved.now.layout.now c.args.place.group c.args.place.file c.args.place.section (item_now c.args.item.now) c.loop-index.index c.loop-index.invariant.none c.in_ok-decide_at.ensures.faults;
+      none = none_refused c.args.resolved.now.layout.now c.args.origin.now.place.group c.args.origin.now.place.file c.args.origin.now.place.section (item_now c.args.item.now) c.args.origin.now.relocations.now c.loop-index.index c.loop-index.invariant.none c.in_ok-decide_at.ensures.faults;
       made = decided_more c.args.resolved.now.layout.now (item_now c.args.item.now) c.loop-index.decisions.items c.push.new.self.items c.loop-index.index _ below c.loop-index.invariant.made c.in_ok-push.ensures.items c.in_ok-decide_at.ensures.decision;
     }

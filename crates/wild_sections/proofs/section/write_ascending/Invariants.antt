@@ -3,4 +3,4 @@ use Rattle.wild_sections.proofs.AscendingLemmas.{HasAscended}
 use Rattle.wild_sections.proofs.section.write_ascending.Given as goal
 
 abbrev pub invariant-loop-index : goal.invariant-loop-index
-invariant-loop-index g l = HasAscended l.resolved.layout.now l.place.group l.place.file l.place.section (item_now l.item) l.index l.reach l.room
+invariant-loop-index g l = HasAscended l.resolved.layout.now l.origin.place.group l.origin.place.file l.origin.place.section (item_now l.item) l.origin.relocations.now l.index l.reach l.room

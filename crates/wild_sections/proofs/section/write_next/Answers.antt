@@ -17,7 +17,7 @@ pub returns-in-Some : goal.returns-in-Some
 returns-in-Some g c =
     let s = item_now c.args.item.now in
     record {
-      faults = ok_has_none c.args.resolved.now.layout.now c.args.place.group c.args.place.file c.args.place.section s c.args.index _ (c.in-Some.ensures c.in-Some.value refl);
+      faults = ok_has_none c.args.resolved.now.layout.now c.args.origin.now.place.group c.args.origin.now.place.file c.args.origin.now.place.section s c.args.origin.now.relocations.now c.args.index _ (c.in-Some.ensures c.in-Some.value refl);
       next = record {
         relocation = c.index-relocations-index.result;
         listed = read_at s.relocations c.args.index _ c.requires.index c.index-relocations-index.is;

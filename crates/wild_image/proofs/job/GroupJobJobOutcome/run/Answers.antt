@@ -1,25 +1,25 @@
 use Rattle.std.proofs.Common.{◌≡◌, get_or, refl, arith}
 use Rattle.std.specs.Prelude.{slice_get, Some, All}
 use Rattle.std.proofs.lemmas.Option.{slice_get-get_or}
-use Rattle.wild_types.specs.declared.file.File.{File}
 use Rattle.wild_types.specs.declared.file.Group.{Group}
-use Rattle.wild_layout.specs.SectionPlaces.{SectionLies}
 use Rattle.wild_contents.specs.Given.{NeedsFit}
-use Rattle.wild_image.specs.Append.{GivesItsShares}
+use Rattle.wild_image.specs.Append.{GivesItsShares, GroupStands}
 use Rattle.wild_contents.proofs.VersionLemmas.{needs_fit}
 use Rattle.wild_image.proofs.JobLemmas.{gives_found, pairs_found, few_groups}
+use Rattle.wild_image.proofs.StandingLemmas.{each_stands}
+use Rattle.wild_image.proofs.StoodLemmas.{is_made}
 use Rattle.wild_image.proofs.TableLemmas.{all_give}
 use Rattle.wild_image.proofs.BatchLemmas.{cut_of, batches_within, batches_end, holds_within}
 use Rattle.wild_image.proofs.job.GroupJobJobOutcome.run.Goals as goal
 
-pub bytes_of_batch-bytes-requires-clause-lies : goal.bytes_of_batch-bytes-requires-clause-lies
-bytes_of_batch-bytes-requires-clause-lies g c =
+pub bytes_of_batch-bytes-requires-clause-stands : goal.bytes_of_batch-bytes-requires-clause-stands
+bytes_of_batch-bytes-requires-clause-stands g c =
     let l = c.args.self.now.resolved.layout.now in
     let bs = c.args.self.now.batches.now in
     let found = get_or bs c.args.group c.index-self-group.result in
     let at : slice_get bs c.args.group ≡ Some found = slice_get-get_or bs c.args.group c.index-self-group.result c.requires in
     let within = batches_within l.groups l.groups 0 bs c.args.group found refl (cut_of l.groups bs c.args.self.now.batches_are) at in
-    holds_within (λ (g : Group). All (λ (f : File). All (SectionLies l) f.sections) g.files) l.groups found within (c.layouts_are_laid_out.ensures l c.args.self.now.clauses c.args.self.now.shares).inputs
+    holds_within (GroupStands l) l.groups found within (each_stands l (c.layouts_are_laid_out.ensures l c.args.self.now.clauses c.args.self.now.shares))
 
 pub bytes_of_batch-bytes-requires-clause-gives : goal.bytes_of_batch-bytes-requires-clause-gives
 bytes_of_batch-bytes-requires-clause-gives g c =
@@ -56,3 +56,6 @@ returns g c =
     let found = get_or bs c.args.group c.index-self-group.result in
     let at : slice_get bs c.args.group ≡ Some found = slice_get-get_or bs c.args.group c.index-self-group.result c.requires in
     (gives_found l bs c.args.group found _ at c.bytes_of_batch-bytes.ensures.faults c.bytes_of_batch-bytes.ensures.bytes, pairs_found l bs c.args.group found _ at c.in_ok-counts.ensures)
+
+pub bytes_of_batch-bytes-requires-clause-table : goal.bytes_of_batch-bytes-requires-clause-table
+bytes_of_batch-bytes-requires-clause-table g c = is_made c.args.self.now.resolved.layout.now c.args.self.now.table.now c.args.self.now.table_is

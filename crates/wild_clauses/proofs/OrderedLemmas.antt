@@ -1,0 +1,122 @@
+-- Sections in a given order, entry by entry; and what is read of a section as a loaded one.
+use Rattle.std.proofs.Common.{◌≡◌, ℕ, ◌+◌, ◌<◌, inl, inr, Bool, true, false, List, [], ◌∷◌, ◌++◌, length, get_or, drop, refl, sym, ap, ◌∙◌}
+use Rattle.std.specs.Prelude.{Option, Some, None, Result, Ok, Err, ◌&&◌, option_and_then}
+use Rattle.std.specs.List.{flat_map, list_all}
+use Rattle.std.proofs.lemmas.Bool.{cases_Bool}
+use Rattle.std.proofs.lemmas.List.{drop_more, map-append}
+use Rattle.wild_types.specs.declared.input.Slot.{Slot}
+use Rattle.wild_types.specs.declared.input.Slot.TheVariants as slot
+use Rattle.wild_types.specs.declared.input.InputSection.{InputSection}
+use Rattle.wild_types.specs.declared.layout.SortedSection.{SortedSection}
+use Rattle.wild_types.specs.declared.layout.Layout.{Layout}
+use Rattle.wild_types.specs.declared.file.File.{File}
+use Rattle.wild_types.specs.FileRoles.{is_epilogue}
+use Rattle.wild_types.specs.Lists.{through}
+use Rattle.wild_types.specs.Lookups.{is_loaded}
+use Rattle.wild_laid.specs.Laid.{Input, as_loaded, sorted_input, of_last_file}
+use Rattle.wild_clauses.specs.SlotPlaces.{and_then, walk}
+use Rattle.wild_clauses.specs.Thunks.{section_step, standing}
+use Rattle.wild_clauses.specs.Misplaced.{all_placed, file_all_placed}
+use Rattle.wild_clauses.specs.Ordered.{sections_of, ordered}
+use Rattle.wild_clauses.proofs.BlockLemmas.{unfilled}
+
+-- ---- one section
+
+loaded_slot : (at : Slot) → is_loaded at ≡ true → at ≡ slot.Loaded
+loaded_slot slot.Loaded e = refl
+loaded_slot other e = cc
+
+-- a loaded section is itself
+pub loaded_is : (s : InputSection) → is_loaded s.slot ≡ true → as_loaded s ≡ s
+loaded_is s e = rw (← loaded_slot s.slot e) refl
+
+pub loaded_placed : (l : Layout) (part : ℕ) (ends cursors : List ℕ) (s : InputSection) → is_loaded s.slot ≡ true → all_placed l part ends cursors (as_loaded s) ≡ all_placed l part ends cursors s
+loaded_placed l part ends cursors s e = ap (all_placed l part ends cursors) (loaded_is s e)
+
+pub unloaded_placed : (l : Layout) (part : ℕ) (ends cursors : List ℕ) (s : InputSection) → length ends ≡ length cursors → is_loaded s.slot ≡ false → all_placed l part ends cursors s ≡ Some cursors
+unloaded_placed l part ends cursors s same e = unfilled l part ends cursors s same (rw e refl)
+
+-- ---- one after another
+
+pub ordered_more : (l : Layout) (i : ℕ) (xs : List SortedSection) (d : SortedSection) → i < length xs → ordered l (drop i xs) ≡ sections_of (sorted_input l (get_or xs i d)) ++ ordered l (drop (i + 1) xs)
+ordered_more l i xs d lt = rw (drop_more xs i d lt) (map-append _ (sorted_input l (get_or xs i d)) (flat_map (sorted_input l) (drop (i + 1) xs)))
+
+pub through_append : {S X : Type 0} (step : S → X → Option S) (s : S) (xs ys : List X) → through step s (xs ++ ys) ≡ option_and_then (λ t. through step t ys) (through step s xs)
+through_append step s [] ys = refl
+through_append {S = S} step s (x ∷ xs) ys = next (λ t. through_append step t xs ys) (step s x)
+  where
+    next : ((t : S) → through step t (xs ++ ys) ≡ option_and_then (λ u. through step u ys) (through step t xs)) → (o : Option S) → option_and_then (λ t. through step t (xs ++ ys)) o ≡ option_and_then (λ t. through step t ys) (option_and_then (λ t. through step t xs) o)
+    next again None = refl
+    next again (Some t) = again t
+
+pub ordered_next : {S : Type 0} (step : S → InputSection → Option S) (s t : S) (l : Layout) (i : ℕ) (xs : List SortedSection) (d : SortedSection) → i < length xs → through step s (sections_of (sorted_input l (get_or xs i d))) ≡ Some t → through step s (ordered l (drop i xs)) ≡ through step t (ordered l (drop (i + 1) xs))
+ordered_next step s t l i xs d lt h = rw (ordered_more l i xs d lt, through_append step s (sections_of (sorted_input l (get_or xs i d))) (ordered l (drop (i + 1) xs)), h)
+
+pub ordered_out : {S : Type 0} (step : S → InputSection → Option S) (s : S) (l : Layout) (i : ℕ) (xs : List SortedSection) (d : SortedSection) → i < length xs → through step s (sections_of (sorted_input l (get_or xs i d))) ≡ None → through step s (ordered l (drop i xs)) ≡ None
+ordered_out step s l i xs d lt h = rw (ordered_more l i xs d lt, through_append step s (sections_of (sorted_input l (get_or xs i d))) (ordered l (drop (i + 1) xs)), h)
+
+-- ---- the sections of a file, and those of the order
+
+pub file_out : (l : Layout) (part : ℕ) (ends cursors : List ℕ) (f : File) → through (all_placed l part ends) cursors f.sections ≡ None → file_all_placed l part ends cursors f ≡ None
+file_out l part ends cursors f h = rw (through_append (all_placed l part ends) cursors f.sections (of_last_file f (ordered l l.sorted)), h)
+
+pub file_last : (l : Layout) (part : ℕ) (ends cursors next : List ℕ) (f : File) → is_epilogue f.role ≡ true → through (all_placed l part ends) cursors f.sections ≡ Some next → file_all_placed l part ends cursors f ≡ through (all_placed l part ends) next (ordered l l.sorted)
+file_last l part ends cursors next f e h = rw (through_append (all_placed l part ends) cursors f.sections (of_last_file f (ordered l l.sorted)), h, e)
+
+-- ---- the same of steps that may refuse
+
+pub loaded_step : (l : Layout) (group at : ℕ) (s : InputSection) → is_loaded s.slot ≡ true → section_step l group at (as_loaded s) ≡ section_step l group at s
+loaded_step l group at s e = ap (section_step l group at) (loaded_is s e)
+
+pub unloaded_step : (l : Layout) (group at : ℕ) (s : InputSection) → is_loaded s.slot ≡ false → section_step l group at s ≡ Ok at
+unloaded_step l group at s e = rw e
+
+pub then_ok : {S : Type 0} (r : Result S ℕ) → and_then r (λ t. Ok t) ≡ r
+then_ok (Ok s) = refl
+then_ok (Err e) = refl
+
+walk_append : {S X : Type 0} (step : S → X → Result S ℕ) (s : S) (xs ys : List X) → walk step s (xs ++ ys) ≡ and_then (walk step s xs) (λ t. walk step t ys)
+unfolding walk
+walk_append step s [] ys = refl
+walk_append {S = S} step s (x ∷ xs) ys = next (λ t. walk_append step t xs ys) (step s x)
+  where
+    next : ((t : S) → walk step t (xs ++ ys) ≡ and_then (walk step t xs) (λ u. walk step u ys)) → (r : Result S ℕ) → and_then r (λ t. walk step t (xs ++ ys)) ≡ and_then (and_then r (λ t. walk step t xs)) (λ t. walk step t ys)
+    next again (Err e) = refl
+    next again (Ok t) = again t
+
+walk_entry : {S : Type 0} (step : S → InputSection → Result S ℕ) (s : S) (l : Layout) (i : ℕ) (xs : List SortedSection) (d : SortedSection) → i < length xs → walk step s (ordered l (drop i xs)) ≡ and_then (walk step s (sections_of (sorted_input l (get_or xs i d)))) (λ t. walk step t (ordered l (drop (i + 1) xs)))
+walk_entry step s l i xs d lt = rw (ordered_more l i xs d lt) (walk_append step s (sections_of (sorted_input l (get_or xs i d))) (ordered l (drop (i + 1) xs)))
+
+pub walk_next : {S : Type 0} (step : S → InputSection → Result S ℕ) (s t : S) (l : Layout) (i : ℕ) (xs : List SortedSection) (d : SortedSection) → i < length xs → walk step s (sections_of (sorted_input l (get_or xs i d))) ≡ Ok t → walk step s (ordered l (drop i xs)) ≡ walk step t (ordered l (drop (i + 1) xs))
+walk_next step s t l i xs d lt h = walk_entry step s l i xs d lt ∙ ap (λ r. and_then r (λ u. walk step u (ordered l (drop (i + 1) xs)))) h
+
+pub walk_out : {S : Type 0} (step : S → InputSection → Result S ℕ) (s : S) (e : ℕ) (l : Layout) (i : ℕ) (xs : List SortedSection) (d : SortedSection) → i < length xs → walk step s (sections_of (sorted_input l (get_or xs i d))) ≡ Err e → walk step s (ordered l (drop i xs)) ≡ Err e
+walk_out step s e l i xs d lt h = walk_entry step s l i xs d lt ∙ ap (λ r. and_then r (λ u. walk step u (ordered l (drop (i + 1) xs)))) h
+
+pub walk_standing : (l : Layout) (group at : ℕ) (f : File) → walk (section_step l group) at (standing l f) ≡ and_then (walk (section_step l group) at f.sections) (λ t. walk (section_step l group) t (of_last_file f (ordered l l.sorted)))
+walk_standing l group at f = walk_append (section_step l group) at f.sections (of_last_file f (ordered l l.sorted))
+
+-- ---- the same of tests
+
+all_append : (t : InputSection → Bool) (ss rest : List InputSection) → list_all t (ss ++ rest) ≡ (list_all t ss && list_all t rest)
+all_append t [] rest = refl
+all_append t (s ∷ ss) rest = rw (all_append t ss rest) (both (t s) (list_all t ss) (list_all t rest))
+  where
+    both : (b c d : Bool) → (b && (c && d)) ≡ ((b && c) && d)
+    both true c d = refl
+    both false c d = refl
+
+ordered_all : (test : InputSection → Bool) (l : Layout) (xs : List SortedSection) → list_all (λ (x : SortedSection). list_all test (sections_of (sorted_input l x))) xs ≡ list_all test (ordered l xs)
+ordered_all test l [] = refl
+ordered_all test l (x ∷ xs) = rw (map-append (λ (y : Input). y.section) (sorted_input l x) (flat_map (sorted_input l) xs), all_append test (sections_of (sorted_input l x)) (ordered l xs), ordered_all test l xs)
+
+-- all that stand in the last file's ranges pass, and all that stand in another's
+pub standing_all : (test : InputSection → Bool) (l : Layout) (f : File) → is_epilogue f.role ≡ true → list_all test (standing l f) ≡ (list_all test f.sections && list_all (λ (x : SortedSection). list_all test (sections_of (sorted_input l x))) l.sorted)
+standing_all test l f e = rw (all_append test f.sections (of_last_file f (ordered l l.sorted)), ordered_all test l l.sorted, e)
+
+pub standing_rest : (test : InputSection → Bool) (l : Layout) (f : File) → is_epilogue f.role ≡ false → list_all test (standing l f) ≡ list_all test f.sections
+standing_rest test l f e = rw (all_append test f.sections (of_last_file f (ordered l l.sorted)), e) (whole (list_all test f.sections))
+  where
+    whole : (b : Bool) → (b && true) ≡ b
+    whole true = refl
+    whole false = refl

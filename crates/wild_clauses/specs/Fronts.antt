@@ -1,0 +1,76 @@
+-- The clauses on what stands at the front of its part in the first group, on reversed sections and on properties.
+--   reversed_fits m s        a section whose words are reversed has words alone, and its relocations are of whole words
+--   merged_fill l            the first merged strings that are not the room of their part in the first group
+--   identity_fills l         the linker's name of itself is, where it has bytes
+--   front_shared l           the first merged strings that stand in a part where others stand too
+--   properties_differ ..     the first property of a type that one before it has
+use Rattle.std.specs.Prelude.{ℕ, ◌+◌, ◌%◌, ◌==◌, Bool, true, not, ◌&&◌, ◌||◌, if◌then◌else◌, List, [], ◌∷◌, ◌++◌, length, Option, Some, None, slice_get}
+use Rattle.std.specs.List.{flat_map, list_all, list_any}
+use Rattle.wild_laid.specs.Turned.{word_size}
+use Rattle.wild_types.specs.declared.kind.Machine.{Machine}
+use Rattle.wild_types.specs.declared.input.InputRelocation.{InputRelocation}
+use Rattle.wild_types.specs.declared.input.InputSection.{InputSection}
+use Rattle.wild_types.specs.declared.file.Group.{Group}
+use Rattle.wild_types.specs.declared.layout.Merged.{Merged}
+use Rattle.wild_types.specs.declared.layout.Property.{Property}
+use Rattle.wild_types.specs.declared.layout.Layout.{Layout}
+use Rattle.wild_types.specs.FilePlaces.{given}
+use Rattle.wild_types.specs.Lists.{first_failing, unless}
+use Rattle.wild_types.specs.Rows.{field_bytes}
+
+-- ---- clause 20: reversed sections
+
+-- the field is a whole word
+abbrev pub is_whole_word : Machine → InputRelocation → Bool
+is_whole_word m r = r.offset % word_size == 0 && field_bytes m r.number == word_size
+
+-- a section whose words are reversed consists of words, and its relocations are of whole ones
+abbrev pub reversed_fits : Machine → InputSection → Bool
+reversed_fits m s = not s.reversed || (s.size % word_size == 0 && list_all (is_whole_word m) s.relocations)
+
+-- ---- clause 22: merged strings, the linker's name of itself, properties
+
+abbrev pub given_by : ℕ → Option Group → ℕ
+given_by part None = 0
+given_by part (Some g) = given part g
+
+-- so many bytes are the room of the part in the first group
+abbrev pub fills_front : Layout → ℕ → ℕ → Bool
+fills_front l part n = given_by part (slice_get l.groups 0) == n
+
+-- the bytes of merged strings
+abbrev pub merged_size : Merged → ℕ
+merged_size m = length (flat_map (λ bs. bs) m.strings)
+
+abbrev pub merged_fits : Layout → Merged → Bool
+merged_fits l m = fills_front l m.part (merged_size m)
+
+-- the first merged strings that are not the room of their part in the first group
+abbrev pub merged_fill : Layout → Option ℕ
+merged_fill l = first_failing (merged_fits l) 0 l.merged
+
+-- the linker's name of itself is that, where it has bytes
+abbrev pub identity_fills : Layout → Bool
+identity_fills l = length l.identity.bytes == 0 || fills_front l l.identity.part (length l.identity.bytes)
+
+-- merged strings with bytes stand in the part
+abbrev pub stands_in_front : ℕ → Merged → Bool
+stands_in_front part m = m.part == part && not (0 == merged_size m)
+
+-- the first merged strings with bytes, from number i on, whose part has others behind them in the list
+abbrev pub front_shared : ℕ → List Merged → Option ℕ
+front_shared i [] = None
+front_shared i (m ∷ ms) = if stands_in_front m.part m && list_any (stands_in_front m.part) ms then Some i else front_shared (i + 1) ms
+
+-- the linker's name of itself stands in a part of its own, where it has bytes
+abbrev pub identity_is_alone : Layout → Bool
+identity_is_alone l = length l.identity.bytes == 0 || not (list_any (stands_in_front l.identity.part) l.merged)
+
+-- the property is of that type
+abbrev pub has_type : ℕ → Property → Bool
+has_type ptype p = p.ptype == ptype
+
+-- the first property, from number i on, of a type that one before it has
+abbrev pub properties_differ : List Property → ℕ → List Property → Option ℕ
+properties_differ earlier i [] = None
+properties_differ earlier i (p ∷ ps) = if list_any (has_type p.ptype) earlier then Some i else properties_differ (earlier ++ p ∷ []) (i + 1) ps

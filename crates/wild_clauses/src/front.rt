@@ -1,0 +1,86 @@
+//! Clause 8: where merged strings and the linker's name of itself stand, nothing else of the first group does.
+ghost use Rattle.std.specs.Prelude.{◌≡◌, ◌==◌, slice_get};
+ghost use Rattle.std.specs.List.{list_any, list_all};
+ghost use Rattle.wild_types.specs.declared.layout.Merged.{Merged};
+ghost use Rattle.wild_laid.specs.Laid.{as_loaded, sorted_input};
+ghost use Rattle.wild_clauses.specs.Contents.{has_front, takes_bytes, leaves_front, file_leaves_front, group_leaves_front, front_is_free};
+ghost use Rattle.wild_clauses.specs.Ordered.{sections_of, ordered};
+
+use wild_laid::sorted_input;
+use wild_types::{File, InputSection, Layout, Merged, SortedSection, Test, all_pass};
+
+/// Whether some of the merged strings stand at the front of the part.
+fn stand_in(part: usize, merged: &[Merged]) -> bool
+    ensures { result ≡ list_any (λ (m : Merged). m.part == part) merged.now }
+{
+    for strings in merged {
+        if strings.part == part {
+            return true;
+        }
+    }
+    false
+}
+
+/// Whether merged strings stand at the front of the part, or the linker's name of itself does.
+fn has_front(layout: &Layout, part: usize) -> bool
+    ensures { result ≡ has_front layout.now part }
+{
+    let identity = &layout.identity;
+    stand_in(part, layout.merged.as_slice()) || identity.bytes.len() != 0 && identity.part == part
+}
+
+/// No bytes of a section stand in such a part.
+#[derive(Clone, Copy)]
+struct LeavesFront<'a> {
+    layout: &'a Layout,
+}
+
+impl Test<InputSection> for LeavesFront<'_> {
+    ghost test = { λ t. leaves_front t.layout.now };
+
+    fn passes(&self, section: &InputSection) -> bool {
+        let takes_bytes = section.bytes.len() != 0 || section.owns_bytes(self.layout);
+        !takes_bytes || !has_front(self.layout, section.part)
+    }
+}
+
+/// The same of a section that is written as a loaded one.
+fn loaded_leaves_front(layout: &Layout, section: &InputSection) -> bool
+    ensures { result ≡ leaves_front layout.now (as_loaded section.now) }
+{
+    let takes_bytes = section.bytes.len() != 0 || section.has_bytes(layout);
+    !takes_bytes || !has_front(layout, section.part)
+}
+
+impl Test<SortedSection> for LeavesFront<'_> {
+    ghost test = { λ t x. list_all (leaves_front t.layout.now) (sections_of (sorted_input t.layout.now x)) };
+
+    fn passes(&self, entry: &SortedSection) -> bool {
+        match sorted_input(self.layout, *entry) {
+            Some(found) => loaded_leaves_front(self.layout, found.section),
+            None => true,
+        }
+    }
+}
+
+impl Test<File> for LeavesFront<'_> {
+    ghost test = { λ t. file_leaves_front t.layout.now };
+
+    #[tactic(auto, using(crate::proofs::OrderedLemmas::standing_all, crate::proofs::OrderedLemmas::standing_rest))]
+    fn passes(&self, file: &File) -> bool {
+        let layout = self.layout;
+        all_pass(self, file.sections.as_slice())
+            && (!file.role.is_epilogue() || all_pass(self, layout.sorted.as_slice()))
+            && (layout.thunks_of(file).is_empty() || !has_front(layout, layout.primary_part))
+    }
+}
+
+/// Whether nothing else of the first group stands where merged strings and the linker's name of itself do.
+pub(crate) fn front_is_free(layout: &Layout) -> bool
+    ensures { result ≡ front_is_free layout.now }
+{
+    match layout.groups.as_slice().get(0) {
+        Some(group) => all_pass(&LeavesFront { layout }, group.files.as_slice()),
+        None => true,
+    }
+}

@@ -1,0 +1,167 @@
+//! Clauses 20 and 22: reversed sections, what stands at the front of its part in the first group, properties.
+ghost use Rattle.std.specs.Prelude.{◌≡◌, ◌==◌, not, ◌&&◌, [], drop, slice_get};
+ghost use Rattle.std.specs.List.{list_any};
+ghost use Rattle.wild_clauses.specs.Fronts.{is_whole_word, reversed_fits, given_by, fills_front, merged_size, merged_fits, identity_fills, stands_in_front, front_shared, identity_is_alone, has_type, properties_differ};
+ghost use Rattle.wild_clauses.specs.ClauseTests.{check_reversed, check_fronts};
+
+use crate::each_section::failing_group;
+use crate::verdict::{fails, unless};
+use wild_types::{
+    Clause, InputRelocation, InputSection, Layout, Machine, Merged, Property, Test, all_pass,
+    field_bytes, first_failing,
+};
+
+/// The bytes of a word of a reversed section.
+const WORD: u64 = 8;
+
+/// A section whose words are reversed has words alone, and relocations of whole words.
+#[derive(Clone, Copy)]
+struct ReversedFits {
+    machine: Machine,
+}
+
+impl Test<InputRelocation> for ReversedFits {
+    ghost test = { λ t. is_whole_word t.machine };
+
+    fn passes(&self, relocation: &InputRelocation) -> bool {
+        relocation.offset % WORD == 0 && field_bytes(self.machine, relocation.number) as u64 == WORD
+    }
+}
+
+impl Test<InputSection> for ReversedFits {
+    ghost test = { λ t. reversed_fits t.machine };
+
+    fn passes(&self, section: &InputSection) -> bool {
+        !section.reversed
+            || section.size % WORD == 0 && all_pass(self, section.relocations.as_slice())
+    }
+}
+
+#[tactic(auto, unfolding(crate::specs::ClauseTests::check_reversed))]
+pub(crate) fn check_reversed(layout: &Layout) -> Result<(), Clause>
+    ensures { result ≡ check_reversed layout.now }
+{
+    let machine = layout.machine;
+    let groups = layout.groups.as_slice();
+    fails(20, failing_group(&ReversedFits { machine }, groups))
+}
+
+/// The room of a part in the first group.
+fn room_in_front(layout: &Layout, part: usize) -> u64
+    ensures { result ≡ given_by part (slice_get layout.now.groups 0) }
+{
+    match layout.groups.as_slice().get(0) {
+        Some(group) => group.given(part),
+        None => 0,
+    }
+}
+
+/// Whether merged strings have that many bytes.
+pub(crate) fn has_size(merged: &Merged, size: u64) -> bool
+    ensures { result ≡ (size == merged_size merged.now) }
+{
+    let mut left = size;
+    for string in merged.strings.as_slice() {
+        let length = string.len() as u64;
+        if left < length {
+            return false;
+        }
+        left -= length;
+    }
+    left == 0
+}
+
+/// Merged strings are the room of their part in the first group.
+#[derive(Clone, Copy)]
+struct MergedFits<'a> {
+    layout: &'a Layout,
+}
+
+impl Test<Merged> for MergedFits<'_> {
+    ghost test = { λ t. merged_fits t.layout.now };
+
+    fn passes(&self, merged: &Merged) -> bool {
+        has_size(merged, room_in_front(self.layout, merged.part))
+    }
+}
+
+/// Whether the linker's name of itself is the room of its part there, where it has bytes.
+fn identity_fills(layout: &Layout) -> bool
+    ensures { result ≡ identity_fills layout.now }
+{
+    let length = layout.identity.bytes.len();
+    length == 0 || room_in_front(layout, layout.identity.part) == length as u64
+}
+
+/// Whether merged strings with bytes stand in the part.
+fn stands_in_front(part: usize, merged: &Merged) -> bool
+    ensures { result ≡ stands_in_front part merged.now }
+{
+    merged.part == part && !has_size(merged, 0)
+}
+
+fn any_stands(part: usize, merged: &[Merged]) -> bool
+    ensures { result ≡ list_any (stands_in_front part) merged.now }
+{
+    for other in merged {
+        if stands_in_front(part, other) {
+            return true;
+        }
+    }
+    false
+}
+
+/// The first merged strings with bytes whose part has others behind them in the list.
+fn front_shared(merged: &[Merged]) -> Option<usize>
+    ensures { result ≡ front_shared 0 merged.now }
+{
+    for (i, strings) in merged.iter().enumerate() {
+        if stands_in_front(strings.part, strings) && any_stands(strings.part, &merged[i + 1..]) {
+            return Some(i);
+        }
+    }
+    None
+}
+
+/// Whether the linker's name of itself stands in a part of its own, where it has bytes.
+fn identity_is_alone(layout: &Layout) -> bool
+    ensures { result ≡ identity_is_alone layout.now }
+{
+    let identity = &layout.identity;
+    identity.bytes.len() == 0 || !any_stands(identity.part, layout.merged.as_slice())
+}
+
+fn any_has_type(ptype: u32, properties: &[Property]) -> bool
+    ensures { result ≡ list_any (has_type ptype) properties.now }
+{
+    for property in properties {
+        if property.ptype == ptype {
+            return true;
+        }
+    }
+    false
+}
+
+/// The first property of a type that one before it has.
+fn property_again(properties: &[Property]) -> Option<usize>
+    ensures { result ≡ properties_differ [] 0 properties.now }
+{
+    for (i, property) in properties.iter().enumerate() {
+        if any_has_type(property.ptype, &properties[..i]) {
+            return Some(i);
+        }
+    }
+    None
+}
+
+#[tactic(auto, unfolding(crate::specs::ClauseTests::check_fronts))]
+pub(crate) fn check_fronts(layout: &Layout) -> Result<(), Clause>
+    ensures { result ≡ check_fronts layout.now }
+{
+    let merged = layout.merged.as_slice();
+    fails(22, first_failing(&MergedFits { layout }, merged))?;
+    fails(22, unless(identity_fills(layout)))?;
+    fails(22, property_again(layout.properties.as_slice()))?;
+    fails(22, front_shared(merged))?;
+    fails(22, unless(identity_is_alone(layout)))
+}

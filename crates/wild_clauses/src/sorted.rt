@@ -1,0 +1,91 @@
+//! Clause 8: each section in a given order is named once in it, and the order names no others.
+ghost use Rattle.std.specs.Prelude.{◌≡◌};
+ghost use Rattle.wild_clauses.specs.Contents.{times_named, is_named_once, sections_named_once, files_named_once, sorted_named_once, names_sorted};
+
+use wild_laid::sorted_input;
+use wild_types::{File, InputSection, Layout, Slot, SortedSection, Test};
+
+/// How many entries name that section.
+fn times_named(order: &[SortedSection], named: SortedSection) -> usize
+    ensures { result ≡ times_named order.now named.group named.file named.section }
+{
+    let mut times = 0;
+    for entry in order {
+        if entry.group == named.group
+            && entry.file == named.file
+            && entry.section == named.section
+        {
+            times += 1;
+        }
+    }
+    times
+}
+
+/// Whether a section is named once, where it is a sorted one.
+fn is_named_once(layout: &Layout, named: SortedSection, section: &InputSection) -> bool
+    ensures { result ≡ is_named_once layout.now named.group named.file named.section section.now }
+{
+    match section.slot {
+        Slot::Sorted => times_named(layout.sorted.as_slice(), named) == 1,
+        _ => true,
+    }
+}
+
+/// The same of the sections of the file of those numbers.
+fn sections_named_once(
+    layout: &Layout,
+    group: usize,
+    file: usize,
+    sections: &[InputSection],
+) -> bool
+    ensures { result ≡ sections_named_once layout.now group file 0 sections.now }
+{
+    for (k, found) in sections.iter().enumerate() {
+        let named = SortedSection {
+            group,
+            file,
+            section: k,
+        };
+        if !is_named_once(layout, named, found) {
+            return false;
+        }
+    }
+    true
+}
+
+fn files_named_once(layout: &Layout, group: usize, files: &[File]) -> bool
+    ensures { result ≡ files_named_once layout.now group 0 files.now }
+{
+    for (k, file) in files.iter().enumerate() {
+        if !sections_named_once(layout, group, k, file.sections.as_slice()) {
+            return false;
+        }
+    }
+    true
+}
+
+/// The first group with a sorted section that is not named once.
+pub(crate) fn sorted_named_once(layout: &Layout) -> Option<usize>
+    ensures { result ≡ sorted_named_once layout.now 0 layout.now.groups }
+{
+    for (i, group) in layout.groups.as_slice().iter().enumerate() {
+        if !files_named_once(layout, i, group.files.as_slice()) {
+            return Some(i);
+        }
+    }
+    None
+}
+
+/// An entry of the order names a sorted section.
+#[derive(Clone, Copy)]
+pub(crate) struct NamesSorted<'a> {
+    pub layout: &'a Layout,
+}
+
+impl Test<SortedSection> for NamesSorted<'_> {
+    ghost test = { λ t. names_sorted t.layout.now };
+
+    fn passes(&self, entry: &SortedSection) -> bool {
+        sorted_input(self.layout, *entry).is_some()
+    }
+}

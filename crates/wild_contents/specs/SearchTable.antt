@@ -1,0 +1,33 @@
+-- The search table of frames, as it was made.
+--   FaultIsFirst f fs      the fault is the first of these; none where there are none
+--   IsSearchTable l t      it is the layout's, or tells the first fault
+--   found_fdes l fs at f   what was found as an FDE with its address, where it is one that is kept
+use Rattle.std.specs.Prelude.{◌≡◌, ℕ, true, List, [], ◌∷◌, map, Option, None, Some}
+use Rattle.wild_types.specs.declared.fault.Fault.{Fault}
+use Rattle.wild_types.specs.declared.file.File.{File}
+use Rattle.wild_types.specs.declared.layout.Layout.{Layout}
+use Rattle.wild_types.specs.FileRoles.{is_prelude}
+use Rattle.wild_frames.specs.declared.entry.Found.{Found}
+use Rattle.wild_frames.specs.declared.table.Fde.{Fde}
+use Rattle.wild_frames.specs.Frames.{Frames, fde_of}
+use Rattle.wild_layout.specs.SearchTable.{fde_at, search_table, search_table_faults}
+use Rattle.wild_contents.specs.declared.search_table.SearchTable.{SearchTable}
+
+-- the fault is the first of these
+abbrev pub FaultIsFirst : Option Fault → List Fault → Type 0
+FaultIsFirst None fs = fs ≡ []
+FaultIsFirst (Some f) [] = ⊥
+FaultIsFirst (Some f) (g ∷ gs) = f ≡ g
+
+-- the layout's, or its first fault
+pub record IsSearchTable (l : Layout) (t : SearchTable) : Type 0 where
+  pub fault : FaultIsFirst t.fault (search_table_faults l)
+  pub bytes : t.fault ≡ None → t.bytes ≡ search_table l
+
+-- it is that, where the file is the first one
+abbrev pub IsTableFor : Layout → SearchTable → File → Type 0
+IsTableFor l t f = is_prelude f.role ≡ true → IsSearchTable l t
+
+-- what was found, where it is an FDE that is kept
+abbrev pub found_fdes : Layout → Frames → ℕ → Found → List Fde
+found_fdes l fs at f = map (fde_at l fs at) (fde_of f)

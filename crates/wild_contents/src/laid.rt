@@ -1,0 +1,217 @@
+//! What the sections of files give, as they stand in the output, to the parts of relocations that a loader applies.
+ghost use Rattle.std.specs.Prelude.{◌≡◌, ◌++◌, true, IfOk, OnOk};
+ghost use Rattle.std.specs.List.{flat_map};
+ghost use Rattle.wild_needs.specs.Needs.{frame_room};
+ghost use Rattle.wild_laid.specs.FrameInputs.{kept_size};
+ghost use Rattle.wild_laid.specs.Laid.{laid_section, laid_sections, laid_file, laid_files, file_frames, behind, sorted_sections};
+ghost use Rattle.wild_layout.specs.Content.{own_bytes, file_content};
+ghost use Rattle.wild_contents.specs.Laid.{is_applied, section_given, sorted_given, copies_given, behind_given};
+
+use crate::entries::add_section_entries;
+use crate::left::{add_copies, add_section_left};
+use crate::part_bytes::PartBytes;
+use crate::slots::add_slots;
+use crate::tables::add_whole;
+use crate::words::add_section_words;
+use std::alloc::{AllocError, Global};
+use wild_laid::{frames_at, lay, lay_sorted, sorted_input};
+use wild_relax::Arch;
+use wild_sections::Resolved;
+use wild_types::{File, Group, InputSection, Role, SortedSection};
+
+/// The address behind a section as it stands, where the frames of a file stand at an address: only frames take room there.
+pub fn behind_frames(at: u64, section: &InputSection) -> u64
+    ensures { result ≡ behind at (frame_room section.now) }
+{
+    if section.slot.is_frame() {
+        at.wrapping_add(section.size)
+    } else {
+        at
+    }
+}
+
+/// Adds what a section, as it stands, gives to the part of that role.
+fn add_stood<A: Arch>(
+    alloc: Global,
+    resolved: &Resolved<A>,
+    role: Role,
+    section: &InputSection,
+    bytes: &mut PartBytes,
+) -> Result<(), AllocError>
+    ensures { OnOk result (bytes.new ≡ bytes.old ++ section_given role resolved.now.layout.now section.now) }
+{
+    match role {
+        Role::RelaDynRelative => add_section_entries(resolved, section, bytes),
+        Role::RelaDynGeneral => add_section_left(resolved.layout, section, bytes),
+        Role::RelrDyn => add_section_words(alloc, resolved.layout, section, bytes),
+        _ => Ok(()),
+    }
+}
+
+/// Adds what a section of a file gives to the part of that role, where the file's next frames stand at an address; tells where
+/// those behind it stand.
+#[tactic(auto, using(crate::proofs::LaidLemmas::room_of_laid))]
+fn add_section<A: Arch>(
+    alloc: Global,
+    resolved: &Resolved<A>,
+    role: Role,
+    file: &File,
+    at: u64,
+    section: &InputSection,
+    bytes: &mut PartBytes,
+) -> Result<u64, AllocError>
+    ensures bytes { OnOk result (bytes.new ≡ bytes.old ++ section_given role resolved.now.layout.now (laid_section resolved.now.layout.now file.now at section.now)) }
+    ensures next { IfOk result (λ n. n ≡ behind at (kept_size resolved.now.layout.now file.now section.now)) }
+{
+    let laid = lay(alloc, resolved.layout, file, at, section)?;
+    let stood = laid.section();
+    add_stood(alloc, resolved, role, stood, bytes)?;
+    Ok(behind_frames(at, stood))
+}
+
+/// Adds what the sections of a file give, where its frames stand from an address on; tells where those behind stand.
+#[tactic(auto, using(crate::proofs::LaidLemmas::laid_more, crate::proofs::LaidLemmas::laid_done, crate::proofs::LaidLemmas::reach_more, crate::proofs::LaidLemmas::reach_done, crate::proofs::LaidLemmas::behind_small))]
+fn add_sections<A: Arch>(
+    alloc: Global,
+    resolved: &Resolved<A>,
+    role: Role,
+    file: &File,
+    at: u64,
+    bytes: &mut PartBytes,
+) -> Result<u64, AllocError>
+    ensures bytes { OnOk result (bytes.new ≡ bytes.old ++ flat_map (section_given role resolved.now.layout.now) (laid_sections resolved.now.layout.now file.now at file.now.sections)) }
+    ensures next { IfOk result (λ n. n ≡ behind at (file_frames resolved.now.layout.now file.now)) }
+{
+    let mut next = at;
+    for section in file.sections.as_slice() {
+        next = add_section(alloc, resolved, role, file, next, section, bytes)?;
+    }
+    Ok(next)
+}
+
+/// Adds what a section gives that is named among the sorted ones.
+fn add_sorted_section<A: Arch>(
+    alloc: Global,
+    resolved: &Resolved<A>,
+    role: Role,
+    entry: SortedSection,
+    bytes: &mut PartBytes,
+) -> Result<(), AllocError>
+    ensures { OnOk result (bytes.new ≡ bytes.old ++ sorted_given role resolved.now.layout.now entry) }
+{
+    match sorted_input(resolved.layout, entry) {
+        Some(input) => {
+            let laid = lay_sorted(alloc, input.section)?;
+            add_stood(alloc, resolved, role, laid.section(), bytes)
+        }
+        None => Ok(()),
+    }
+}
+
+/// Adds what the sorted sections give.
+#[tactic(auto, using(crate::proofs::LaidLemmas::sorted_joined))]
+pub(crate) fn add_sorted<A: Arch>(
+    alloc: Global,
+    resolved: &Resolved<A>,
+    role: Role,
+    bytes: &mut PartBytes,
+) -> Result<(), AllocError>
+    ensures { OnOk result (bytes.new ≡ bytes.old ++ flat_map (section_given role resolved.now.layout.now) (sorted_sections resolved.now.layout.now)) }
+{
+    for entry in resolved.layout.sorted.as_slice() {
+        add_sorted_section(alloc, resolved, role, *entry, bytes)?;
+    }
+    Ok(())
+}
+
+/// Adds what stands ahead of the sections' of a file.
+fn add_ahead<A: Arch>(
+    resolved: &Resolved<A>,
+    role: Role,
+    file: &File,
+    bytes: &mut PartBytes,
+) -> Result<(), AllocError>
+    ensures { OnOk result (bytes.new ≡ bytes.old ++ copies_given role resolved.now.layout.now file.now) }
+{
+    match role {
+        Role::RelaDynGeneral => add_copies(resolved, file, bytes),
+        _ => Ok(()),
+    }
+}
+
+/// Adds what stands behind them.
+fn add_behind<A: Arch>(
+    alloc: Global,
+    resolved: &Resolved<A>,
+    role: Role,
+    file: &File,
+    bytes: &mut PartBytes,
+) -> Result<(), AllocError>
+    ensures { OnOk result (bytes.new ≡ bytes.old ++ behind_given role resolved.now.layout.now file.now) }
+{
+    match role {
+        Role::RelaDynRelative | Role::RelaDynGeneral if file.role.is_epilogue() => {
+            add_sorted(alloc, resolved, role, bytes)
+        }
+        _ => Ok(()),
+    }
+}
+
+/// Adds what relocations of a file give, whose frames stand from an address on; tells where those behind stand.
+#[tactic(auto, using(crate::proofs::LaidLemmas::own_joined))]
+fn add_own_laid<A: Arch>(
+    alloc: Global,
+    resolved: &Resolved<A>,
+    role: Role,
+    file: &File,
+    at: u64,
+    bytes: &mut PartBytes,
+) -> Result<u64, AllocError>
+    requires { is_applied role ≡ true }
+    ensures bytes { OnOk result (bytes.new ≡ bytes.old ++ own_bytes resolved.now.layout.now role (laid_file resolved.now.layout.now at file.now)) }
+    ensures next { IfOk result (λ n. n ≡ behind at (file_frames resolved.now.layout.now file.now)) }
+{
+    add_ahead(resolved, role, file, bytes)?;
+    let next = add_sections(alloc, resolved, role, file, at, bytes)?;
+    add_behind(alloc, resolved, role, file, bytes)?;
+    Ok(next)
+}
+
+/// Adds what a file gives to such a part, whose frames stand from an address on; tells where those behind stand.
+#[tactic(auto, using(crate::proofs::LaidLemmas::file_given))]
+fn add_file_laid<A: Arch>(
+    alloc: Global,
+    resolved: &Resolved<A>,
+    role: Role,
+    file: &File,
+    at: u64,
+    bytes: &mut PartBytes,
+) -> Result<u64, AllocError>
+    requires { is_applied role ≡ true }
+    ensures bytes { OnOk result (bytes.new ≡ bytes.old ++ file_content resolved.now.layout.now role (laid_file resolved.now.layout.now at file.now)) }
+    ensures next { IfOk result (λ n. n ≡ behind at (file_frames resolved.now.layout.now file.now)) }
+{
+    add_whole(alloc, resolved, role, file, bytes)?;
+    let next = add_own_laid(alloc, resolved, role, file, at, bytes)?;
+    add_slots(resolved.layout, role, file, bytes)?;
+    Ok(next)
+}
+
+/// Adds what the files of a group give to the part of that role, which has what relocations give that a loader applies.
+#[tactic(auto, using(crate::proofs::LaidLemmas::files_more, crate::proofs::LaidLemmas::files_done), unfolding(wild_laid::specs::Laid::laid_files))]
+pub(crate) fn add_laid<A: Arch>(
+    alloc: Global,
+    resolved: &Resolved<A>,
+    role: Role,
+    group: &Group,
+    bytes: &mut PartBytes,
+) -> Result<(), AllocError>
+    requires { is_applied role ≡ true }
+    ensures { OnOk result (bytes.new ≡ bytes.old ++ flat_map (file_content resolved.now.layout.now role) (laid_files resolved.now.layout.now group.now)) }
+{
+    let mut next = frames_at(resolved.layout, group);
+    for file in group.files.as_slice() {
+        next = add_file_laid(alloc, resolved, role, file, next, bytes)?;
+    }
+    Ok(())
+}

@@ -1,0 +1,239 @@
+//! The search table of the frames of all files (LSB, "The .eh_frame_hdr section").
+ghost use Rattle.std.specs.Prelude.{◌≡◌, ◌<◌, ◌+◌, ◌^◌, ◌++◌, true, None, [], length, IfOk, OnOk};
+ghost use Rattle.std.specs.List.{flat_map};
+ghost use Rattle.wild_types.specs.declared.part.Role.TheVariants as role;
+ghost use Rattle.wild_types.specs.Parts.{part_with};
+ghost use Rattle.wild_frames.specs.Frames.{start, rest_of};
+ghost use Rattle.wild_frames.specs.Walks.{IsAtStart, AreOwn};
+ghost use Rattle.wild_laid.specs.FrameInputs.{frames_of, kept_size};
+ghost use Rattle.wild_laid.specs.Laid.{file_frames, behind, part_address};
+ghost use Rattle.wild_layout.specs.SearchTable.{code_at, section_fdes, sections_fdes, group_fdes, layout_fdes, address_of_role};
+ghost use Rattle.wild_contents.specs.SearchTable.{found_fdes, IsSearchTable};
+
+use crate::part_bytes::PartBytes;
+use std::alloc::{AllocError, Global};
+use std::marker::Sync;
+use std::thread::Threads;
+use wild_frames::{Fde, Found, FrameSource, TableError, Walk, goes_on, write_search_table};
+use wild_laid::{FileFrames, frames_at, kept_size};
+use wild_records::{EhFrameHdr, EhFrameHdrEntry};
+use wild_relax::Arch;
+use wild_sections::{Resolved, or_zero, raw_address};
+use wild_types::{Fault, File, Group, InputRelocation, InputSection, Part, Role, part_with};
+
+/// The search table of frames, or what is too far from it.
+#[derive(Drop)]
+pub struct SearchTable {
+    pub bytes: PartBytes,
+    pub fault: Option<Fault>,
+}
+
+impl SearchTable {
+    /// No table.
+    pub fn none(alloc: Global) -> Self
+        ensures bytes { result.bytes ≡ [] }
+        ensures fault { result.fault ≡ None }
+    {
+        SearchTable {
+            bytes: PartBytes::empty(alloc),
+            fault: None,
+        }
+    }
+}
+
+/// Where the code begins that an FDE is of, by the FDE's relocations: S + A of the first.
+fn code_at<A: Arch>(resolved: &Resolved<A>, own: &[InputRelocation]) -> u64
+    ensures { result ≡ code_at resolved.now.layout.now own.now }
+{
+    match own.first() {
+        Some(first) => {
+            or_zero(raw_address(resolved, first.symbol)).wrapping_add_signed(first.addend)
+        }
+        None => 0,
+    }
+}
+
+/// Adds what was found in frames that stand from an address on, with its relocations, where it is an FDE that is kept.
+fn add_found<A: Arch>(
+    resolved: &Resolved<A>,
+    frames: &FileFrames<'_>,
+    at: u64,
+    found: &Found,
+    own: &[InputRelocation],
+    fdes: &mut Vec<Fde>,
+) -> Result<(), AllocError>
+    requires own { AreOwn (frames_of frames.now.layout.now frames.now.file.now frames.now.section.now) own.now found.now }
+    ensures { OnOk result (fdes.new.items ≡ fdes.old.items ++ found_fdes resolved.now.layout.now (frames_of frames.now.layout.now frames.now.file.now frames.now.section.now) at found.now) }
+{
+    match found {
+        Found::Kept { entry } if entry.id != 0 => {
+            fdes.push(Fde {
+                code: code_at(resolved, own),
+                address: at.wrapping_add(entry.to),
+            })?;
+            Ok(())
+        }
+        _ => Ok(()),
+    }
+}
+
+/// Adds the FDEs from the start of a walk on.
+#[tactic(auto, using(crate::proofs::SearchTableLemmas::found_more, crate::proofs::SearchTableLemmas::found_last))]
+fn add_from<A: Arch>(
+    resolved: &Resolved<A>,
+    frames: &FileFrames<'_>,
+    at: u64,
+    first: Walk,
+    fdes: &mut Vec<Fde>,
+) -> Result<(), AllocError>
+    requires first { IsAtStart (frames_of frames.now.layout.now frames.now.file.now frames.now.section.now) first }
+    ensures { OnOk result (fdes.new.items ≡ fdes.old.items ++ flat_map (found_fdes resolved.now.layout.now (frames_of frames.now.layout.now frames.now.file.now frames.now.section.now) at) (rest_of (frames_of frames.now.layout.now frames.now.file.now frames.now.section.now) start)) }
+{
+    let mut walk = first;
+    loop {
+        let from = walk.relocation;
+        let found = walk.step(frames)?;
+        let own = &frames.relocations()[from..walk.relocation];
+        add_found(resolved, frames, at, &found, own, fdes)?;
+        if !goes_on(&found) {
+            return Ok(());
+        }
+    }
+}
+
+/// Adds the FDEs of a section of frames that stand from an address on.
+#[tactic(auto, using(crate::proofs::SearchTableLemmas::frames_added, crate::proofs::SearchTableLemmas::frames_bad, crate::proofs::SearchTableLemmas::frames_none))]
+fn add_frames<A: Arch>(
+    alloc: Global,
+    resolved: &Resolved<A>,
+    file: &File,
+    at: u64,
+    section: &InputSection,
+    fdes: &mut Vec<Fde>,
+) -> Result<(), AllocError>
+    ensures { OnOk result (fdes.new.items ≡ fdes.old.items ++ section_fdes resolved.now.layout.now file.now at section.now) }
+{
+    if !section.slot.is_frame() {
+        return Ok(());
+    }
+    let frames = FileFrames {
+        layout: resolved.layout,
+        file,
+        section,
+    };
+    match Walk::start(alloc, &frames) {
+        Ok(walk) => add_from(resolved, &frames, at, walk, fdes),
+        Err(_) => Ok(()),
+    }
+}
+
+/// Adds the FDEs of a file whose frames stand from an address on; tells where those behind stand.
+#[tactic(auto, using(crate::proofs::SearchTableLemmas::section_more, crate::proofs::SearchTableLemmas::section_done, crate::proofs::LaidLemmas::reach_more, crate::proofs::LaidLemmas::reach_done))]
+fn add_file<A: Arch>(
+    alloc: Global,
+    resolved: &Resolved<A>,
+    file: &File,
+    at: u64,
+    fdes: &mut Vec<Fde>,
+) -> Result<u64, AllocError>
+    ensures fdes { OnOk result (fdes.new.items ≡ fdes.old.items ++ sections_fdes resolved.now.layout.now file.now at file.now.sections) }
+    ensures next { IfOk result (λ n. n ≡ behind at (file_frames resolved.now.layout.now file.now)) }
+{
+    let mut next = at;
+    for section in file.sections.as_slice() {
+        add_frames(alloc, resolved, file, next, section, fdes)?;
+        next = next.wrapping_add(kept_size(resolved.layout, file, section));
+    }
+    Ok(next)
+}
+
+/// Adds the FDEs of a group.
+#[tactic(auto, using(crate::proofs::SearchTableLemmas::file_more, crate::proofs::SearchTableLemmas::file_done))]
+fn add_group<A: Arch>(
+    alloc: Global,
+    resolved: &Resolved<A>,
+    group: &Group,
+    fdes: &mut Vec<Fde>,
+) -> Result<(), AllocError>
+    ensures { OnOk result (fdes.new.items ≡ fdes.old.items ++ group_fdes resolved.now.layout.now group.now) }
+{
+    let mut next = frames_at(resolved.layout, group);
+    for file in group.files.as_slice() {
+        next = add_file(alloc, resolved, file, next, fdes)?;
+    }
+    Ok(())
+}
+
+/// The FDEs that are kept, in the order of the files.
+#[tactic(auto, unfolding(wild_layout::specs::SearchTable::layout_fdes))]
+fn fdes_of<A: Arch>(alloc: Global, resolved: &Resolved<A>) -> Result<Vec<Fde>, AllocError>
+    ensures { IfOk result (λ v. v.items ≡ layout_fdes resolved.now.layout.now) }
+{
+    let mut fdes = Vec::new(alloc);
+    for group in resolved.layout.groups.as_slice() {
+        add_group(alloc, resolved, group, &mut fdes)?;
+    }
+    Ok(fdes)
+}
+
+/// The address of the part of a role.
+fn address_of(role: Role, parts: &[Part]) -> u64
+    ensures { result ≡ part_address (part_with role parts.now) }
+{
+    match part_with(role, parts) {
+        Some(part) => part.address,
+        None => 0,
+    }
+}
+
+/// The table of these FDEs, of which there are fewer than it can count.
+fn table_of<A: Arch>(
+    rt: &(impl Threads + Sync),
+    alloc: Global,
+    resolved: &Resolved<A>,
+    fdes: &[Fde],
+) -> Result<SearchTable, AllocError>
+    requires asked { resolved.now.layout.now.options.eh_frame_hdr ≡ true }
+    requires fdes { fdes.now ≡ layout_fdes resolved.now.layout.now }
+    requires few { length fdes.now < 2 ^ 32 }
+    requires place { address_of_role resolved.now.layout.now role.EhFrameHdr + 4 < 2 ^ 64 }
+    ensures { IfOk result (IsSearchTable resolved.now.layout.now) }
+{
+    let parts = resolved.layout.parts.as_slice();
+    let header = address_of(Role::EhFrameHdr, parts);
+    let eh_frame = address_of(Role::EhFrame, parts);
+    let size = EhFrameHdr::SIZE + EhFrameHdrEntry::SIZE * fdes.len();
+    let mut room = vec![in alloc; 0u8; size]?;
+    match write_search_table(rt, alloc, header, eh_frame, fdes, &mut room) {
+        Ok(()) => Ok(SearchTable {
+            bytes: PartBytes::from_vec(room),
+            fault: None,
+        }),
+        Err(TableError::FrameOffsetOverflow { value }) => Ok(SearchTable {
+            bytes: PartBytes::empty(alloc),
+            fault: Some(Fault::FrameOffsetOverflow { value }),
+        }),
+        Err(TableError::OutOfMemory) => Err(AllocError),
+    }
+}
+
+/// The search table of all frames, where the option asks for one, or what is too far from it. One pass over all frames, and a sort
+/// of their FDEs, on as many threads as there are processors. More FDEs than the table can count, 2^32, are more than there is memory
+/// for.
+pub fn make_search_table<A: Arch>(
+    rt: &(impl Threads + Sync),
+    alloc: Global,
+    resolved: &Resolved<A>,
+) -> Result<SearchTable, AllocError>
+    requires place { address_of_role resolved.now.layout.now role.EhFrameHdr + 4 < 2 ^ 64 }
+    ensures { IfOk result (IsSearchTable resolved.now.layout.now) }
+{
+    if !resolved.layout.options.eh_frame_hdr {
+        return Ok(SearchTable::none(alloc));
+    }
+    let fdes = fdes_of(alloc, resolved)?;
+    if fdes.len() >= 1 << 32 {
+        return Err(AllocError);
+    }
+    table_of(rt, alloc, resolved, fdes.as_slice())
+}

@@ -1,0 +1,191 @@
+-- Input sections as they stand: what is known of the plan's holds of them.
+use Rattle.std.proofs.Common.{◌≡◌, ℕ, ◌+◌, ◌%◌, ◌^◌, ◌≤◌, inl, inr, ◌==◌, nat_le, nat_lt, Bool, true, false, not, ◌&&◌, ◌||◌, if◌then◌else◌, List, [], ◌∷◌, length, map, get_or, All, refl, sym, ap, arith, subst}
+use Rattle.std.specs.List.{filter, list_all}
+use Rattle.std.proofs.lemmas.Bool.{cases_Bool, and_parts, eqb-true}
+use Rattle.std.proofs.lemmas.List.Elements.{All-nil, All-cons, All-head, All-tail, All-append, All-map}
+use Rattle.wild_words.proofs.Basics.{implied}
+use Rattle.wild_words.proofs.ListLemmas.{All-from_list_all, All-flat_map, All-append-left, All-append-right}
+use Rattle.wild_types.specs.declared.input.Slot.{Slot}
+use Rattle.wild_types.specs.declared.input.Slot.TheVariants as slot
+use Rattle.wild_types.specs.declared.input.InputRelocation.{InputRelocation}
+use Rattle.wild_types.specs.declared.input.InputSection.{InputSection}
+use Rattle.wild_types.specs.declared.file.File.{File}
+use Rattle.wild_types.specs.declared.file.Group.{Group}
+use Rattle.wild_types.specs.declared.layout.Layout.{Layout}
+use Rattle.wild_types.specs.FileRoles.{is_epilogue}
+use Rattle.wild_types.specs.Lists.{total}
+use Rattle.wild_types.specs.Lookups.{is_loaded, is_frame, is_discarded, is_filled, takes_file_bytes, section_of}
+use Rattle.wild_types.specs.Rows.{field_bytes}
+use Rattle.wild_frames.specs.Frames.{kept_in}
+use Rattle.wild_laid.specs.Turned.{turned_bytes, turned_offset, turned, as_turned}
+use Rattle.wild_laid.specs.FrameInputs.{frames_of, kept_size}
+use Rattle.wild_laid.specs.Laid.{Input, entry_relocations, moved_by, laid_relocations, framed, laid_by, laid_section, laid_sections, laid_file, file_frames, frames_at, laid_files, sorted_inputs, sorted_sections, of_last_file, processed}
+use Rattle.wild_laid.proofs.LaidFiles.{All-low_sections, All-low_files}
+use Rattle.wild_laid.proofs.TurnedBytes.{length-turned_bytes}
+use Rattle.wild_clauses.specs.Contents.{may_lack_bytes}
+use Rattle.wild_clauses.specs.Fronts.{is_whole_word}
+use Rattle.wild_clauses.specs.Thunks.{standing}
+use Rattle.wild_layout.specs.Geometry.{NamesSymbol, EachSection}
+use Rattle.wild_layout.specs.SectionPlaces.{FieldLies, IsWord}
+use Rattle.wild_geometry.proofs.StandingLemmas.{EachStanding, sorted_loaded}
+use Rattle.wild_geometry.proofs.SectionLemmas.{Holds, Known, length_of_data, not_discarded}
+
+-- ---- words
+
+-- what the clause says of a section whose words are reversed
+pub record Words (l : Layout) (s : InputSection) : Type 0 where
+  pub whole : s.size % 8 ≡ 0
+  pub fields : All (IsWord l.machine s.size) s.relocations
+
+is_word : (l : Layout) (n : ℕ) (r : InputRelocation) → is_whole_word l.machine r ≡ true → FieldLies l.machine n r → IsWord l.machine n r
+is_word l n r h lies =
+    let a = and_parts (r.offset % 8 == 0) (field_bytes l.machine r.number == 8) h in
+    let wide = eqb-true _ _ a.1 in
+    record { begins = eqb-true _ _ a.0; wide = wide; within = elim lies [ inl none ↦ absurd (omega arith) | inr some ↦ omega arith ] }
+
+pub Words-from_known : (l : Layout) (s : InputSection) → Known l s → s.reversed ≡ true → Words l s
+Words-from_known l s h e =
+    let both = and_parts (s.size % 8 == 0) (list_all (is_whole_word l.machine) s.relocations) (implied s.reversed _ h.words e) in
+    record {
+      whole = eqb-true _ _ both.0;
+      fields = λ i r m. is_word l s.size (get_or s.relocations i r) (All-from_list_all (is_whole_word l.machine) s.relocations both.1 i r m) (h.holds.fields i r m);
+    }
+
+-- the bytes of a loaded section are as many as its size, or there are none
+bytes_even : (l : Layout) (s : InputSection) → Known l s → is_loaded s.slot ≡ true → s.reversed ≡ true → length s.bytes % 8 ≡ 0
+bytes_even l s h loaded e =
+    let whole = (Words-from_known l s h e).whole in
+    by s.nobits refl
+  where
+    none : (n : ℕ) → (n == 0) ≡ true → n % 8 ≡ 0
+    none n t = let z = eqb-true n 0 t in omega arith
+
+    by : (b : Bool) → s.nobits ≡ b → length s.bytes % 8 ≡ 0
+    by true t =
+        let d = not_discarded s.slot loaded in
+        let fits = h.holds.length in
+        none (length s.bytes) (rw (d, t) at fits)
+    by false t = let long = length_of_data l s h.holds loaded t in let whole = (Words-from_known l s h e).whole in omega arith
+
+-- ---- a section whose words are reversed
+
+pub length-turned : (l : Layout) (s : InputSection) → Known l s → is_loaded s.slot ≡ true → s.reversed ≡ true → length (turned_bytes s.bytes) ≡ length s.bytes
+length-turned l s h loaded e = length-turned_bytes s.bytes (bytes_even l s h loaded e)
+
+turned_fields : (l : Layout) (s : InputSection) → Known l s → s.reversed ≡ true → All (FieldLies l.machine s.size) (map (turned_offset s.size) s.relocations)
+turned_fields l s h e =
+    All-map (FieldLies l.machine s.size) (turned_offset s.size) s.relocations (λ i r m.
+    let word = (Words-from_known l s h e).fields i r m in
+    let wide = word.wide in
+    let within = word.within in
+    inr (omega arith))
+
+turned_holds : (l : Layout) (s : InputSection) → Known l s → is_loaded s.slot ≡ true → s.reversed ≡ true → Holds l (turned s)
+turned_holds l s h loaded e =
+    let long = length-turned l s h loaded e in
+    record {
+      small = h.holds.small;
+      part = h.holds.part;
+      length = subst (λ (n : ℕ). (is_discarded s.slot || (if s.nobits then n == 0 else (n == s.size || (may_lack_bytes s.slot && n == 0)))) ≡ true) (sym long) h.holds.length;
+      raw = h.holds.raw;
+      allocation = h.holds.allocation;
+      room = subst (λ (n : ℕ). (n == 0 || takes_file_bytes l (section_of l s.part)) ≡ true) (sym long) h.holds.room;
+      fields = turned_fields l s h e;
+      symbols = All-map (NamesSymbol l) (turned_offset s.size) s.relocations h.holds.symbols;
+    }
+
+-- as it stands it fills what it filled
+turned_filled : (l : Layout) (s : InputSection) → Known l s → is_loaded s.slot ≡ true → s.reversed ≡ true → is_filled l (turned s) ≡ is_filled l s
+turned_filled l s h loaded e =
+    let long = length-turned l s h loaded e in
+    ap (λ (n : ℕ). is_loaded s.slot && (if s.nobits then not (s.size == 0) && takes_file_bytes l (section_of l s.part) else not (n == 0))) long
+
+-- a loaded section as it stands: at its place, with its room
+pub record Turns (l : Layout) (s t : InputSection) : Type 0 where
+  pub holds : Holds l t
+  pub filled : is_filled l t ≡ is_filled l s
+  pub part : t.part ≡ s.part
+  pub address : t.address ≡ s.address
+  pub size : t.size ≡ s.size
+
+pub turns : (l : Layout) (s : InputSection) → Known l s → is_loaded s.slot ≡ true → Turns l s (as_turned s)
+unfolding as_turned
+turns l s h loaded = by s.reversed refl
+  where
+    by : (b : Bool) → s.reversed ≡ b → Turns l s (if b then turned s else s)
+    by true e = record { holds = turned_holds l s h loaded e; filled = turned_filled l s h loaded e; part = refl; address = refl; size = refl }
+    by false e = record { holds = h.holds; filled = refl; part = refl; address = refl; size = refl }
+
+-- ---- frames
+
+All-filter : {X : Type 0} (P : X → Type 0) (t : X → Bool) (xs : List X) → All P xs → All P (filter t xs)
+All-filter P t [] h = All-nil P
+All-filter P t (x ∷ xs) h =
+    let rest = All-filter P t xs (All-tail P x xs h) in
+    elim (cases_Bool (t x)) [
+      | inl e ↦ rw e (All-cons P x (filter t xs) (All-head P x xs h) rest)
+      | inr e ↦ rw e rest
+    ]
+
+own_named : (l : Layout) (s : InputSection) → Holds l s → All (NamesSymbol l) (if s.nobits then [] else s.relocations)
+own_named l s h = by s.nobits
+  where
+    by : (b : Bool) → All (NamesSymbol l) (if b then [] else s.relocations)
+    by true = All-nil (NamesSymbol l)
+    by false = h.symbols
+
+pub framed_named : (l : Layout) (f : File) (s : InputSection) → Holds l s → All (NamesSymbol l) (laid_relocations (frames_of l f s))
+unfolding laid_relocations
+framed_named l f s h =
+    let fs = frames_of l f s in
+    All-flat_map (NamesSymbol l) (λ k. map (moved_by k) (entry_relocations fs k)) (kept_in fs) (λ i k m.
+    let x = get_or (kept_in fs) i k in
+    All-map (NamesSymbol l) (moved_by x) (entry_relocations fs x) (All-filter (NamesSymbol l) (λ r. nat_le x.from r.offset && nat_lt r.offset (x.from + x.size)) fs.relocations (own_named l s h)))
+
+-- ---- all that stand, as they do
+
+-- what of a section that stands is known, of it as it stands
+pub record Stays (l : Layout) (R P : InputSection → Type 0) : Type 0 where
+  pub loaded : (s : InputSection) → is_loaded s.slot ≡ true → R s → P (as_turned s)
+  pub frame : (f : File) (at : ℕ) (s : InputSection) → is_frame s.slot ≡ true → at + kept_size l f s ≤ 2 ^ 62 → R s → P (framed l f at s)
+  pub other : (s : InputSection) → is_loaded s.slot ≡ false → is_frame s.slot ≡ false → R s → P s
+
+laid_stays : (l : Layout) (R P : InputSection → Type 0) → Stays l R P → (f : File) (at : ℕ) (s : InputSection) → at + kept_size l f s ≤ 2 ^ 62 → R s → P (laid_section l f at s)
+unfolding laid_section
+laid_stays l R P stays f at s low r = by s.slot refl
+  where
+    by : (k : Slot) → s.slot ≡ k → P (laid_by k l f at s)
+    by slot.Loaded e = stays.loaded s (ap is_loaded e) r
+    by slot.Frame e = stays.frame f at s (ap is_frame e) low r
+    by other e = stays.other s (ap is_loaded e) (ap is_frame e) r
+
+-- and of sorted sections
+All-of_map : {X Y : Type 0} (P : Y → Type 0) (f : X → Y) (xs : List X) → All P (map f xs) → All (λ x. P (f x)) xs
+All-of_map P f [] h = λ i x m. absurd (omega arith)
+All-of_map {X} {Y} P f (x ∷ xs) h = All-cons (λ (y : X). P (f y)) x xs (All-head P (f x) (map f xs) h) (All-of_map P f xs (All-tail P (f x) (map f xs) h))
+
+sorted_stays : (l : Layout) (R P : InputSection → Type 0) → Stays l R P → (last : Bool) → All R (if last then map (λ (x : Input). x.section) (sorted_inputs l) else []) → All P (if last then sorted_sections l else [])
+sorted_stays l R P stays false h = All-nil P
+sorted_stays l R P stays true h =
+    let each = All-of_map R (λ (x : Input). x.section) (sorted_inputs l) h in
+    All-map P (λ (x : Input). as_turned x.section) (sorted_inputs l) (λ i x m. stays.loaded (get_or (sorted_inputs l) i x).section (sorted_loaded l i x m) (each i x m))
+
+file_stays : (l : Layout) (R P : InputSection → Type 0) → Stays l R P → (f : File) (at : ℕ) → at + file_frames l f ≤ 2 ^ 62 → All R (standing l f) → All P (processed l (laid_file l at f))
+file_stays l R P stays f at low h =
+    let sorted = of_last_file f (map (λ (x : Input). x.section) (sorted_inputs l)) in
+    let own = All-append-left R f.sections sorted h in
+    All-append P (laid_sections l f at f.sections) (of_last_file f (sorted_sections l))
+    (All-low_sections l f P (2 ^ 62) at f.sections (omega arith) low (λ i s m a ends. laid_stays l R P stays f a (get_or f.sections i s) ends (own i s m)))
+    (sorted_stays l R P stays (is_epilogue f.role) (All-append-right R f.sections sorted h))
+
+-- the frames of a group end below 2^62
+abbrev pub FramesEnd : Layout → Group → Type 0
+FramesEnd l g = frames_at l g + total (file_frames l) g.files ≤ 2 ^ 62
+
+group_stays : (l : Layout) (R P : InputSection → Type 0) → Stays l R P → (g : Group) → FramesEnd l g → All (λ (f : File). All R (standing l f)) g.files → All (λ (f : File). All P (processed l f)) (laid_files l g)
+unfolding laid_files
+group_stays l R P stays g low h =
+    All-low_files l (λ (f : File). All P (processed l f)) (2 ^ 62) (frames_at l g) g.files (omega arith) low (λ i f m a ends. file_stays l R P stays (get_or g.files i f) a ends (h i f m))
+
+pub EachSection-from_standing : (l : Layout) (R P : InputSection → Type 0) → Stays l R P → All (FramesEnd l) l.groups → EachStanding l R → EachSection l P
+EachSection-from_standing l R P stays low h = λ i g m. group_stays l R P stays (get_or l.groups i g) (low i g m) (h i g m)

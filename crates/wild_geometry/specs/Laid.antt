@@ -1,0 +1,56 @@
+-- The sections of a layout as they stand in the output: their words reversed where that is asked, frames as their kept entries, and the
+-- sorted ones behind those of the last file.
+--   IsOf l f owner s   the file has the section, whose branches go by the block of thunks of its owner
+--   IsLaid l s         the section is one of those of the layout
+--   IsKeptLaid l s     it has data, and is loaded
+--   KeptIsLaid         an item that the layout keeps is that of such a section
+--   frame_home l s     where such a section stands in the file: frames in their part
+use Rattle.std.specs.Prelude.{◌≡◌, ℕ, true, false, if◌then◌else◌, Contains, slice_get}
+use Rattle.wild_types.specs.declared.part.Part.{Part}
+use Rattle.wild_types.specs.declared.part.Role.TheVariants as role
+use Rattle.wild_types.specs.declared.input.InputSection.{InputSection}
+use Rattle.wild_types.specs.declared.file.File.{File}
+use Rattle.wild_types.specs.declared.file.Group.{Group}
+use Rattle.wild_types.specs.declared.layout.Layout.{Layout}
+use Rattle.wild_types.specs.Item.{Item, item_of}
+use Rattle.wild_types.specs.FileRoles.{is_epilogue}
+use Rattle.wild_types.specs.Lookups.{is_read, is_frame, allocated}
+use Rattle.wild_types.specs.Parts.{part_with}
+use Rattle.wild_laid.specs.Turned.{as_turned}
+use Rattle.wild_laid.specs.Laid.{Input, laid_files, sorted_inputs}
+use Rattle.wild_layout.specs.Geometry.{IsLaidOut}
+use Rattle.wild_layout.specs.Image.{offset_in}
+use Rattle.wild_meaning.specs.Item.{IsKept}
+
+-- the section is the file's own, or a sorted one of the owner, which stands with the last file
+pub data IsOf (l : Layout) (f owner : File) (s : InputSection) : Type 0 where
+  Own : owner ≡ f → Contains f.sections s → IsOf l f owner s
+  Ordered : is_epilogue f.role ≡ true → (x : Input) → Contains (sorted_inputs l) x → owner ≡ x.file → s ≡ as_turned x.section → IsOf l f owner s
+
+-- the section is one of a file of the layout
+pub record IsLaid (l : Layout) (s : InputSection) : Type 0 where
+  pub group : Group
+  pub grouped : Contains l.groups group
+  pub file : File
+  pub filed : Contains (laid_files l group) file
+  pub owner : File
+  pub listed : IsOf l file owner s
+
+-- it has data, and is loaded: frames are with their part
+pub record IsKeptLaid (l : Layout) (s : InputSection) : Type 0 where
+  pub input : IsLaid l s
+  pub reads : is_read s ≡ true
+  pub room : is_frame s.slot ≡ false → allocated s.flags ≡ true
+
+-- an item that the layout keeps is that of such a section
+pub record IsLaidItem (l : Layout) (item : Item) : Type 0 where
+  pub section : InputSection
+  pub kept : IsKeptLaid l section
+  pub is : item ≡ item_of l kept.input.owner section
+
+abbrev pub KeptIsLaid : Type 0
+KeptIsLaid = (l : Layout) (item : Item) → IsLaidOut l → IsKept l item → IsLaidItem l item
+
+-- where a section stands in the file: frames in their part
+abbrev pub file_place : Layout → InputSection → ℕ
+file_place l s = offset_in (if is_frame s.slot then part_with role.EhFrame l.parts else slice_get l.parts s.part) s.address

@@ -1,0 +1,294 @@
+-- Laws of sections that stand in the output, beside those of the plan.
+use Rattle.std.proofs.Common.{◌≡◌, ℕ, zero, suc, ◌^◌, ◌<◌, ◌≤◌, ◌+◌, ◌==◌, inl, inr, Bool, true, false, not, ◌&&◌, ◌||◌, if◌then◌else◌, List, [], ◌∷◌, ◌++◌, map, length, All, refl, sym, ap, ◌∙◌, subst, get_or, arith}
+use Rattle.std.specs.Prelude.{Contains, Option, Some, None, option_to_list, slice_get}
+use Rattle.std.specs.List.{flat_map}
+use Rattle.std.proofs.lemmas.Bool.{cases_Bool, cases_lt}
+use Rattle.std.proofs.lemmas.List.{append-nil}
+use Rattle.std.proofs.lemmas.List.Elements.{All-nil, All-cons, All-head, All-tail}
+use Rattle.wild_words.specs.Overlay.{Piece}
+use Rattle.wild_words.proofs.ListLemmas.{flat_map-flat_map, flat_map-same, All-append-left, All-append-right, All-from_flat_map}
+use Rattle.wild_types.specs.declared.input.Slot.{Slot}
+use Rattle.wild_types.specs.declared.input.Slot.TheVariants as slot
+use Rattle.wild_types.specs.declared.input.InputSection.{InputSection}
+use Rattle.wild_types.specs.declared.file.File.{File}
+use Rattle.wild_types.specs.declared.file.Group.{Group}
+use Rattle.wild_types.specs.declared.layout.SortedSection.{SortedSection}
+use Rattle.wild_types.specs.declared.layout.Layout.{Layout}
+use Rattle.wild_types.specs.FileRoles.{is_prelude, is_epilogue}
+use Rattle.wild_types.specs.Lookups.{is_loaded, is_filled, is_read, section_of, takes_file_bytes}
+use Rattle.wild_laid.specs.Turned.{turned_bytes, as_turned}
+use Rattle.wild_laid.specs.FrameInputs.{frames_of, kept_size}
+use Rattle.wild_laid.specs.Laid.{Input, as_loaded, framed, sorted_by, sorted_in_file, sorted_in_group, files_at, laid_by, laid_section, laid_sections, laid_file, laid_from, laid_files, behind, file_frames, sorted_input, sorted_inputs, sorted_sections, of_last_file, processed}
+use Rattle.wild_layout.specs.Sites.{section_bytes}
+use Rattle.wild_layout.specs.Image.{merged_bytes, section_piece, section_pieces, sorted_piece, file_pieces, owned_pieces, of_first_file, once_pieces, thunk_pieces}
+use Rattle.wild_layout.specs.SectionPlaces.{SectionLies}
+use Rattle.wild_layout.specs.Geometry.{IsLaidOut}
+use Rattle.wild_image.specs.Pieces.{standing, has_room, section_owned, input_owned, sorted_owned, owned_in, input_in, sorted_in}
+use Rattle.wild_image.specs.Owners.{loaded_piece, loaded_pieces, sorted_pieces, all_sorted_pieces, ends_pieces, standing_pieces}
+use Rattle.wild_image.specs.Append.{MergedLies, LoadedLies, InputLies, SortedLies, FileLies, EachFileLies, IsTurned, InputStands, SortedStands, FileStands, StandFrom, GroupStands, EachStands}
+
+-- ---- one section
+
+-- a section that is loaded or sorted, as it stands
+pub standing_is : (s : InputSection) → as_turned (as_loaded s) ≡ standing s
+unfolding as_turned
+standing_is s = elim (cases_Bool s.reversed) [ inl t ↦ rw t refl | inr f ↦ rw f refl ]
+
+and_true : (b : Bool) → b ≡ (b && true)
+and_true true = refl
+and_true false = refl
+
+-- it owns bytes where it has a size, and file bytes are taken for it
+pub filled_standing : (l : Layout) (s : InputSection) → SectionLies l (standing s) → has_room l s ≡ is_filled l (standing s)
+filled_standing l s lies =
+    elim (cases_Bool s.nobits) [
+      | inl t ↦ rw t refl
+      | inr f ↦
+          (let e : length (if s.reversed then turned_bytes s.bytes else s.bytes) ≡ s.size = lies.bytes (rw f refl) in
+          rw (f, e) (sym (and_true (not (s.size == 0)))))
+    ]
+
+loaded_by : (s : InputSection) → s.slot ≡ slot.Loaded → as_loaded s ≡ s
+loaded_by s e = ap (λ (k : Slot). record s { slot = k }) (sym e)
+
+-- a loaded section of a file
+pub laid_loaded : (l : Layout) (f : File) (at : ℕ) (s : InputSection) → s.slot ≡ slot.Loaded → laid_section l f at s ≡ standing s
+unfolding laid_section
+laid_loaded l f at s e = ap (λ (k : Slot). laid_by k l f at s) e ∙ ap as_turned (sym (loaded_by s e)) ∙ standing_is s
+
+abbrev pub OfLoaded : {X : Type 0} → (InputSection → List X) → InputSection → List X
+OfLoaded G s = if is_loaded s.slot then G (standing s) else []
+
+-- what is nothing of a section that is not loaded
+abbrev pub IsOfLoaded : {X : Type 0} → (InputSection → List X) → Type 0
+IsOfLoaded G = (s : InputSection) → is_loaded s.slot ≡ false → G s ≡ []
+
+slot_by : {X : Type 0} (G : InputSection → List X) (l : Layout) (f : File) (at : ℕ) (s : InputSection) (k : Slot) → s.slot ≡ k → IsOfLoaded G → G (laid_by k l f at s) ≡ (if is_loaded k then G (standing s) else [])
+slot_by G l f at s slot.Loaded e none = ap G (ap as_turned (sym (loaded_by s e)) ∙ standing_is s)
+slot_by G l f at s slot.Frame e none = none (framed l f at s) refl
+slot_by G l f at s slot.Discard e none = none s (rw e refl)
+slot_by G l f at s slot.Sorted e none = none s (rw e refl)
+slot_by G l f at s slot.Debug e none = none s (rw e refl)
+slot_by G l f at s slot.Merge e none = none s (rw e refl)
+slot_by G l f at s slot.Rela e none = none s (rw e refl)
+slot_by G l f at s slot.Group e none = none s (rw e refl)
+
+of_section : {X : Type 0} (G : InputSection → List X) (l : Layout) (f : File) (at : ℕ) (s : InputSection) → IsOfLoaded G → G (laid_section l f at s) ≡ OfLoaded G s
+unfolding laid_section
+of_section G l f at s none = slot_by G l f at s s.slot refl none
+
+pub of_sections : {X : Type 0} (G : InputSection → List X) (l : Layout) (f : File) (at : ℕ) (ss : List InputSection) → IsOfLoaded G → flat_map G (laid_sections l f at ss) ≡ flat_map (OfLoaded G) ss
+of_sections G l f at [] none = refl
+of_sections {X} G l f at (s ∷ ss) none =
+    ap (λ (xs : List X). xs ++ flat_map G (laid_sections l f (behind at (kept_size l f s)) ss)) (of_section G l f at s none)
+    ∙ ap (λ (xs : List X). OfLoaded G s ++ xs) (of_sections G l f (behind at (kept_size l f s)) ss none)
+
+-- ---- pieces
+
+not_filled : (l : Layout) (s : InputSection) → is_loaded s.slot ≡ false → is_filled l s ≡ false
+not_filled l s e = rw e refl
+
+pub no_owned : (l : Layout) (f : File) → IsOfLoaded (section_owned l f)
+no_owned l f s e = let n = not_filled l s e in rw n refl
+
+no_piece : (l : Layout) (f : File) → IsOfLoaded (section_piece l f)
+no_piece l f s e = let n = not_filled l s e in rw n refl
+
+pieces_of_file : (l : Layout) (at : ℕ) (f : File) → section_pieces l (laid_file l at f) ≡ loaded_pieces l f
+unfolding section_bytes
+pieces_of_file l at f = of_sections (section_piece l f) l f at f.sections (no_piece l f)
+
+abbrev last_pieces : Layout → File → List Piece → List Piece
+last_pieces l f ps = of_last_file f ps ++ (of_first_file f (once_pieces l) ++ thunk_pieces l f)
+
+ends_joined : (a b c : List Piece) → a ++ (b ++ c) ≡ (a ++ b) ++ c
+ends_joined [] b c = refl
+ends_joined (x ∷ a) b c = ap (λ (ps : List Piece). x ∷ ps) (ends_joined a b c)
+
+pieces_of : (l : Layout) (at : ℕ) (f : File) → file_pieces l (laid_file l at f) ≡ standing_pieces l f
+pieces_of l at f =
+    ap (λ (ps : List Piece). ps ++ last_pieces l f (flat_map (sorted_piece l) (sorted_inputs l))) (pieces_of_file l at f)
+    ∙ ap (λ (ps : List Piece). loaded_pieces l f ++ last_pieces l f ps) (flat_map-flat_map (sorted_piece l) (sorted_input l) l.sorted)
+    ∙ ap (λ (ps : List Piece). loaded_pieces l f ++ ps) (ends_joined (of_last_file f (all_sorted_pieces l)) (of_first_file f (once_pieces l)) (thunk_pieces l f))
+
+pieces_from : (l : Layout) (at : ℕ) (fs : List File) → flat_map (file_pieces l) (laid_from l at fs) ≡ flat_map (standing_pieces l) fs
+pieces_from l at [] = refl
+pieces_from l at (f ∷ fs) =
+    ap (λ (ps : List Piece). ps ++ flat_map (file_pieces l) (laid_from l (behind at (file_frames l f)) fs)) (pieces_of l at f)
+    ∙ ap (λ (ps : List Piece). standing_pieces l f ++ ps) (pieces_from l (behind at (file_frames l f)) fs)
+
+-- the pieces of a group's files, as the plan has them
+pub pieces_of_group : (l : Layout) (g : Group) → owned_pieces l g ≡ flat_map (standing_pieces l) g.files
+unfolding laid_files
+pieces_of_group l g = pieces_from l _ g.files
+
+-- ---- where they lie
+
+loaded_lies : (l : Layout) (f : File) (at : ℕ) (s : InputSection) → SectionLies l (laid_section l f at s) → LoadedLies l s
+loaded_lies l f at s h = λ e. subst (SectionLies l) (laid_loaded l f at s (is_loaded_slot s.slot e)) h
+  where
+    is_loaded_slot : (k : Slot) → is_loaded k ≡ true → k ≡ slot.Loaded
+    is_loaded_slot slot.Loaded e = refl
+    is_loaded_slot slot.Discard e = cc
+    is_loaded_slot slot.Sorted e = cc
+    is_loaded_slot slot.Debug e = cc
+    is_loaded_slot slot.Frame e = cc
+    is_loaded_slot slot.Merge e = cc
+    is_loaded_slot slot.Rela e = cc
+    is_loaded_slot slot.Group e = cc
+
+sections_lie : (l : Layout) (f : File) (at : ℕ) (ss : List InputSection) → All (SectionLies l) (laid_sections l f at ss) → All (LoadedLies l) ss
+sections_lie l f at [] h = All-nil (LoadedLies l)
+sections_lie l f at (s ∷ ss) h =
+    All-cons (LoadedLies l) s ss
+    (loaded_lies l f at s (All-head (SectionLies l) (laid_section l f at s) (laid_sections l f (behind at (kept_size l f s)) ss) h))
+    (sections_lie l f (behind at (kept_size l f s)) ss (All-tail (SectionLies l) (laid_section l f at s) (laid_sections l f (behind at (kept_size l f s)) ss) h))
+
+from_map : {X Y : Type 0} (P : Y → Type 0) (h : X → Y) (xs : List X) → All P (map h xs) → All (λ x. P (h x)) xs
+from_map P h [] a = All-nil (λ x. P (h x))
+from_map P h (x ∷ xs) a = All-cons (λ y. P (h y)) x xs (All-head P (h x) (map h xs) a) (from_map P h xs (All-tail P (h x) (map h xs) a))
+
+sorted_lie : (l : Layout) → All (SectionLies l) (sorted_sections l) → All (SortedLies l) l.sorted
+sorted_lie l h = All-from_flat_map (InputLies l) (sorted_input l) l.sorted (from_map (SectionLies l) (λ (x : Input). as_turned x.section) (sorted_inputs l) h)
+
+of_last : (l : Layout) (b : Bool) → All (SectionLies l) (if b then sorted_sections l else []) → b ≡ true → All (SortedLies l) l.sorted
+of_last l true h e = sorted_lie l h
+of_last l false h e = cc
+
+abbrev Processed : Layout → File → Type 0
+Processed l f = All (SectionLies l) (processed l f)
+
+-- the sorted sections of the last file
+pub last_lie : (l : Layout) (at : ℕ) (f : File) → Processed l (laid_file l at f) → is_epilogue f.role ≡ true → All (SortedLies l) l.sorted
+last_lie l at f h = of_last l (is_epilogue f.role) (All-append-right (SectionLies l) (laid_sections l f at f.sections) (of_last_file f (sorted_sections l)) h)
+
+pub own_lie : (l : Layout) (at : ℕ) (f : File) → Processed l (laid_file l at f) → All (SectionLies l) (laid_sections l f at f.sections)
+own_lie l at f h = All-append-left (SectionLies l) (laid_sections l f at f.sections) (of_last_file f (sorted_sections l)) h
+
+-- what is known of each file of the plan from what is known of it as it stands
+abbrev Told : Layout → (File → Type 0) → Type 0
+Told l P = (at : ℕ) (f : File) → Processed l (laid_file l at f) → P f
+
+told_from : (l : Layout) (P : File → Type 0) (at : ℕ) (fs : List File) → Told l P → All (Processed l) (laid_from l at fs) → All P fs
+told_from l P at [] t h = All-nil P
+told_from l P at (f ∷ fs) t h =
+    All-cons P f fs (t at f (All-head (Processed l) (laid_file l at f) (laid_from l (behind at (file_frames l f)) fs) h))
+    (told_from l P (behind at (file_frames l f)) fs t (All-tail (Processed l) (laid_file l at f) (laid_from l (behind at (file_frames l f)) fs) h))
+
+told_of_group : (l : Layout) (P : File → Type 0) (g : Group) → Told l P → All (Processed l) (laid_files l g) → All P g.files
+unfolding laid_files
+told_of_group l P g t h = told_from l P _ g.files t h
+
+pub record SectionsLie (l : Layout) (f : File) : Type 0 where
+  pub sections : All (LoadedLies l) f.sections
+  pub sorted : is_epilogue f.role ≡ true → All (SortedLies l) l.sorted
+
+-- in a layout that is laid out all that each file has lies in its parts
+pub each_file_lies : (l : Layout) → IsLaidOut l → EachFileLies l
+each_file_lies l laid = λ i g m.
+    let told = told_of_group l (SectionsLie l) (get_or l.groups i g) (λ at f h. record { sections = sections_lie l f at f.sections (own_lie l at f h); sorted = last_lie l at f h }) (laid.inputs i g m) in
+    (λ k f n. record {
+      sections = (told k f n).sections;
+      sorted = (told k f n).sorted;
+      merged = λ e. all_merged l laid;
+      identity = λ e. laid.identity;
+      thunks = laid.thunks i g m k f n;
+    })
+  where
+    all_merged : (l : Layout) → IsLaidOut l → All (MergedLies l) l.merged
+    all_merged l laid = λ k m low. (
+        let lies = laid.merged k m low in
+        record {
+          front = λ some. lies;
+          small = elim (cases_lt 0 (length (merged_bytes (get_or l.merged k m)))) [
+            | inl some ↦ (let e = lies.ends (omega (arith, some)) in let f = laid.size in omega (arith, e, f))
+            | inr none ↦ omega (arith, none)
+          ];
+        })
+
+-- ---- a sorted section
+
+-- the bytes of a section that was found among the sorted ones
+pub one_owned : (l : Layout) (x : SortedSection) (f : File) (s : InputSection) → sorted_input l x ≡ record { file = f; section = as_loaded s } ∷ [] → sorted_owned l x ≡ section_owned l f (standing s)
+one_owned l x f s e = ap (flat_map (input_owned l)) e ∙ append-nil (section_owned l f (as_turned (as_loaded s))) ∙ ap (section_owned l f) (standing_is s)
+
+pub one_piece : (l : Layout) (x : SortedSection) (f : File) (s : InputSection) → sorted_input l x ≡ record { file = f; section = as_loaded s } ∷ [] → sorted_pieces l x ≡ section_piece l f (standing s)
+one_piece l x f s e = ap (flat_map (sorted_piece l)) e ∙ append-nil (section_piece l f (as_turned (as_loaded s))) ∙ ap (section_piece l f) (standing_is s)
+
+pub one_in : (l : Layout) (k : ℕ) (x : SortedSection) (f : File) (s : InputSection) → sorted_input l x ≡ record { file = f; section = as_loaded s } ∷ [] → sorted_in l k x ≡ owned_in l f k (standing s)
+one_in l k x f s e = ap (flat_map (input_in l k)) e ∙ append-nil (owned_in l f k (as_turned (as_loaded s))) ∙ ap (owned_in l f k) (standing_is s)
+
+pub one_turned : (l : Layout) (x : SortedSection) (f : File) (s : InputSection) → sorted_input l x ≡ record { file = f; section = as_loaded s } ∷ [] → SortedLies l x → SectionLies l (as_turned (as_loaded s))
+one_turned l x f s e h =
+    let i : Input = record { file = f; section = as_loaded s } in
+    All-head (InputLies l) i [] (subst (All (InputLies l)) e h)
+
+pub one_lies : (l : Layout) (x : SortedSection) (f : File) (s : InputSection) → sorted_input l x ≡ record { file = f; section = as_loaded s } ∷ [] → SortedLies l x → SectionLies l (standing s)
+one_lies l x f s e h = subst (SectionLies l) (standing_is s) (one_turned l x f s e h)
+
+-- ---- as the sections stand
+
+at_section : (l : Layout) (f : File) (o : Option InputSection) → All (IsTurned l) (option_to_list o) → All (λ (x : Input). IsTurned l x.section) (sorted_in_file f o)
+at_section l f None h = All-nil (λ (x : Input). IsTurned l x.section)
+at_section l f (Some s) h = by s.slot refl
+  where
+    own : IsTurned l s
+    own = All-head (IsTurned l) s [] h
+
+    loaded : s.slot ≡ slot.Sorted → IsTurned l (as_loaded s)
+    loaded e = λ counted reversed. (
+        let words = own (rw e counted) reversed in
+        record { whole = words.whole; bytes = words.bytes; fields = words.fields })
+
+    by : (k : Slot) → s.slot ≡ k → All (λ (x : Input). IsTurned l x.section) (sorted_by f k s)
+    by slot.Sorted e = All-cons (λ (x : Input). IsTurned l x.section) (record { file = f; section = as_loaded s }) [] (loaded e) (All-nil (λ (x : Input). IsTurned l x.section))
+    by slot.Discard e = All-nil (λ (x : Input). IsTurned l x.section)
+    by slot.Loaded e = All-nil (λ (x : Input). IsTurned l x.section)
+    by slot.Debug e = All-nil (λ (x : Input). IsTurned l x.section)
+    by slot.Frame e = All-nil (λ (x : Input). IsTurned l x.section)
+    by slot.Merge e = All-nil (λ (x : Input). IsTurned l x.section)
+    by slot.Rela e = All-nil (λ (x : Input). IsTurned l x.section)
+    by slot.Group e = All-nil (λ (x : Input). IsTurned l x.section)
+
+found_in : {X : Type 0} (P : X → Type 0) (xs : List X) (i : ℕ) → All P xs → All P (option_to_list (slice_get xs i))
+found_in P [] i h = All-nil P
+found_in P (x ∷ xs) zero h = All-cons P x [] (All-head P x xs h) (All-nil P)
+found_in P (x ∷ xs) (suc i) h = found_in P xs i (All-tail P x xs h)
+
+at_file : (l : Layout) (o : Option File) (k : ℕ) → All (λ (f : File). All (IsTurned l) f.sections) (option_to_list o) → All (λ (x : Input). IsTurned l x.section) (sorted_in_group o k)
+at_file l None k h = All-nil (λ (x : Input). IsTurned l x.section)
+at_file l (Some f) k h = at_section l f (slice_get f.sections k) (found_in (IsTurned l) f.sections k (All-head (λ (f : File). All (IsTurned l) f.sections) f [] h))
+
+at_group : (l : Layout) (o : Option Group) (j : ℕ) → All (λ (g : Group). All (λ (f : File). All (IsTurned l) f.sections) g.files) (option_to_list o) → All (λ (f : File). All (IsTurned l) f.sections) (option_to_list (slice_get (files_at o) j))
+at_group l None j h = All-nil (λ (f : File). All (IsTurned l) f.sections)
+at_group l (Some g) j h = found_in (λ (f : File). All (IsTurned l) f.sections) g.files j (All-head (λ (g : Group). All (λ (f : File). All (IsTurned l) f.sections) g.files) g [] h)
+
+-- the words of a section that is named among the sorted ones are whole
+sorted_turned : (l : Layout) → IsLaidOut l → (x : SortedSection) → All (λ (i : Input). IsTurned l i.section) (sorted_input l x)
+unfolding sorted_input
+sorted_turned l laid x =
+    at_file l (slice_get (files_at (slice_get l.groups x.group)) x.file) x.section
+    (at_group l (slice_get l.groups x.group) x.file (found_in (λ (g : Group). All (λ (f : File). All (IsTurned l) f.sections) g.files) l.groups x.group laid.turned))
+
+both_stand : (l : Layout) (xs : List Input) → All (InputLies l) xs → All (λ (i : Input). IsTurned l i.section) xs → All (InputStands l) xs
+both_stand l xs a b = λ k d low. record { lies = a k d low; turned = b k d low }
+
+sorted_stand : (l : Layout) → IsLaidOut l → All (SortedLies l) l.sorted → All (SortedStands l) l.sorted
+sorted_stand l laid h = λ k d low. both_stand l (sorted_input l (get_or l.sorted k d)) (h k d low) (sorted_turned l laid (get_or l.sorted k d))
+
+stand_from : (l : Layout) (at : ℕ) (fs : List File) → IsLaidOut l → All (Processed l) (laid_from l at fs) → All (λ (f : File). All (IsTurned l) f.sections) fs → StandFrom l at fs
+stand_from l at [] laid h t = tt
+stand_from l at (f ∷ fs) laid h t =
+    let rest = laid_from l (behind at (file_frames l f)) fs in
+    let own = All-head (Processed l) (laid_file l at f) rest h in (
+      record { lies = own_lie l at f own; turned = All-head (λ (f : File). All (IsTurned l) f.sections) f fs t; sorted = λ e. sorted_stand l laid (last_lie l at f own e) },
+      stand_from l (behind at (file_frames l f)) fs laid (All-tail (Processed l) (laid_file l at f) rest h) (All-tail (λ (f : File). All (IsTurned l) f.sections) f fs t),
+    )
+
+group_stands : (l : Layout) (g : Group) → IsLaidOut l → All (Processed l) (laid_files l g) → All (λ (f : File). All (IsTurned l) f.sections) g.files → GroupStands l g
+unfolding laid_files GroupStands
+group_stands l g laid h t = stand_from l _ g.files laid h t
+
+-- in a layout that is laid out the sections of each group lie where they stand
+pub each_stands : (l : Layout) → IsLaidOut l → EachStands l
+each_stands l laid = λ i g m. group_stands l (get_or l.groups i g) laid (laid.inputs i g m) (laid.turned i g m)

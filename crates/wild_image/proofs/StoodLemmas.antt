@@ -1,0 +1,341 @@
+-- Laws of sections as they stand, of their faults, and of the walks over them.
+use Rattle.std.proofs.Common.{◌≡◌, ℕ, ◌+◌, ◌<◌, ◌≤◌, Bool, true, false, inl, inr, not, ◌&&◌, ◌||◌, if◌then◌else◌, List, [], ◌∷◌, ◌++◌, map, length, drop, get_or, All, refl, sym, ap, ◌∙◌, subst}
+use Rattle.std.specs.List.{flat_map, list_any}
+use Rattle.std.proofs.lemmas.Bool.{cases_Bool}
+use Rattle.std.proofs.lemmas.List.{append-nil, append_assoc, drop_more, drop_all}
+use Rattle.std.proofs.lemmas.List.Elements.{All-nil, All-cons, All-head, All-tail}
+use Rattle.std.specs.Prelude.{Option, Some, None}
+use Rattle.wild_types.specs.declared.fault.Fault.{Fault}
+use Rattle.wild_types.specs.declared.fault.Error.{Error}
+use Rattle.wild_types.specs.declared.input.Slot.{Slot}
+use Rattle.wild_types.specs.declared.input.Slot.TheVariants as slot
+use Rattle.wild_types.specs.declared.input.InputSection.{InputSection}
+use Rattle.wild_types.specs.declared.file.File.{File}
+use Rattle.wild_types.specs.declared.file.Group.{Group}
+use Rattle.wild_types.specs.declared.layout.SortedSection.{SortedSection}
+use Rattle.wild_types.specs.declared.layout.Layout.{Layout}
+use Rattle.wild_types.specs.Faults.{Refuses}
+use Rattle.wild_types.specs.FileRoles.{is_prelude}
+use Rattle.wild_types.specs.Item.{item_of, block_for}
+use Rattle.wild_types.specs.Lookups.{has_relocations, is_read, is_frame, is_loaded, is_filled}
+use Rattle.wild_frames.specs.declared.entry.BadFrame.{BadFrame}
+use Rattle.wild_frames.specs.Faults.{frame_errors}
+use Rattle.wild_laid.specs.Turned.{as_turned, turned}
+use Rattle.wild_laid.specs.FrameInputs.{frames_of, kept_size}
+use Rattle.wild_laid.specs.Laid.{Input, as_loaded, origins_of, laid_by, laid_section, laid_sections, laid_file, laid_from, laid_files, behind, file_frames, frames_at, sorted_input, of_last_file}
+use Rattle.wild_laid.specs.Stood.{Stood, stood_section, stood_sorted, frame_faults}
+use Rattle.wild_layout.specs.Sites.{section_bytes, MovesApart}
+use Rattle.wild_layout.specs.Content.{frame_bytes_of, frames_bytes, end_of_frames}
+use Rattle.wild_layout.specs.Faults.{item_errors, frame_refusal, bad_frames, section_errors, sections_errors, sorted_errors, sorted_errors_of, file_errors, files_errors, group_errors, first_errors, entry_errors, thunk_errors, at_file}
+use Rattle.wild_layout.specs.SearchTable.{search_table, search_table_faults}
+use Rattle.wild_layout.specs.SectionPlaces.{SectionLies}
+use Rattle.wild_layout.specs.Thunks.{file_thunks}
+use Rattle.wild_layout.proofs.MovedSites.{laid_moves, turned_or_stays}
+use Rattle.wild_sections.proofs.FaultLemmas.{Refuses-front}
+use Rattle.wild_sections.proofs.PieceLemmas.{section_zeros}
+use Rattle.wild_words.proofs.ListLemmas.{nil_parts}
+use Rattle.wild_contents.specs.declared.search_table.SearchTable.{SearchTable}
+use Rattle.wild_contents.specs.SearchTable.{IsSearchTable, IsTableFor, FaultIsFirst}
+use Rattle.wild_contents.specs.Laid.{HasSearchTable, HaveSearchTable, group_frames}
+use Rattle.wild_image.specs.Pieces.{section_owned, loaded_owned, file_sections, ends_bytes, file_bytes}
+use Rattle.wild_image.specs.Append.{IsTurned, InputStands, SortedStands, FileStands, StandFrom}
+use Rattle.wild_image.specs.Stood.{stood_faults, StoodApart, IsWhole, zeros_of, first_of, IsMade, errors_behind, bytes_behind}
+use Rattle.wild_image.proofs.StandingLemmas.{of_sections, no_owned}
+
+-- ---- one section
+
+refusals : (l : Layout) (group file : ℕ) (f : File) (section : ℕ) (s : InputSection) (b : Bool) → map (frame_refusal group file section) (if b then frame_errors (frames_of l f s) else []) ≡ (if b then map (frame_refusal group file section) (frame_errors (frames_of l f s)) else [])
+refusals l group file f section s true = refl
+refusals l group file f section s false = refl
+
+-- the faults of a section of a file are those of the section as it stands
+pub section_stood : (l : Layout) (group file : ℕ) (f : File) (at section : ℕ) (s : InputSection) → stood_faults l group file section f (stood_section l f at s) ≡ section_errors l group file f at section s
+unfolding stood_faults section_errors
+section_stood l group file f at section s =
+    ap (λ (ending : List Error). if is_read (laid_section l f at s) then item_errors l group file section (item_of l f (laid_section l f at s)) (origins_of l f s) ending else []) (refusals l group file f section s (is_frame s.slot))
+
+turned_whole : (b : Bool) (s : InputSection) → s.slot ≡ slot.Loaded → IsWhole (if b then turned s else s)
+turned_whole true s e = λ h. cc (rw e at h)
+turned_whole false s e = λ h. cc (rw e at h)
+
+whole_by : (l : Layout) (f : File) (at : ℕ) (s : InputSection) (k : Slot) → s.slot ≡ k → IsWhole (laid_by k l f at s)
+unfolding as_turned
+whole_by l f at s slot.Loaded e = turned_whole s.reversed s e
+whole_by l f at s slot.Frame e = λ h. refl
+whole_by l f at s slot.Discard e = λ h. cc (rw e at h)
+whole_by l f at s slot.Sorted e = λ h. cc (rw e at h)
+whole_by l f at s slot.Debug e = λ h. cc (rw e at h)
+whole_by l f at s slot.Merge e = λ h. cc (rw e at h)
+whole_by l f at s slot.Rela e = λ h. cc (rw e at h)
+whole_by l f at s slot.Group e = λ h. cc (rw e at h)
+
+-- frames that stand have data
+pub laid_whole : (l : Layout) (f : File) (at : ℕ) (s : InputSection) → IsWhole (laid_section l f at s)
+unfolding laid_section
+laid_whole l f at s = whole_by l f at s s.slot refl
+
+pub sorted_whole : (s : InputSection) → IsWhole (as_turned (as_loaded s))
+unfolding as_turned
+sorted_whole s = turned_whole s.reversed (as_loaded s) refl
+
+not_loaded : (k : Slot) → is_frame k ≡ true → is_loaded k ≡ false
+not_loaded slot.Frame e = refl
+not_loaded slot.Discard e = cc
+not_loaded slot.Loaded e = cc
+not_loaded slot.Sorted e = cc
+not_loaded slot.Debug e = cc
+not_loaded slot.Merge e = cc
+not_loaded slot.Rela e = cc
+not_loaded slot.Group e = cc
+
+-- frames own nothing of a raw part
+pub frames_own_none : (l : Layout) (f : File) (s : InputSection) → is_frame s.slot ≡ true → section_owned l f s ≡ []
+frames_own_none l f s e = let n = not_loaded s.slot e in rw n refl
+
+read_frame : (k : Slot) (b : Bool) → is_frame k ≡ true → b ≡ false → (has_relocations k && not b) ≡ true
+read_frame slot.Frame b e f = rw f refl
+read_frame slot.Discard b e f = cc
+read_frame slot.Loaded b e f = cc
+read_frame slot.Sorted b e f = cc
+read_frame slot.Debug b e f = cc
+read_frame slot.Merge b e f = cc
+read_frame slot.Rela b e f = cc
+read_frame slot.Group b e f = cc
+
+-- what is not read has no frames
+pub unread_no_frames : (l : Layout) (f : File) (s : InputSection) → IsWhole s → is_read s ≡ false → frame_bytes_of l f s ≡ []
+unfolding frame_bytes_of
+unread_no_frames l f s whole none =
+    elim (cases_Bool (is_frame s.slot)) [
+      | inl t ↦ (let r = read_frame s.slot s.nobits t (whole t) in cc (rw r at none))
+      | inr n ↦ rw n refl
+    ]
+
+-- what is not read owns zeros
+pub zeros_owned : (l : Layout) (f : File) (s : InputSection) → is_read s ≡ false → zeros_of l s ≡ section_owned l f s
+zeros_owned l f s unread =
+    elim (cases_Bool (is_filled l s)) [
+      | inl t ↦ rw t (section_zeros l f s unread t)
+      | inr n ↦ rw n refl
+    ]
+
+-- and adds no frames
+pub no_frames_added : (l : Layout) (f : File) (s : InputSection) (old : List ℕ) → IsWhole s → is_read s ≡ false → old ≡ old ++ frame_bytes_of l f s
+no_frames_added l f s old whole unread = sym (append-nil old) ∙ ap (λ (ys : List ℕ). old ++ ys) (sym (unread_no_frames l f s whole unread))
+
+-- their sites are apart as those of the input
+pub laid_apart : (l : Layout) (f : File) (at : ℕ) (s : InputSection) → IsTurned l s → is_read (laid_section l f at s) ≡ true → StoodApart l f (stood_section l f at s)
+laid_apart l f at s t read = laid_moves l f (block_for l f (laid_section l f at s)) at s t read
+
+not_true : (b : Bool) → not b ≡ true → b ≡ false
+not_true true h = cc
+not_true false h = refl
+
+read_counted : (b : Bool) (s : InputSection) → is_read (if b then turned (as_loaded s) else as_loaded s) ≡ true → s.nobits ≡ false
+read_counted true s h = not_true s.nobits h
+read_counted false s h = not_true s.nobits h
+
+pub sorted_apart : (l : Layout) (f : File) (s : InputSection) → IsTurned l (as_loaded s) → is_read (as_turned (as_loaded s)) ≡ true → StoodApart l f (stood_sorted s)
+unfolding as_turned
+sorted_apart l f s t read =
+    let counted = read_counted s.reversed s read in
+    turned_or_stays l (block_for l f (as_turned (as_loaded s))) (as_loaded s) (t (rw counted refl))
+
+-- ---- sorted sections
+
+-- the faults of one that was found
+pub sorted_stood : (l : Layout) (x : SortedSection) (f : File) (s : InputSection) → sorted_input l x ≡ record { file = f; section = as_loaded s } ∷ [] → stood_faults l x.group x.file x.section f (stood_sorted s) ≡ sorted_errors l x
+unfolding stood_faults
+sorted_stood l x f s e = sym (ap (flat_map (sorted_errors_of l x)) e ∙ append-nil (sorted_errors_of l x (record { file = f; section = as_loaded s })))
+
+turned_no_frame : (b : Bool) (s : InputSection) → is_frame (if b then turned (as_loaded s) else as_loaded s).slot ≡ false
+turned_no_frame true s = refl
+turned_no_frame false s = refl
+
+-- and no frames
+pub sorted_no_frames : (l : Layout) (f : File) (s : InputSection) → frame_bytes_of l f (as_turned (as_loaded s)) ≡ []
+unfolding frame_bytes_of as_turned
+sorted_no_frames l f s = let e = turned_no_frame s.reversed s in rw e refl
+
+pub one_stands : (l : Layout) (x : SortedSection) (f : File) (s : InputSection) → sorted_input l x ≡ record { file = f; section = as_loaded s } ∷ [] → SortedStands l x → InputStands l (record { file = f; section = as_loaded s })
+one_stands l x f s e h =
+    let i : Input = record { file = f; section = as_loaded s } in
+    All-head (InputStands l) i [] (subst (All (InputStands l)) e h)
+
+-- ---- the walk over sections
+
+pub faults_more : (l : Layout) (group file : ℕ) (f : File) (ss : List InputSection) (i at next : ℕ) (s : InputSection) (whole : List Error) → i < length ss → s ≡ get_or ss i s → sections_errors l group file f at i (drop i ss) ≡ whole → section_errors l group file f at i s ≡ [] → next ≡ behind at (kept_size l f s)
+    → sections_errors l group file f next (i + 1) (drop (i + 1) ss) ≡ whole
+faults_more l group file f ss i at next s whole low read before none is =
+    let cut : drop i ss ≡ s ∷ drop (i + 1) ss = drop_more ss i s low ∙ ap (λ (x : InputSection). x ∷ drop (i + 1) ss) (sym read) in
+    ap (λ (n : ℕ). sections_errors l group file f n (i + 1) (drop (i + 1) ss)) is
+    ∙ sym (ap (λ (es : List Error). es ++ sections_errors l group file f (behind at (kept_size l f s)) (i + 1) (drop (i + 1) ss)) none)
+    ∙ sym (ap (sections_errors l group file f at i) cut) ∙ before
+
+pub faults_refuse : (l : Layout) (group file : ℕ) (f : File) (ss : List InputSection) (i at : ℕ) (s : InputSection) (whole : List Error) (e : Error) → i < length ss → s ≡ get_or ss i s → sections_errors l group file f at i (drop i ss) ≡ whole → Refuses e (section_errors l group file f at i s) → Refuses e whole
+faults_refuse l group file f ss i at s whole e low read before h =
+    let cut : drop i ss ≡ s ∷ drop (i + 1) ss = drop_more ss i s low ∙ ap (λ (x : InputSection). x ∷ drop (i + 1) ss) (sym read) in
+    subst (Refuses e) (sym (ap (sections_errors l group file f at i) cut) ∙ before) (Refuses-front e (section_errors l group file f at i s) _ h)
+
+pub faults_done : (l : Layout) (group file : ℕ) (f : File) (ss : List InputSection) (i at : ℕ) (whole : List Error) → length ss ≤ i → sections_errors l group file f at i (drop i ss) ≡ whole → whole ≡ []
+faults_done l group file f ss i at whole end before = sym before ∙ ap (sections_errors l group file f at i) (drop_all i ss end)
+
+pub lies_head : (l : Layout) (f : File) (ss : List InputSection) (i at : ℕ) (s : InputSection) → i < length ss → s ≡ get_or ss i s → All (SectionLies l) (laid_sections l f at (drop i ss)) → SectionLies l (laid_section l f at s)
+lies_head l f ss i at s low read h =
+    let cut : drop i ss ≡ s ∷ drop (i + 1) ss = drop_more ss i s low ∙ ap (λ (x : InputSection). x ∷ drop (i + 1) ss) (sym read) in
+    All-head (SectionLies l) (laid_section l f at s) (laid_sections l f (behind at (kept_size l f s)) (drop (i + 1) ss)) (subst (λ (xs : List InputSection). All (SectionLies l) (laid_sections l f at xs)) cut h)
+
+pub lies_tail : (l : Layout) (f : File) (ss : List InputSection) (i at next : ℕ) (s : InputSection) → i < length ss → s ≡ get_or ss i s → next ≡ behind at (kept_size l f s) → All (SectionLies l) (laid_sections l f at (drop i ss)) → All (SectionLies l) (laid_sections l f next (drop (i + 1) ss))
+lies_tail l f ss i at next s low read is h =
+    let cut : drop i ss ≡ s ∷ drop (i + 1) ss = drop_more ss i s low ∙ ap (λ (x : InputSection). x ∷ drop (i + 1) ss) (sym read) in
+    subst (λ (n : ℕ). All (SectionLies l) (laid_sections l f n (drop (i + 1) ss))) (sym is)
+    (All-tail (SectionLies l) (laid_section l f at s) (laid_sections l f (behind at (kept_size l f s)) (drop (i + 1) ss)) (subst (λ (xs : List InputSection). All (SectionLies l) (laid_sections l f at xs)) cut h))
+
+-- what sections give that stand from an address on
+pub given_more : {Y : Type 0} (G : InputSection → List Y) (l : Layout) (f : File) (ss : List InputSection) (i at next : ℕ) (s : InputSection) (now after whole : List Y) → i < length ss → s ≡ get_or ss i s → next ≡ behind at (kept_size l f s) → now ++ flat_map G (laid_sections l f at (drop i ss)) ≡ whole → after ≡ now ++ G (laid_section l f at s)
+    → after ++ flat_map G (laid_sections l f next (drop (i + 1) ss)) ≡ whole
+given_more {Y} G l f ss i at next s now after whole low read is before more =
+    let rest = flat_map G (laid_sections l f (behind at (kept_size l f s)) (drop (i + 1) ss)) in
+    let cut : drop i ss ≡ s ∷ drop (i + 1) ss = drop_more ss i s low ∙ ap (λ (x : InputSection). x ∷ drop (i + 1) ss) (sym read) in
+    ap (λ (n : ℕ). after ++ flat_map G (laid_sections l f n (drop (i + 1) ss))) is
+    ∙ ap (λ (ys : List Y). ys ++ rest) more
+    ∙ append_assoc now (G (laid_section l f at s)) rest
+    ∙ sym (ap (λ (xs : List InputSection). now ++ flat_map G (laid_sections l f at xs)) cut)
+    ∙ before
+
+pub given_done : {Y : Type 0} (G : InputSection → List Y) (l : Layout) (f : File) (ss : List InputSection) (i at : ℕ) (now whole : List Y) → length ss ≤ i → now ++ flat_map G (laid_sections l f at (drop i ss)) ≡ whole → now ≡ whole
+given_done {Y} G l f ss i at now whole end before =
+    sym (append-nil now) ∙ sym (ap (λ (xs : List InputSection). now ++ flat_map G (laid_sections l f at xs)) (drop_all i ss end)) ∙ before
+
+-- ---- files
+
+-- the bytes of a file's sections are those of the loaded ones
+pub owned_loaded : (l : Layout) (at : ℕ) (f : File) → flat_map (section_owned l f) (laid_sections l f at f.sections) ≡ file_sections l f
+owned_loaded l at f = of_sections (section_owned l f) l f at f.sections (no_owned l f)
+
+pub file_owned_by : (l : Layout) (at : ℕ) (f : File) (old one two : List ℕ) → one ≡ old ++ flat_map (section_owned l f) (laid_sections l f at f.sections) → two ≡ one ++ bytes_behind l f → two ≡ old ++ file_bytes l f
+unfolding bytes_behind
+file_owned_by l at f old one two a b =
+    b ∙ ap (λ (ys : List ℕ). ys ++ (ends_bytes l f ++ file_thunks l f)) (a ∙ ap (λ (ys : List ℕ). old ++ ys) (owned_loaded l at f)) ∙ append_assoc old (file_sections l f) (ends_bytes l f ++ file_thunks l f)
+
+pub file_frames_by : (l : Layout) (at : ℕ) (f : File) (old one two : List ℕ) → one ≡ old ++ flat_map (frame_bytes_of l f) (laid_sections l f at f.sections) → two ≡ one ++ of_last_file f (end_of_frames l) → two ≡ old ++ frames_bytes l (laid_file l at f)
+unfolding frames_bytes frame_bytes_of
+file_frames_by l at f old one two a b =
+    b ∙ ap (λ (ys : List ℕ). ys ++ of_last_file f (end_of_frames l)) a ∙ append_assoc old (flat_map (frame_bytes_of l f) (laid_sections l f at f.sections)) (of_last_file f (end_of_frames l))
+
+pub file_faults_by : (l : Layout) (group file at : ℕ) (f : File) → file_errors l group at file f ≡ sections_errors l group file f at 0 f.sections ++ errors_behind l group file f
+unfolding file_errors errors_behind
+file_faults_by l group file at f = refl
+
+pub files_more : (l : Layout) (group : ℕ) (fs : List File) (i at next : ℕ) (f : File) (whole : List Error) → i < length fs → f ≡ get_or fs i f → files_errors l group at i (drop i fs) ≡ whole → file_errors l group at i f ≡ [] → next ≡ behind at (file_frames l f)
+    → files_errors l group next (i + 1) (drop (i + 1) fs) ≡ whole
+files_more l group fs i at next f whole low read before none is =
+    let cut : drop i fs ≡ f ∷ drop (i + 1) fs = drop_more fs i f low ∙ ap (λ (x : File). x ∷ drop (i + 1) fs) (sym read) in
+    ap (λ (n : ℕ). files_errors l group n (i + 1) (drop (i + 1) fs)) is
+    ∙ sym (ap (λ (es : List Error). es ++ files_errors l group (behind at (file_frames l f)) (i + 1) (drop (i + 1) fs)) none)
+    ∙ sym (ap (files_errors l group at i) cut) ∙ before
+
+pub files_refuse : (l : Layout) (group : ℕ) (fs : List File) (i at : ℕ) (f : File) (whole : List Error) (e : Error) → i < length fs → f ≡ get_or fs i f → files_errors l group at i (drop i fs) ≡ whole → Refuses e (file_errors l group at i f) → Refuses e whole
+files_refuse l group fs i at f whole e low read before h =
+    let cut : drop i fs ≡ f ∷ drop (i + 1) fs = drop_more fs i f low ∙ ap (λ (x : File). x ∷ drop (i + 1) fs) (sym read) in
+    subst (Refuses e) (sym (ap (files_errors l group at i) cut) ∙ before) (Refuses-front e (file_errors l group at i f) _ h)
+
+pub files_done : (l : Layout) (group : ℕ) (fs : List File) (i at : ℕ) (whole : List Error) → length fs ≤ i → files_errors l group at i (drop i fs) ≡ whole → whole ≡ []
+files_done l group fs i at whole end before = sym before ∙ ap (files_errors l group at i) (drop_all i fs end)
+
+pub stands_head : (l : Layout) (fs : List File) (i at : ℕ) (f : File) → i < length fs → f ≡ get_or fs i f → StandFrom l at (drop i fs) → FileStands l at f
+stands_head l fs i at f low read h =
+    let cut : drop i fs ≡ f ∷ drop (i + 1) fs = drop_more fs i f low ∙ ap (λ (x : File). x ∷ drop (i + 1) fs) (sym read) in
+    (subst (StandFrom l at) cut h).0
+
+pub stands_tail : (l : Layout) (fs : List File) (i at next : ℕ) (f : File) → i < length fs → f ≡ get_or fs i f → next ≡ behind at (file_frames l f) → StandFrom l at (drop i fs) → StandFrom l next (drop (i + 1) fs)
+stands_tail l fs i at next f low read is h =
+    let cut : drop i fs ≡ f ∷ drop (i + 1) fs = drop_more fs i f low ∙ ap (λ (x : File). x ∷ drop (i + 1) fs) (sym read) in
+    subst (λ (n : ℕ). StandFrom l n (drop (i + 1) fs)) (sym is) ((subst (StandFrom l at) cut h).1)
+
+pub framed_more : (l : Layout) (fs : List File) (i at next : ℕ) (f : File) (now after whole : List ℕ) → i < length fs → f ≡ get_or fs i f → next ≡ behind at (file_frames l f) → now ++ flat_map (frames_bytes l) (laid_from l at (drop i fs)) ≡ whole → after ≡ now ++ frames_bytes l (laid_file l at f)
+    → after ++ flat_map (frames_bytes l) (laid_from l next (drop (i + 1) fs)) ≡ whole
+framed_more l fs i at next f now after whole low read is before more =
+    let rest = flat_map (frames_bytes l) (laid_from l (behind at (file_frames l f)) (drop (i + 1) fs)) in
+    let cut : drop i fs ≡ f ∷ drop (i + 1) fs = drop_more fs i f low ∙ ap (λ (x : File). x ∷ drop (i + 1) fs) (sym read) in
+    ap (λ (n : ℕ). after ++ flat_map (frames_bytes l) (laid_from l n (drop (i + 1) fs))) is
+    ∙ ap (λ (ys : List ℕ). ys ++ rest) more
+    ∙ append_assoc now (frames_bytes l (laid_file l at f)) rest
+    ∙ sym (ap (λ (xs : List File). now ++ flat_map (frames_bytes l) (laid_from l at xs)) cut)
+    ∙ before
+
+pub framed_done : (l : Layout) (fs : List File) (i at : ℕ) (now whole : List ℕ) → length fs ≤ i → now ++ flat_map (frames_bytes l) (laid_from l at (drop i fs)) ≡ whole → now ≡ whole
+framed_done l fs i at now whole end before =
+    sym (append-nil now) ∙ sym (ap (λ (xs : List File). now ++ flat_map (frames_bytes l) (laid_from l at xs)) (drop_all i fs end)) ∙ before
+
+-- ---- the search table
+
+no_errors : (h : Fault → Error) (fs : List Fault) → map h fs ≡ [] → fs ≡ []
+no_errors h [] e = refl
+no_errors h (f ∷ fs) e = cc
+
+no_fault : (f : Option Fault) (fs : List Fault) → fs ≡ [] → FaultIsFirst f fs → f ≡ None
+no_fault None fs none h = refl
+no_fault (Some f) [] none h = absurd h
+no_fault (Some f) (g ∷ gs) none h = cc
+
+met : (f : Option Fault) (fs : List Fault) → FaultIsFirst f fs → f ≡ first_of fs
+met None fs h = sym (ap first_of h)
+met (Some f) [] h = absurd h
+met (Some f) (g ∷ gs) h = ap Some h
+
+is_met : (f : Option Fault) (fs : List Fault) → f ≡ first_of fs → FaultIsFirst f fs
+is_met None [] e = refl
+is_met None (g ∷ gs) e = cc
+is_met (Some f) [] e = cc
+is_met (Some f) (g ∷ gs) e = cc
+
+-- it was made, or its first fault was met
+pub made : (l : Layout) (t : SearchTable) → IsSearchTable l t → IsMade l t
+made l t h = record { fault = met t.fault (search_table_faults l) h.fault; bytes = h.bytes }
+
+pub is_made : (l : Layout) (t : SearchTable) → IsMade l t → IsSearchTable l t
+is_made l t h = record { fault = is_met t.fault (search_table_faults l) h.fault; bytes = h.bytes }
+
+-- without faults of a file the table is there where it is the first
+table_by : (l : Layout) (t : SearchTable) (group file at : ℕ) (f : File) → IsTableFor l t f → file_errors l group at file f ≡ [] → HasSearchTable l t.bytes f
+unfolding file_errors
+table_by l t group file at f is none = λ first. (
+    let a = nil_parts (sections_errors l group file f at 0 f.sections) _ none in
+    let b = nil_parts (of_last_file f (flat_map (sorted_errors l) l.sorted)) _ a.1 in
+    let c = nil_parts (entry_errors l group file f) _ b.1 in
+    let d = nil_parts (thunk_errors l group file f) (first_errors l group file f) c.1 in
+    let e = is first in
+    let faults : search_table_faults l ≡ [] = no_errors (λ (x : Fault). record { fault = x; at = at_file group file }) (search_table_faults l) (rw first at d.1) in
+    e.bytes (no_fault t.fault (search_table_faults l) faults e.fault))
+
+-- and so of the files of a group
+pub table_from : (l : Layout) (t : SearchTable) (group at i : ℕ) (fs : List File) → All (IsTableFor l t) fs → files_errors l group at i fs ≡ [] → HaveSearchTable l t.bytes fs
+table_from l t group at i [] is none = All-nil (HasSearchTable l t.bytes)
+table_from l t group at i (f ∷ fs) is none =
+    let parts = nil_parts (file_errors l group at i f) (files_errors l group (behind at (file_frames l f)) (i + 1) fs) none in
+    All-cons (HasSearchTable l t.bytes) f fs (table_by l t group i at f (All-head (IsTableFor l t) f fs is) parts.0)
+    (table_from l t group (behind at (file_frames l f)) (i + 1) fs (All-tail (IsTableFor l t) f fs is) parts.1)
+
+-- where no fault of a group is found
+pub table_of_group : (l : Layout) (t : SearchTable) (group : ℕ) (g : Group) → All (IsTableFor l t) g.files → group_errors l group g ≡ [] → HaveSearchTable l t.bytes g.files
+unfolding group_errors
+table_of_group l t group g is none = table_from l t group (frames_at l g) 0 g.files is ((nil_parts (files_errors l group (frames_at l g) 0 g.files) _ none).0)
+
+pub table_of_all : (l : Layout) (t : SearchTable) (fs : List File) → IsSearchTable l t → All (IsTableFor l t) fs
+table_of_all l t [] is = All-nil (IsTableFor l t)
+table_of_all l t (f ∷ fs) is = All-cons (IsTableFor l t) f fs (λ first. is) (table_of_all l t fs is)
+
+or_none : (a b : Bool) → (a || b) ≡ false → (a ≡ false) × (b ≡ false)
+or_none true b h = cc
+or_none false b h = (refl, h)
+
+no_first : (l : Layout) (t : SearchTable) (f : File) → is_prelude f.role ≡ false → IsTableFor l t f
+no_first l t f e = λ first. cc (rw e at first)
+
+-- no file of the group is the first one
+pub table_of_none : (l : Layout) (t : SearchTable) (fs : List File) → list_any (λ (f : File). is_prelude f.role) fs ≡ false → All (IsTableFor l t) fs
+table_of_none l t [] none = All-nil (IsTableFor l t)
+table_of_none l t (f ∷ fs) none =
+    let parts = or_none (is_prelude f.role) (list_any (λ (f : File). is_prelude f.role) fs) none in
+    All-cons (IsTableFor l t) f fs (no_first l t f parts.0) (table_of_none l t fs parts.1)

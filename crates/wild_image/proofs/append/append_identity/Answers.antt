@@ -1,0 +1,24 @@
+use Rattle.std.proofs.Common.{◌∙◌, List, ℕ, ap, sym, subst}
+use Rattle.wild_words.specs.Overlay.{Piece, overlay}
+use Rattle.wild_layout.specs.Image.{front_piece}
+use Rattle.wild_image.specs.Append.{SomeLies}
+use Rattle.wild_image.proofs.AppendLemmas.{cut_off}
+use Rattle.wild_image.proofs.append.append_identity.Goals as goal
+
+pub split_at-requires : goal.split_at-requires
+split_at-requires c = (cut_off c.args.layout.now.identity.bytes c.args.bytes.now _ (sym c.len.ensures) c.requires.own).within
+
+pub put_front-requires-clause-lies : goal.put_front-requires-clause-lies
+put_front-requires-clause-lies c =
+    let cut = cut_off c.args.layout.now.identity.bytes c.args.bytes.now _ (sym c.len.ensures) c.requires.own in
+    subst (SomeLies c.args.layout.now c.args.layout.now.identity.part) (sym (c.split_at.ensures.front ∙ cut.front)) c.requires.lies
+
+pub returns-clause-image : goal.returns-clause-image
+returns-clause-image c =
+    let cut = cut_off c.args.layout.now.identity.bytes c.args.bytes.now _ (sym c.len.ensures) c.requires.own in
+    c.put_front.ensures ∙ ap (λ (own : List ℕ). overlay (front_piece c.args.layout.now c.args.layout.now.identity.part own) c.args.out.now) (c.split_at.ensures.front ∙ cut.front)
+
+pub returns-clause-rest : goal.returns-clause-rest
+returns-clause-rest c =
+    let cut = cut_off c.args.layout.now.identity.bytes c.args.bytes.now _ (sym c.len.ensures) c.requires.own in
+    λ rest e. c.split_at.ensures.back ∙ cut.back rest e

@@ -1,0 +1,7 @@
+use Rattle.std.proofs.Common.{◌≡◌, ◌-◌, ◌^◌, ℕ, List, length, take}
+use Rattle.std.specs.Prelude.{min}
+use Rattle.std.specs.List.{flat_map}
+use Rattle.wild_image.proofs.marks.strings_size.Given as goal
+
+abbrev pub invariant-loop-string : goal.invariant-loop-string
+invariant-loop-string l = l.size ≡ min (2 ^ 64 - 1) (length (flat_map (λ (s : List ℕ). s) (take l.string-index l.strings)))

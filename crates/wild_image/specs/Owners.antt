@@ -1,0 +1,43 @@
+-- What owns bytes of an image, as the code goes through it: file by file, the sections of the plan.
+--   loaded_piece l f s    a loaded section, as it stands, with its offset; loaded_pieces l f those of a file
+--   sorted_pieces l x     a section that is named among the sorted ones; all_sorted_pieces l all of those
+--   ends_pieces l f       what only the last or the first file has
+--   standing_pieces l f   all that a file has
+use Rattle.std.specs.Prelude.{ℕ, if◌then◌else◌, List, [], ◌++◌}
+use Rattle.std.specs.List.{flat_map}
+use Rattle.wild_words.specs.Overlay.{Piece}
+use Rattle.wild_types.specs.declared.input.InputSection.{InputSection}
+use Rattle.wild_types.specs.declared.file.File.{File}
+use Rattle.wild_types.specs.declared.layout.Merged.{Merged}
+use Rattle.wild_types.specs.declared.layout.SortedSection.{SortedSection}
+use Rattle.wild_types.specs.declared.layout.Layout.{Layout}
+use Rattle.wild_types.specs.Lookups.{is_loaded}
+use Rattle.wild_laid.specs.Laid.{sorted_input, of_last_file}
+use Rattle.wild_layout.specs.Image.{section_piece, sorted_piece, merged_bytes, front_piece, once_pieces, of_first_file, thunk_pieces}
+use Rattle.wild_image.specs.Pieces.{standing}
+
+-- a loaded section, as it stands
+abbrev pub loaded_piece : Layout → File → InputSection → List Piece
+loaded_piece l f s = if is_loaded s.slot then section_piece l f (standing s) else []
+
+abbrev pub loaded_pieces : Layout → File → List Piece
+loaded_pieces l f = flat_map (loaded_piece l f) f.sections
+
+-- a section that is named among the sorted ones
+abbrev pub sorted_pieces : Layout → SortedSection → List Piece
+sorted_pieces l x = flat_map (sorted_piece l) (sorted_input l x)
+
+abbrev pub all_sorted_pieces : Layout → List Piece
+all_sorted_pieces l = flat_map (sorted_pieces l) l.sorted
+
+-- merged strings
+abbrev pub merged_piece : Layout → Merged → List Piece
+merged_piece l m = front_piece l m.part (merged_bytes m)
+
+-- what only the last or the first file has
+abbrev pub ends_pieces : Layout → File → List Piece
+ends_pieces l f = of_last_file f (all_sorted_pieces l) ++ of_first_file f (once_pieces l)
+
+-- all that a file has
+abbrev pub standing_pieces : Layout → File → List Piece
+standing_pieces l f = loaded_pieces l f ++ (ends_pieces l f ++ thunk_pieces l f)

@@ -1,0 +1,59 @@
+-- What is said of sections as they stand, as the code has them.
+--   stood_faults l g f i file x   the faults of a section of a file, as it stands
+--   StoodApart l f x              its sites are apart exactly where those of the input are
+--   IsWhole s                     one of frames has data
+--   zeros_of l s                  as many zeros as a section has bytes, where it owns some
+--   IsMade l t                    the search table of frames was made, or its first fault was met
+--   errors_behind l g f file      the faults of a file behind those of its sections; bytes_behind l f its bytes behind theirs
+use Rattle.std.specs.Prelude.{◌≡◌, ℕ, true, false, if◌then◌else◌, List, [], ◌∷◌, ◌++◌, map, replicate, Option, Some, None}
+use Rattle.std.specs.List.{flat_map}
+use Rattle.wild_types.specs.declared.fault.Fault.{Fault}
+use Rattle.wild_types.specs.declared.fault.Error.{Error}
+use Rattle.wild_types.specs.declared.input.InputSection.{InputSection}
+use Rattle.wild_types.specs.declared.file.File.{File}
+use Rattle.wild_types.specs.declared.layout.Layout.{Layout}
+use Rattle.wild_types.specs.Item.{item_of}
+use Rattle.wild_types.specs.Lookups.{is_read, is_frame, is_filled}
+use Rattle.wild_laid.specs.Laid.{of_last_file}
+use Rattle.wild_laid.specs.Stood.{Stood}
+use Rattle.wild_layout.specs.Faults.{item_errors, frame_refusal, sorted_errors, entry_errors, thunk_errors, first_errors}
+use Rattle.wild_layout.specs.Sites.{MovesApart}
+use Rattle.wild_layout.specs.SearchTable.{search_table, search_table_faults}
+use Rattle.wild_layout.specs.Thunks.{file_thunks}
+use Rattle.wild_contents.specs.declared.search_table.SearchTable.{SearchTable}
+use Rattle.wild_image.specs.Pieces.{ends_bytes}
+
+-- the faults of a section of a file, as it stands
+unfoldable pub stood_faults : Layout → ℕ → ℕ → ℕ → File → Stood → List Error
+stood_faults l group file section f x =
+    if is_read x.section then item_errors l group file section (item_of l f x.section) x.origins (map (frame_refusal group file section) x.faults) else []
+
+-- its sites are apart exactly where those of the input are
+abbrev pub StoodApart : Layout → File → Stood → Type 0
+StoodApart l f x = MovesApart l (item_of l f x.section) x.origins
+
+-- one of frames has data
+abbrev pub IsWhole : InputSection → Type 0
+IsWhole s = is_frame s.slot ≡ true → s.nobits ≡ false
+
+-- as many zeros as a section has bytes, where it owns some
+abbrev pub zeros_of : Layout → InputSection → List ℕ
+zeros_of l s = if is_filled l s then replicate s.size 0 else []
+
+-- the first of some faults
+abbrev pub first_of : List Fault → Option Fault
+first_of [] = None
+first_of (f ∷ fs) = Some f
+
+-- the search table of frames was made, or its first fault was met
+pub record IsMade (l : Layout) (t : SearchTable) : Type 0 where
+  pub fault : t.fault ≡ first_of (search_table_faults l)
+  pub bytes : t.fault ≡ None → t.bytes ≡ search_table l
+
+-- the faults of a file behind those of its sections
+unfoldable pub errors_behind : Layout → ℕ → ℕ → File → List Error
+errors_behind l group file f = of_last_file f (flat_map (sorted_errors l) l.sorted) ++ (entry_errors l group file f ++ (thunk_errors l group file f ++ first_errors l group file f))
+
+-- its bytes behind theirs
+unfoldable pub bytes_behind : Layout → File → List ℕ
+bytes_behind l f = ends_bytes l f ++ file_thunks l f

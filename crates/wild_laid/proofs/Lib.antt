@@ -1,0 +1,9 @@
+pub mod RunLemmas
+pub mod LaidFiles
+pub mod FrameLemmas
+pub mod PlainLemmas
+pub mod TurnedBytes
+pub mod SumLemmas
+pub mod WordLemmas
+pub mod KeepLemmas
+pub mod StoodLemmas

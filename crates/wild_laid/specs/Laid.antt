@@ -1,0 +1,202 @@
+-- Input sections as they stand in the output.
+--   kept_relocations fs     the relocations of the kept entries of frames, as the input has them
+--   laid_relocations fs     the same at the entries' new places
+--   framed l f at s         a section of frames as it stands: its kept entries one behind the other, from an address on
+--   origins_of l f s        the relocations of a section as it stands, as the input has them
+--   laid_section l f at s   a section of file f as it stands
+--   laid_file l at f        a file with its sections so, whose frames begin at an address
+--   file_frames l f         how many bytes of frames a file keeps
+--   laid_files l g          the files of a group so: its frames stand one behind the other from where the group's begin
+--   sorted_inputs l         the sections that stand in the order of `sorted`, each with its file
+--   processed l f           the sections that a file's entries are made of: its own, and the last file's the sorted ones besides
+use Rattle.std.specs.Prelude.{ℕ, ◌+◌, ◌-◌, ◌%◌, ◌^◌, ◌&&◌, Bool, true, false, not, if◌then◌else◌, nat_le, nat_lt, List, [], ◌∷◌, ◌++◌, length, map, Option, Some, None, slice_get}
+use Rattle.std.specs.List.{flat_map}
+use Rattle.wild_records.specs.Abi.Section.{shf_write, shf_execinstr}
+use Rattle.wild_types.specs.declared.part.Part.{Part}
+use Rattle.wild_types.specs.declared.part.Role.TheVariants as role
+use Rattle.wild_types.specs.declared.input.Slot.{Slot}
+use Rattle.wild_types.specs.declared.input.Slot.TheVariants as slot
+use Rattle.wild_types.specs.declared.input.InputRelocation.{InputRelocation}
+use Rattle.wild_types.specs.declared.input.InputSection.{InputSection}
+use Rattle.wild_types.specs.declared.file.File.{File}
+use Rattle.wild_types.specs.declared.file.Group.{Group}
+use Rattle.wild_types.specs.declared.layout.SortedSection.{SortedSection}
+use Rattle.wild_types.specs.declared.layout.Layout.{Layout}
+use Rattle.wild_types.specs.FileRoles.{is_epilogue}
+use Rattle.wild_types.specs.Lists.{total}
+use Rattle.wild_types.specs.Lookups.{writable, executable, is_frame}
+use Rattle.wild_types.specs.Parts.{part_with}
+use Rattle.wild_frames.specs.declared.entry.KeptEntry.{KeptEntry}
+use Rattle.wild_frames.specs.Frames.{Frames, kept_in, frame_bytes, relocations_in}
+use Rattle.wild_laid.specs.Turned.{as_turned}
+use Rattle.wild_laid.specs.FrameInputs.{frames_of, kept_size, fde_count}
+
+-- ---- frames
+
+-- the relocations of a kept entry, as the input has them
+abbrev pub entry_relocations : Frames → KeptEntry → List InputRelocation
+entry_relocations fs k = relocations_in k.from (k.from + k.size) fs.relocations
+
+-- a relocation of a kept entry at the entry's new place
+abbrev pub moved_by : KeptEntry → InputRelocation → InputRelocation
+moved_by k r = record { offset = k.to + (r.offset - k.from); number = r.number; symbol = r.symbol; addend = r.addend; malformed = r.malformed }
+
+-- those of all kept entries, as the input has them
+unfoldable pub kept_relocations : Frames → List InputRelocation
+kept_relocations fs = flat_map (entry_relocations fs) (kept_in fs)
+
+-- and at the entries' new places
+unfoldable pub laid_relocations : Frames → List InputRelocation
+laid_relocations fs = flat_map (λ k. map (moved_by k) (entry_relocations fs k)) (kept_in fs)
+
+-- frames are data: the program does not write to them, and runs none of their bytes
+abbrev pub without_write : ℕ → ℕ
+without_write flags = if writable flags then flags - shf_write else flags
+
+abbrev pub frame_flags : ℕ → ℕ
+frame_flags flags = if executable (without_write flags) then without_write flags - shf_execinstr else without_write flags
+
+abbrev pub framed_with : InputSection → ℕ → Frames → InputSection
+framed_with s at fs = record {
+  slot = slot.Frame;
+  name = [];
+  part = s.part;
+  address = at;
+  size = length (frame_bytes fs);
+  flags = frame_flags s.flags;
+  nobits = false;
+  reversed = false;
+  singleton = None;
+  target = 0;
+  members = [];
+  bytes = frame_bytes fs;
+  strings = [];
+  relocations = laid_relocations fs;
+}
+
+-- a section of frames as it stands
+abbrev pub framed : Layout → File → ℕ → InputSection → InputSection
+framed l f at s = framed_with s at (frames_of l f s)
+
+-- the relocations of a section as it stands, as the input has them
+abbrev pub origins_of : Layout → File → InputSection → List InputRelocation
+origins_of l f s = if is_frame s.slot then kept_relocations (frames_of l f s) else s.relocations
+
+-- ---- files
+
+-- a section of file f as it stands, where the file's next frames stand at an address
+abbrev pub laid_by : Slot → Layout → File → ℕ → InputSection → InputSection
+laid_by slot.Loaded l f at s = as_turned s
+laid_by slot.Frame l f at s = framed l f at s
+laid_by other l f at s = s
+
+unfoldable pub laid_section : Layout → File → ℕ → InputSection → InputSection
+laid_section l f at s = laid_by s.slot l f at s
+
+-- the address behind n bytes, modulo 2^64
+abbrev pub behind : ℕ → ℕ → ℕ
+behind at n = (at + n) % 2 ^ 64
+
+abbrev pub laid_sections : Layout → File → ℕ → List InputSection → List InputSection
+laid_sections l f at [] = []
+laid_sections l f at (s ∷ ss) = laid_section l f at s ∷ laid_sections l f (behind at (kept_size l f s)) ss
+
+-- a file with its sections as they stand
+abbrev pub laid_file : Layout → ℕ → File → File
+laid_file l at f = record {
+  role = f.role;
+  first_symbol = f.first_symbol;
+  symbol_count = f.symbol_count;
+  sections = laid_sections l f at f.sections;
+  thunk_block = f.thunk_block;
+  owns_thunk_block = f.owns_thunk_block;
+  lib_name = f.lib_name;
+  copies = f.copies;
+  verneed = f.verneed;
+}
+
+-- how many bytes of frames a file keeps
+abbrev pub file_frames : Layout → File → ℕ
+file_frames l f = total (kept_size l f) f.sections
+
+abbrev pub laid_from : Layout → ℕ → List File → List File
+laid_from l at [] = []
+laid_from l at (f ∷ fs) = laid_file l at f ∷ laid_from l (behind at (file_frames l f)) fs
+
+abbrev pub part_address : Option Part → ℕ
+part_address None = 0
+part_address (Some p) = p.address
+
+-- where the frames of a group begin
+abbrev pub frames_at : Layout → Group → ℕ
+frames_at l g = behind (part_address (part_with role.EhFrame l.parts)) g.eh_frame_start
+
+-- the files of a group with their sections as they stand
+unfoldable pub laid_files : Layout → Group → List File
+laid_files l g = laid_from l (frames_at l g) g.files
+
+-- how many FDEs all files keep
+abbrev pub all_fdes : Layout → ℕ
+all_fdes l = total (λ (g : Group). total (λ (f : File). total (fde_count l f) f.sections) g.files) l.groups
+
+-- ---- sorted sections
+
+-- an input section of the layout with its file
+pub record Input : Type 0 where
+  pub file : File
+  pub section : InputSection
+
+-- a sorted section is written as a loaded one
+abbrev pub as_loaded : InputSection → InputSection
+as_loaded s = record {
+  slot = slot.Loaded;
+  name = s.name;
+  part = s.part;
+  address = s.address;
+  size = s.size;
+  flags = s.flags;
+  nobits = s.nobits;
+  reversed = s.reversed;
+  singleton = s.singleton;
+  target = s.target;
+  members = s.members;
+  bytes = s.bytes;
+  strings = s.strings;
+  relocations = s.relocations;
+}
+
+abbrev pub sorted_by : File → Slot → InputSection → List Input
+sorted_by f slot.Sorted s = record { file = f; section = as_loaded s } ∷ []
+sorted_by f other s = []
+
+abbrev pub sorted_in_file : File → Option InputSection → List Input
+sorted_in_file f None = []
+sorted_in_file f (Some s) = sorted_by f s.slot s
+
+abbrev pub sorted_in_group : Option File → ℕ → List Input
+sorted_in_group None k = []
+sorted_in_group (Some f) k = sorted_in_file f (slice_get f.sections k)
+
+abbrev pub files_at : Option Group → List File
+files_at None = []
+files_at (Some g) = g.files
+
+-- the section that is named, where it is a sorted one
+unfoldable pub sorted_input : Layout → SortedSection → List Input
+sorted_input l x = sorted_in_group (slice_get (files_at (slice_get l.groups x.group)) x.file) x.section
+
+-- the sorted sections in their order, each with its file
+abbrev pub sorted_inputs : Layout → List Input
+sorted_inputs l = flat_map (sorted_input l) l.sorted
+
+-- as they stand
+abbrev pub sorted_sections : Layout → List InputSection
+sorted_sections l = map (λ (x : Input). as_turned x.section) (sorted_inputs l)
+
+-- they are the last file's
+abbrev pub of_last_file : {X : Type 0} → File → List X → List X
+of_last_file f xs = if is_epilogue f.role then xs else []
+
+-- the sections whose entries a file writes, of a file whose sections are as they stand
+abbrev pub processed : Layout → File → List InputSection
+processed l f = f.sections ++ of_last_file f (sorted_sections l)

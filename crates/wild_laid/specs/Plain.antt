@@ -1,0 +1,26 @@
+-- Files of which nothing moves.
+--   StandsAsItIs s     the section is none of frames, and its words are not reversed
+--   StandAsTheyAre f   so is each of a file
+use Rattle.std.specs.Prelude.{◌≡◌, ℕ, false, All}
+use Rattle.wild_types.specs.declared.input.InputSection.{InputSection}
+use Rattle.wild_types.specs.declared.file.File.{File}
+use Rattle.wild_types.specs.declared.file.Group.{Group}
+use Rattle.wild_types.specs.declared.layout.Layout.{Layout}
+use Rattle.wild_types.specs.Lookups.{is_frame}
+use Rattle.wild_laid.specs.Laid.{laid_file, laid_files}
+
+-- the section is none of frames, and its words are not reversed
+pub record StandsAsItIs (s : InputSection) : Type 0 where
+  pub frame : is_frame s.slot ≡ false
+  pub reversed : s.reversed ≡ false
+
+abbrev pub StandAsTheyAre : File → Type 0
+StandAsTheyAre f = All StandsAsItIs f.sections
+
+-- such a file stands as it is
+abbrev pub PlainFileStands : Type 0
+PlainFileStands = (l : Layout) (at : ℕ) (f : File) → StandAsTheyAre f → laid_file l at f ≡ f
+
+-- and so do the files of a group
+abbrev pub PlainFilesStand : Type 0
+PlainFilesStand = (l : Layout) (g : Group) → All StandAsTheyAre g.files → laid_files l g ≡ g.files

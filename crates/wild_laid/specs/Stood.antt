@@ -1,0 +1,113 @@
+-- What the code knows of a section as it stands.
+--   stood_section l f at s   a section of file f with its relocations as the input has them, and the fault of its frames
+--   stood_sorted s           the same of a sorted section
+--   inputs r                 a sorted section with its file, as a loaded one
+--   StaysLow k r             a relocation of a kept entry has a place of 64 bits
+use Rattle.std.specs.List.{flat_map}
+use Rattle.std.specs.Prelude.{◌≡◌, ℕ, false, length, ◌+◌, ◌-◌, ◌<◌, ◌^◌, if◌then◌else◌, List, [], ◌∷◌, map, All, Option, Some, None}
+use Rattle.wild_types.specs.declared.input.InputRelocation.{InputRelocation}
+use Rattle.wild_types.specs.declared.input.InputSection.{InputSection}
+use Rattle.wild_types.specs.declared.file.File.{File}
+use Rattle.wild_types.specs.declared.layout.Layout.{Layout}
+use Rattle.wild_types.specs.declared.input.Slot.TheVariants as slot
+use Rattle.wild_types.specs.Lookups.{is_frame}
+use Rattle.wild_frames.specs.declared.entry.BadFrame.{BadFrame}
+use Rattle.wild_frames.specs.declared.entry.KeptEntry.{KeptEntry}
+use Rattle.wild_frames.specs.declared.entry.Found.{Found}
+use Rattle.wild_frames.specs.declared.entry.Found.TheVariants as finds
+use Rattle.wild_frames.specs.Frames.{Frames, found_bytes}
+use Rattle.wild_frames.specs.Faults.{frame_errors}
+use Rattle.wild_laid.specs.declared.sorted.SortedInput.{SortedInput}
+use Rattle.wild_laid.specs.Turned.{as_turned}
+use Rattle.wild_laid.specs.FrameInputs.{frames_of}
+use Rattle.wild_laid.specs.Laid.{Input, as_loaded, entry_relocations, moved_by, frame_flags, framed, kept_relocations, laid_section, origins_of}
+
+-- a section as it stands, its relocations as the input has them, and the fault that ends its frames
+pub record Stood : Type 0 where
+  pub section : InputSection
+  pub origins : List InputRelocation
+  pub faults : List BadFrame
+
+-- the fault of a section's frames, where it is one of those: one at most
+abbrev pub frame_faults : Layout → File → InputSection → List BadFrame
+frame_faults l f s = if is_frame s.slot then frame_errors (frames_of l f s) else []
+
+abbrev pub stood_section : Layout → File → ℕ → InputSection → Stood
+stood_section l f at s = record { section = laid_section l f at s; origins = origins_of l f s; faults = frame_faults l f s }
+
+-- one of frames
+abbrev pub stood_frames : Layout → File → ℕ → InputSection → Stood
+stood_frames l f at s = record { section = framed l f at s; origins = kept_relocations (frames_of l f s); faults = frame_errors (frames_of l f s) }
+
+-- one that is loaded
+abbrev pub stood_loaded : InputSection → Stood
+stood_loaded s = record { section = as_turned s; origins = s.relocations; faults = [] }
+
+-- one that stands as it is
+abbrev pub stood_plain : InputSection → Stood
+stood_plain s = record { section = s; origins = s.relocations; faults = [] }
+
+abbrev pub stood_sorted : InputSection → Stood
+stood_sorted s = record { section = as_turned (as_loaded s); origins = s.relocations; faults = [] }
+
+-- a sorted section that was found, as a loaded one
+abbrev pub inputs : Option SortedInput → List Input
+inputs None = []
+inputs (Some x) = record { file = x.file.now; section = as_loaded x.section.now } ∷ []
+
+-- the new place of a relocation of a kept entry has 64 bits
+abbrev pub StaysLow : KeptEntry → InputRelocation → Type 0
+StaysLow k r = k.to + (r.offset - k.from) < 2 ^ 64
+
+abbrev pub StayLow : List InputRelocation → Found → Type 0
+StayLow own (finds.Kept k) = All (StaysLow k) own
+StayLow own _ = Unit {0}
+
+-- relocations of what was found, at their new places
+abbrev pub found_moved : List InputRelocation → Found → List InputRelocation
+found_moved own (finds.Kept k) = map (moved_by k) own
+found_moved own _ = []
+
+-- its relocations, as the input has them
+abbrev pub found_kept : Frames → Found → List InputRelocation
+found_kept s (finds.Kept k) = entry_relocations s k
+found_kept s _ = []
+
+-- and at their new places
+abbrev pub found_laid : Frames → Found → List InputRelocation
+found_laid s f = found_moved (found_kept s f) f
+
+-- relocations, where what was found is kept
+abbrev pub own_kept : List InputRelocation → Found → List InputRelocation
+own_kept own (finds.Kept k) = own
+own_kept own _ = []
+
+-- the fault that was met
+abbrev pub fault_after : Option BadFrame → Found → Option BadFrame
+fault_after fault (finds.Bad w at) = Some (record { why = w; offset = at })
+fault_after fault _ = fault
+
+-- what is kept of frames: bytes, and relocations as the input has them and at their new places
+pub record AreKept (s : Frames) (fs : List Found) (bytes : List ℕ) (origins moved : List InputRelocation) : Type 0 where
+  pub written : bytes ≡ flat_map (found_bytes s) fs
+  pub from : origins ≡ flat_map (found_kept s) fs
+  pub to : moved ≡ flat_map (found_laid s) fs
+
+-- a section of frames, by its kept bytes and its relocations at their new places
+abbrev pub framed_by : InputSection → ℕ → List ℕ → List InputRelocation → InputSection
+framed_by s at bytes moved = record {
+  slot = slot.Frame;
+  name = [];
+  part = s.part;
+  address = at;
+  size = length bytes;
+  flags = frame_flags s.flags;
+  nobits = false;
+  reversed = false;
+  singleton = None;
+  target = 0;
+  members = [];
+  bytes = bytes;
+  strings = [];
+  relocations = moved;
+}

@@ -1,0 +1,174 @@
+//! The one walk over the relocations of a section as it stands. What is done with each is a sink's. It takes no memory.
+ghost use Rattle.std.specs.Prelude.{◌≡◌, ℕ, map, All};
+ghost use Rattle.std.specs.List.{flat_map};
+ghost use Rattle.wild_frames.specs.Frames.{rest_of, start};
+ghost use Rattle.wild_frames.specs.Passes.{IsReady};
+ghost use Rattle.wild_laid.specs.Turned.{turned_offset, as_turned};
+ghost use Rattle.wild_laid.specs.FrameInputs.{frames_of};
+ghost use Rattle.wild_laid.specs.Laid.{moved_by, laid_relocations, laid_section};
+ghost use Rattle.wild_laid.specs.Stood.{StaysLow, StayLow, found_moved, found_laid};
+ghost use Rattle.wild_laid.specs.Runs.{Ran};
+
+use crate::frames::FileFrames;
+use crate::kept::moved_by;
+use crate::words::turned_offset;
+use wild_frames::{Found, FrameSource, KeptEntry, Pass, goes_on};
+use wild_types::{File, InputRelocation, InputSection, Layout, Slot};
+
+/// Where relocations go, one after another.
+pub trait RelocationSink {
+    ghost use Rattle.std.specs.Prelude.{[], ◌∷◌};
+    ghost use Rattle.wild_types.specs.declared.input.InputRelocation.{InputRelocation};
+    ghost use Rattle.wild_laid.specs.Runs.{Ran};
+
+    /// Why a relocation is refused.
+    type Error: Drop;
+
+    /// From one state to another, with the relocation taken.
+    ghost goes: { Self → InputRelocation → Self → Type 0 };
+
+    /// In a state the relocation is refused for a reason, which leaves a state.
+    ghost refuses: { Self → InputRelocation → Self.Error → Self → Type 0 };
+
+    /// Takes the relocation, or refuses it.
+    fn take(&mut self, relocation: InputRelocation) -> Result<(), Self::Error>
+        ensures { Ran goes refuses self.old (relocation ∷ []) result self.new };
+}
+
+/// Gives relocations as they are.
+#[inline(always)]
+#[tactic(auto, using(crate::proofs::RunLemmas::item_loops))]
+fn give_all<S: RelocationSink>(
+    relocations: &[InputRelocation],
+    sink: &mut S,
+) -> Result<(), S::Error>
+    ensures { Ran S.goes S.refuses sink.old relocations.now result sink.new }
+{
+    for relocation in relocations {
+        sink.take(*relocation)?;
+    }
+    Ok(())
+}
+
+/// Gives relocations at the new places of their words, of a section of `size` bytes.
+#[inline(always)]
+#[tactic(auto, using(crate::proofs::RunLemmas::mapped_loops))]
+fn give_reversed<S: RelocationSink>(
+    size: u64,
+    relocations: &[InputRelocation],
+    sink: &mut S,
+) -> Result<(), S::Error>
+    ensures { Ran S.goes S.refuses sink.old (map (turned_offset size) relocations.now) result sink.new }
+{
+    for relocation in relocations {
+        sink.take(turned_offset(size, *relocation))?;
+    }
+    Ok(())
+}
+
+/// Gives the relocations of a section that is loaded or sorted, as it stands.
+#[inline(always)]
+#[tactic(auto, unfolding(crate::specs::Turned::as_turned))]
+pub fn give_turned<S: RelocationSink>(section: &InputSection, sink: &mut S) -> Result<(), S::Error>
+    ensures { Ran S.goes S.refuses sink.old (as_turned section.now).relocations result sink.new }
+{
+    let relocations = section.relocations.as_slice();
+    if section.reversed {
+        give_reversed(section.size, relocations, sink)
+    } else {
+        give_all(relocations, sink)
+    }
+}
+
+/// Gives relocations of a kept entry at its new place.
+#[inline(always)]
+#[tactic(auto, using(crate::proofs::RunLemmas::mapped_loops))]
+fn give_moved<S: RelocationSink>(
+    entry: &KeptEntry,
+    relocations: &[InputRelocation],
+    sink: &mut S,
+) -> Result<(), S::Error>
+    requires { All (StaysLow entry.now) relocations.now }
+    ensures { Ran S.goes S.refuses sink.old (map (moved_by entry.now) relocations.now) result sink.new }
+{
+    for relocation in relocations {
+        sink.take(moved_by(entry, *relocation))?;
+    }
+    Ok(())
+}
+
+/// Gives those of what was found.
+#[inline(always)]
+#[tactic(auto, using(crate::proofs::RunLemmas::runs))]
+fn give_found<S: RelocationSink>(
+    found: &Found,
+    relocations: &[InputRelocation],
+    sink: &mut S,
+) -> Result<(), S::Error>
+    requires { StayLow relocations.now found.now }
+    ensures { Ran S.goes S.refuses sink.old (found_moved relocations.now found.now) result sink.new }
+{
+    match found {
+        Found::Kept { entry } => give_moved(entry, relocations, sink),
+        Found::End | Found::Tail { .. } | Found::Bad { .. } | Found::Dropped { .. } => Ok(()),
+    }
+}
+
+/// Gives those of the entries from the start of a walk on.
+#[inline(always)]
+fn give_kept<S: RelocationSink>(
+    frames: &FileFrames<'_>,
+    first: Pass,
+    sink: &mut S,
+) -> Result<(), S::Error>
+    requires { IsReady (frames_of frames.now.layout.now frames.now.file.now frames.now.section.now) first }
+    ensures { Ran S.goes S.refuses sink.old (flat_map (found_laid (frames_of frames.now.layout.now frames.now.file.now frames.now.section.now)) (rest_of (frames_of frames.now.layout.now frames.now.file.now frames.now.section.now) start)) result sink.new }
+{
+    let _room = frames.bytes().len();
+    let mut walk = first;
+    loop {
+        let from = walk.relocation;
+        let found = walk.step(frames);
+        let relocations = &frames.relocations()[from..walk.relocation];
+        give_found(&found, relocations, sink)?;
+        if !goes_on(&found) {
+            return Ok(());
+        }
+    }
+}
+
+/// Gives those of frames.
+#[inline(always)]
+fn give_frames<S: RelocationSink>(frames: &FileFrames<'_>, sink: &mut S) -> Result<(), S::Error>
+    ensures { Ran S.goes S.refuses sink.old (laid_relocations (frames_of frames.now.layout.now frames.now.file.now frames.now.section.now)) result sink.new }
+{
+    match Pass::start(frames) {
+        Ok(walk) => give_kept(frames, walk, sink),
+        Err(_) => Ok(()),
+    }
+}
+
+/// Gives the relocations of a section of a file as it stands in the output, one after another, without taking memory.
+#[inline(always)]
+#[tactic(auto, unfolding(crate::specs::Laid::laid_section))]
+pub fn give_relocations<S: RelocationSink>(
+    layout: &Layout,
+    file: &File,
+    section: &InputSection,
+    sink: &mut S,
+) -> Result<(), S::Error>
+    ensures { (at : ℕ) → Ran S.goes S.refuses sink.old (laid_section layout.now file.now at section.now).relocations result sink.new }
+{
+    match section.slot {
+        Slot::Frame => give_frames(
+            &FileFrames {
+                layout,
+                file,
+                section,
+            },
+            sink,
+        ),
+        Slot::Loaded => give_turned(section, sink),
+        _ => give_all(section.relocations.as_slice(), sink),
+    }
+}

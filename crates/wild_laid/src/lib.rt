@@ -1,0 +1,19 @@
+//! Input sections as they stand in the output: frames one behind the other, and the words of reversed sections turned.
+#![tactic(auto)]
+
+mod counts;
+mod frames;
+mod give;
+mod kept;
+mod laws;
+mod placed;
+mod sorted;
+mod words;
+
+pub use counts::{all_fdes, fde_count, file_frames, frames_at, kept_size};
+pub use frames::FileFrames;
+pub use give::{RelocationSink, give_relocations, give_turned};
+pub use kept::frame_flags;
+pub use laws::plain_files_stand;
+pub use placed::{LaidSection, lay, lay_sorted};
+pub use sorted::{SortedInput, sorted_input};

@@ -1,0 +1,38 @@
+//! Sections that stand in an order of their own.
+ghost use Rattle.std.specs.Prelude.{◌≡◌, Some};
+ghost use Rattle.wild_types.specs.declared.input.Slot.TheVariants as slot;
+ghost use Rattle.wild_laid.specs.Laid.{sorted_in_group, sorted_in_file, sorted_input};
+ghost use Rattle.wild_laid.specs.Stood.{inputs};
+
+use wild_types::{File, InputSection, Layout, Slot, SortedSection};
+
+/// A sorted section with its file.
+#[derive(Clone, Copy)]
+pub struct SortedInput<'a> {
+    pub file: &'a File,
+    pub section: &'a InputSection,
+}
+
+/// The section at that place of a file, where it is a sorted one.
+fn sorted_in_file(file: &File, section: usize) -> Option<SortedInput<'_>>
+    ensures { inputs result ≡ sorted_in_group (Some file.now) section }
+{
+    let found = file.sections.as_slice().get(section)?;
+    match found.slot {
+        Slot::Sorted => Some(SortedInput {
+            file,
+            section: found,
+        }),
+        _ => None,
+    }
+}
+
+/// The section that is named, where it is a sorted one.
+#[tactic(auto, unfolding(crate::specs::Laid::sorted_input))]
+pub fn sorted_input(layout: &Layout, entry: SortedSection) -> Option<SortedInput<'_>>
+    ensures { inputs result ≡ sorted_input layout.now entry }
+{
+    let group = layout.groups.as_slice().get(entry.group)?;
+    let file = group.files.as_slice().get(entry.file)?;
+    sorted_in_file(file, entry.section)
+}

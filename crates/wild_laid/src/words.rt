@@ -1,0 +1,75 @@
+//! Sections whose words stand in reverse order.
+ghost use Rattle.std.specs.Prelude.{◌≡◌, IfOk, map};
+ghost use Rattle.wild_laid.specs.Turned.{word_size, turned_bytes, turned_offset, turned};
+
+use std::alloc::{AllocError, Global};
+use wild_types::{InputRelocation, InputSection};
+use wild_words::{Bytes, Items};
+
+/// The bytes of a word.
+const WORD_SIZE: u64 = 8;
+
+/// The relocation at the new place of its word, in a section of that size.
+pub(crate) fn turned_offset(size: u64, relocation: InputRelocation) -> InputRelocation
+    ensures { result ≡ turned_offset size relocation }
+{
+    InputRelocation {
+        offset: size
+            .saturating_sub(relocation.offset)
+            .saturating_sub(WORD_SIZE),
+        ..relocation
+    }
+}
+
+/// The words of a section, the last first.
+#[tactic(auto, unfolding(crate::specs::Turned::turned_bytes))]
+fn turned_bytes(alloc: Global, bytes: &[u8]) -> Result<Vec<u8>, AllocError>
+    ensures { IfOk result (λ v. v.items ≡ turned_bytes bytes.now) }
+{
+    let size = WORD_SIZE as usize;
+    let mut turned = Vec::with_capacity(alloc, bytes.len())?;
+    for i in 0..bytes.len() / size {
+        let end = bytes.len() - size * i;
+        turned.extend_from_slice(&bytes[end - size..end])?;
+    }
+    Ok(turned)
+}
+
+/// Relocations at the new places of their words.
+fn turned_relocations(
+    alloc: Global,
+    size: u64,
+    relocations: &[InputRelocation],
+) -> Result<Vec<InputRelocation>, AllocError>
+    ensures { IfOk result (λ v. v.items ≡ map (turned_offset size) relocations.now) }
+{
+    let mut turned = relocations.to_vec(alloc)?;
+    for i in 0..turned.len() {
+        turned[i] = turned_offset(size, turned[i]);
+    }
+    Ok(turned)
+}
+
+/// The section as it stands.
+pub(crate) fn turned(alloc: Global, section: &InputSection) -> Result<InputSection, AllocError>
+    ensures { IfOk result (λ s. s ≡ turned section.now) }
+{
+    let bytes = turned_bytes(alloc, section.bytes.as_slice())?;
+    let relocations = turned_relocations(alloc, section.size, section.relocations.as_slice())?;
+    Ok(InputSection {
+        slot: section.slot,
+        name: Bytes::new(alloc),
+        part: section.part,
+        address: section.address,
+        size: section.size,
+        flags: section.flags,
+        nobits: section.nobits,
+        reversed: false,
+        singleton: None,
+        target: 0,
+        members: Items::new(alloc),
+        bytes: Bytes::from_vec(bytes),
+        strings: Items::new(alloc),
+        relocations: Items::from_vec(relocations),
+    })
+}

@@ -1,0 +1,73 @@
+-- The search table of the frames of all files (LSB, "The .eh_frame_hdr section").
+--   code_of l fs k         where the code begins that an FDE is of
+--   layout_fdes l          the FDEs that are kept, in the order of the files, each with its address
+--   search_table l         the table, where the option asks for one
+--   search_table_faults l  what is too far from it
+use Rattle.std.specs.Prelude.{ℕ, if◌then◌else◌, List, [], ◌∷◌, ◌++◌, map}
+use Rattle.std.specs.List.{flat_map}
+use Rattle.wild_types.specs.declared.fault.Fault.{Fault}
+use Rattle.wild_types.specs.declared.fault.Fault.TheVariants as faults
+use Rattle.wild_types.specs.declared.part.Role.{Role}
+use Rattle.wild_types.specs.declared.part.Role.TheVariants as role
+use Rattle.wild_types.specs.declared.input.InputRelocation.{InputRelocation}
+use Rattle.wild_types.specs.declared.input.InputSection.{InputSection}
+use Rattle.wild_types.specs.declared.file.File.{File}
+use Rattle.wild_types.specs.declared.file.Group.{Group}
+use Rattle.wild_types.specs.declared.layout.Layout.{Layout}
+use Rattle.wild_types.specs.Lookups.{is_frame}
+use Rattle.wild_types.specs.Parts.{part_with}
+use Rattle.wild_frames.specs.declared.entry.KeptEntry.{KeptEntry}
+use Rattle.wild_frames.specs.declared.table.Fde.{Fde}
+use Rattle.wild_frames.specs.declared.table.TableError.{TableError}
+use Rattle.wild_frames.specs.declared.table.TableError.TheVariants as table_error
+use Rattle.wild_frames.specs.Frames.{Frames, fdes_in}
+use Rattle.wild_frames.specs.Table.{table_of, table_errors}
+use Rattle.wild_laid.specs.FrameInputs.{frames_of, kept_size}
+use Rattle.wild_laid.specs.Laid.{entry_relocations, file_frames, frames_at, behind, part_address}
+use Rattle.wild_layout.specs.SymbolValues.{sum, raw_address}
+use Rattle.wild_layout.specs.Moved.{or_zero}
+
+-- S + A of the relocation that stands where the code's address does
+abbrev pub code_at : Layout → List InputRelocation → ℕ
+code_at l [] = 0
+code_at l (r ∷ rs) = sum (or_zero (raw_address l r.symbol)) r.addend
+
+-- where the code begins that an FDE is of (LSB, PC Begin): that is its first relocation
+abbrev pub code_of : Layout → Frames → KeptEntry → ℕ
+code_of l fs k = code_at l (entry_relocations fs k)
+
+-- an FDE of frames that stand from an address on
+abbrev pub fde_at : Layout → Frames → ℕ → KeptEntry → Fde
+fde_at l fs at k = record { code = code_of l fs k; address = behind at k.to }
+
+abbrev pub section_fdes : Layout → File → ℕ → InputSection → List Fde
+section_fdes l f at s = if is_frame s.slot then map (fde_at l (frames_of l f s) at) (fdes_in (frames_of l f s)) else []
+
+abbrev pub sections_fdes : Layout → File → ℕ → List InputSection → List Fde
+sections_fdes l f at [] = []
+sections_fdes l f at (s ∷ ss) = section_fdes l f at s ++ sections_fdes l f (behind at (kept_size l f s)) ss
+
+abbrev pub files_fdes : Layout → ℕ → List File → List Fde
+files_fdes l at [] = []
+files_fdes l at (f ∷ fs) = sections_fdes l f at f.sections ++ files_fdes l (behind at (file_frames l f)) fs
+
+abbrev pub group_fdes : Layout → Group → List Fde
+group_fdes l g = files_fdes l (frames_at l g) g.files
+
+unfoldable pub layout_fdes : Layout → List Fde
+layout_fdes l = flat_map (group_fdes l) l.groups
+
+abbrev pub address_of_role : Layout → Role → ℕ
+address_of_role l r = part_address (part_with r l.parts)
+
+-- the table, where the option asks for one
+unfoldable pub search_table : Layout → List ℕ
+search_table l = if l.options.eh_frame_hdr then table_of (address_of_role l role.EhFrameHdr) (address_of_role l role.EhFrame) (layout_fdes l) else []
+
+abbrev pub fault_of : TableError → Fault
+fault_of (table_error.FrameOffsetOverflow v) = faults.FrameOffsetOverflow v
+fault_of table_error.OutOfMemory = faults.OutOfMemory
+
+-- what is too far from it
+unfoldable pub search_table_faults : Layout → List Fault
+search_table_faults l = if l.options.eh_frame_hdr then map fault_of (table_errors (address_of_role l role.EhFrameHdr) (address_of_role l role.EhFrame) (layout_fdes l)) else []

@@ -1,0 +1,5 @@
+use Rattle.wild_meaning.proofs.StringsRefused.{strings_judged, reversed_judged}
+use Rattle.wild_meaning.proofs.laws.strings_and_reversed_words_are_judged.Goals as goal
+
+pub returns : goal.returns
+returns c = record { strings = strings_judged; reversed = reversed_judged }

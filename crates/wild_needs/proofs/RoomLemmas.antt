@@ -1,0 +1,42 @@
+-- Frames as they stand have the bytes that are kept.
+use Rattle.std.proofs.Common.{◌≡◌, ℕ, ◌+◌, List, [], ◌∷◌, refl, arith}
+use Rattle.wild_types.specs.declared.file.File.{File}
+use Rattle.wild_types.specs.declared.input.InputSection.{InputSection}
+use Rattle.wild_types.specs.declared.input.Slot.{Slot}
+use Rattle.wild_types.specs.declared.input.Slot.TheVariants as slot
+use Rattle.wild_types.specs.declared.layout.Layout.{Layout}
+use Rattle.std.specs.Prelude.{if◌then◌else◌, length}
+use Rattle.std.proofs.lemmas.Bool.{cases_Bool}
+use Rattle.std.proofs.Common.{inl, inr}
+use Rattle.wild_types.specs.Lists.{total}
+use Rattle.wild_types.specs.Lookups.{is_frame}
+use Rattle.wild_frames.specs.Frames.{frame_bytes}
+use Rattle.wild_laid.specs.Turned.{as_turned}
+use Rattle.wild_laid.specs.FrameInputs.{frames_of, kept_size}
+use Rattle.wild_laid.specs.Laid.{laid_by, behind, laid_section, laid_sections}
+use Rattle.wild_needs.specs.Needs.{frame_room}
+
+-- a loaded section is none of frames
+turned_room : (s : InputSection) → s.slot ≡ slot.Loaded → frame_room (as_turned s) ≡ 0
+unfolding as_turned
+turned_room s h =
+    elim (cases_Bool s.reversed) [
+      | inl t ↦ rw (t, h) refl
+      | inr f ↦ rw (f, h) refl
+    ]
+
+section_room : (l : Layout) (f : File) (at : ℕ) (s : InputSection) → frame_room (laid_section l f at s) ≡ kept_size l f s
+unfolding laid_section kept_size
+section_room l f at s = by_slot s.slot refl
+  where
+    by_slot : (k : Slot) → s.slot ≡ k → frame_room (laid_by k l f at s) ≡ (if is_frame k then length (frame_bytes (frames_of l f s)) else 0)
+    by_slot slot.Loaded h = turned_room s h
+    by_slot slot.Frame h = refl
+    by_slot other h = rw h refl
+
+pub frames_kept : (l : Layout) (f : File) (at : ℕ) (ss : List InputSection) → total frame_room (laid_sections l f at ss) ≡ total (kept_size l f) ss
+frames_kept l f at [] = refl
+frames_kept l f at (s ∷ ss) =
+    let here = section_room l f at s in
+    let rest = frames_kept l f (behind at (kept_size l f s)) ss in
+    omega (arith, here, rest)

@@ -1,0 +1,279 @@
+//! How many entries and words for a loader the sections of a file have, as they stand in the output.
+ghost use Rattle.std.specs.Prelude.{◌≡◌, ℕ, ◌+◌, ◌-◌, ◌^◌, ◌≤◌, ◌∷◌, true, min, map, List};
+ghost use Rattle.wild_types.specs.declared.file.File.{File};
+ghost use Rattle.wild_types.specs.declared.input.InputRelocation.{InputRelocation};
+ghost use Rattle.wild_types.specs.declared.layout.Layout.{Layout};
+ghost use Rattle.wild_types.specs.Lists.{total};
+ghost use Rattle.wild_laid.specs.Laid.{Input, sorted_input, behind, laid_section, laid_sections, laid_file, sorted_sections, as_loaded, of_last_file, processed};
+ghost use Rattle.wild_laid.specs.FrameInputs.{kept_size};
+ghost use Rattle.wild_laid.specs.Turned.{as_turned};
+ghost use Rattle.wild_needs.specs.Tallies.{standing_of, counted_in, asks, reads_places, rest_of, tallied};
+ghost use Rattle.wild_relr.specs.declared.run.Run.TheVariants.{Closed};
+
+use crate::entries::{count_place, is_left_by, is_listed_at, packed_at};
+use std::convert::Infallible;
+use wild_laid::{
+    RelocationSink, frame_flags, give_relocations, give_turned, kept_size, sorted_input,
+};
+use wild_relr::{Run, runs_are_counted};
+use wild_types::{File, InputRelocation, InputSection, Layout, SortedSection, is_allocated};
+
+/// What is counted.
+#[derive(Clone, Copy)]
+pub(crate) enum Counted {
+    /// The addresses that move and have an entry with an addend.
+    Listed,
+    /// The words that pack the others.
+    Packed,
+    /// The fields that are left to entries which name a symbol or a resolver.
+    Left,
+}
+
+impl Counted {
+    /// Whether where a section stands tells how many it has: places are packed, or have an entry where they are odd.
+    fn reads_places(self, layout: &Layout) -> bool
+        ensures { result ≡ reads_places self layout.now }
+    {
+        match self {
+            Counted::Listed | Counted::Packed => {
+                layout.kind.is_position_independent() && layout.options.relr
+            }
+            Counted::Left => false,
+        }
+    }
+}
+
+/// What is asked of a section as it stands.
+#[derive(Clone, Copy)]
+struct Standing {
+    flags: u64,
+    address: u64,
+    is_read: bool,
+}
+
+impl Standing {
+    /// Of a section of a file, whose next frames stand at an address.
+    #[tactic(auto, using(crate::proofs::TallyLemmas::stands))]
+    fn of(at: u64, section: &InputSection) -> Standing
+        ensures { (l : Layout) (f : File) → result ≡ standing_of (laid_section l f at section.now) }
+    {
+        if section.slot.is_frame() {
+            Standing {
+                flags: frame_flags(section.flags),
+                address: at,
+                is_read: true,
+            }
+        } else {
+            Standing {
+                flags: section.flags,
+                address: section.address,
+                is_read: section.is_read(),
+            }
+        }
+    }
+
+    /// Of a section that stands in a given order.
+    #[tactic(auto, using(crate::proofs::TallyLemmas::stands))]
+    fn sorted(section: &InputSection) -> Standing
+        ensures { result ≡ standing_of (as_turned (as_loaded section.now)) }
+    {
+        Standing {
+            flags: section.flags,
+            address: section.address,
+            is_read: !section.nobits,
+        }
+    }
+}
+
+/// Whether a section may have some.
+#[inline(always)]
+fn asks(kind: Counted, layout: &Layout, standing: Standing) -> bool
+    ensures { result ≡ asks kind layout.now standing }
+{
+    match kind {
+        Counted::Listed | Counted::Packed => {
+            layout.kind.is_position_independent() && standing.is_read
+        }
+        Counted::Left => standing.is_read && is_allocated(standing.flags),
+    }
+}
+
+/// What is counted of the relocations of a section, at most 2^64 - 1.
+#[derive(Drop)]
+struct Tally<'a> {
+    layout: &'a Layout,
+    kind: Counted,
+    standing: Standing,
+    /// Where the words stand that pack the section's places.
+    run: Run,
+    count: u64,
+}
+
+impl<'a> Tally<'a> {
+    /// Nothing is counted so far.
+    #[inline(always)]
+    fn new(kind: Counted, layout: &'a Layout, standing: Standing) -> Tally<'a>
+        ensures none { result.count ≡ 0 }
+        ensures first { (rs : List InputRelocation) → tallied result rs ≡ min (2 ^ 64 - 1) (rest_of kind layout.now standing Closed rs) }
+    {
+        Tally {
+            layout,
+            kind,
+            standing,
+            run: Run::Closed,
+            count: 0,
+        }
+    }
+
+    /// What a relocation adds, and where the words stand behind it.
+    #[inline(always)]
+    #[tactic(auto, using(crate::proofs::TallyLemmas::steps))]
+    fn step(&self, relocation: &InputRelocation) -> (usize, Run)
+        ensures { (rs : List InputRelocation) → result.0 + rest_of self.now.kind self.now.layout.now self.now.standing result.1 rs ≡ rest_of self.now.kind self.now.layout.now self.now.standing self.now.run (relocation.now ∷ rs) }
+    {
+        let Standing { flags, address, .. } = self.standing;
+        match self.kind {
+            Counted::Listed => {
+                let is_listed = is_listed_at(self.layout, flags, address, relocation);
+                (usize::from(is_listed), self.run)
+            }
+            Counted::Packed => {
+                count_place(self.run, packed_at(self.layout, flags, address, relocation))
+            }
+            Counted::Left => {
+                let is_left = is_left_by(self.layout, flags, relocation);
+                (usize::from(is_left), self.run)
+            }
+        }
+    }
+}
+
+impl RelocationSink for Tally<'_> {
+    ghost use Rattle.wild_needs.specs.Tallies.{Tallies};
+
+    type Error = Infallible;
+
+    ghost goes = { Tallies };
+
+    ghost refuses = { λ a x e b. ⊥ };
+
+    #[inline(always)]
+    #[tactic(auto, using(crate::proofs::TallyLemmas::tallies))]
+    fn take(&mut self, relocation: InputRelocation) -> Result<(), Infallible> {
+        let (more, run) = self.step(&relocation);
+        self.count = self.count.saturating_add(more as u64);
+        self.run = run;
+        Ok(())
+    }
+}
+
+/// How many entries or words of that kind a section has, at most 2^64 - 1.
+#[inline(always)]
+#[tactic(auto, using(crate::proofs::TallyLemmas::tallies))]
+fn count_section(
+    kind: Counted,
+    layout: &Layout,
+    at: u64,
+    file: &File,
+    section: &InputSection,
+) -> u64
+    ensures { result ≡ min (2 ^ 64 - 1) (counted_in kind layout.now (laid_section layout.now file.now at section.now)) }
+{
+    let standing = Standing::of(at, section);
+    if !asks(kind, layout, standing) {
+        return 0;
+    }
+    runs_are_counted();
+    let mut tally = Tally::new(kind, layout, standing);
+    match give_relocations(layout, file, section, &mut tally) {
+        Ok(()) => tally.count,
+        Err(never) => match never {},
+    }
+}
+
+/// The same of a section that stands in a given order.
+#[tactic(auto, using(crate::proofs::TallyLemmas::tallies))]
+fn count_turned(kind: Counted, layout: &Layout, section: &InputSection) -> u64
+    ensures { result ≡ min (2 ^ 64 - 1) (counted_in kind layout.now (as_turned (as_loaded section.now))) }
+{
+    let standing = Standing::sorted(section);
+    if !asks(kind, layout, standing) {
+        return 0;
+    }
+    runs_are_counted();
+    let mut tally = Tally::new(kind, layout, standing);
+    match give_turned(section, &mut tally) {
+        Ok(()) => tally.count,
+        Err(never) => match never {},
+    }
+}
+
+/// Where the frames behind those of a section begin, as far as it is asked where sections stand.
+#[inline(always)]
+fn behind_section(
+    kind: Counted,
+    layout: &Layout,
+    at: u64,
+    file: &File,
+    section: &InputSection,
+) -> u64
+    ensures { reads_places kind layout.now ≡ true → result ≡ behind at (kept_size layout.now file.now section.now) }
+{
+    if kind.reads_places(layout) {
+        at.wrapping_add(kept_size(layout, file, section))
+    } else {
+        at
+    }
+}
+
+/// The sum over the sections of a file whose frames begin at an address, at most 2^64 - 1.
+#[inline(always)]
+#[tactic(auto, using(crate::proofs::TallyLemmas::section_loops))]
+pub(crate) fn count_sections(kind: Counted, layout: &Layout, at: u64, file: &File) -> u64
+    ensures { result ≡ min (2 ^ 64 - 1) (total (counted_in kind layout.now) (laid_sections layout.now file.now at file.now.sections)) }
+{
+    let mut sum: u64 = 0;
+    let mut at = at;
+    for section in file.sections.as_slice() {
+        sum = sum.saturating_add(count_section(kind, layout, at, file, section));
+        at = behind_section(kind, layout, at, file, section);
+    }
+    sum
+}
+
+/// The same of the section that is named, where it is one that stands in a given order.
+fn count_named(kind: Counted, layout: &Layout, entry: SortedSection) -> u64
+    ensures { result ≡ min (2 ^ 64 - 1) (total (counted_in kind layout.now) (map (λ (x : Input). as_turned x.section) (sorted_input layout.now entry))) }
+{
+    match sorted_input(layout, entry) {
+        Some(input) => count_turned(kind, layout, input.section),
+        None => 0,
+    }
+}
+
+/// The sum over the sections that stand in a given order, at most 2^64 - 1.
+#[tactic(auto, using(crate::proofs::TallyLemmas::sorted_loops))]
+pub(crate) fn count_sorted(kind: Counted, layout: &Layout) -> u64
+    ensures { result ≡ min (2 ^ 64 - 1) (total (counted_in kind layout.now) (sorted_sections layout.now)) }
+{
+    let mut sum: u64 = 0;
+    for entry in layout.sorted.as_slice() {
+        sum = sum.saturating_add(count_named(kind, layout, *entry));
+    }
+    sum
+}
+
+/// How many entries or words of that kind a file has whose frames begin at an address, at most 2^64 - 1: the last one has those of
+/// the sections besides that stand in a given order.
+#[inline(always)]
+#[tactic(auto, using(crate::proofs::TallyLemmas::sums))]
+pub(crate) fn count_processed(kind: Counted, layout: &Layout, at: u64, file: &File) -> u64
+    ensures { result ≡ min (2 ^ 64 - 1) (total (counted_in kind layout.now) (processed layout.now (laid_file layout.now at file.now))) }
+{
+    let own = count_sections(kind, layout, at, file);
+    if file.role.is_epilogue() {
+        own.saturating_add(count_sorted(kind, layout))
+    } else {
+        own
+    }
+}

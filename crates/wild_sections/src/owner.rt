@@ -1,0 +1,55 @@
+//! Where the file of a symbol is, for layouts with merged sections.
+ghost use Rattle.std.specs.Prelude.{◌≡◌, ℕ, ◌<◌, length, None, slice_index_or, option_copied};
+ghost use Rattle.std.specs.Option.{option_or};
+ghost use Rattle.wild_sections.specs.Owners.{owned_by, owner_in, owner_among, file_at};
+
+use wild_types::{File, Group, Layout};
+
+/// A group, and the place of a file in it.
+#[derive(Clone, Copy)]
+pub struct Owner {
+    pub group: usize,
+    pub file: usize,
+}
+
+/// Notes the file for its symbols that no earlier file has.
+fn own_file(owner: Owner, file: &File, owners: &mut [Option<Owner>])
+    ensures { (k : ℕ) → k < length owners.old → slice_index_or owners.new k None
+        ≡ option_or (slice_index_or owners.old k None) (owned_by owner file.now k) }
+{
+    let first = file.first_symbol.0;
+    let end = first.saturating_add(file.symbol_count).min(owners.len());
+    for i in first..end {
+        let noted = owners[i];
+        owners[i] = noted.or(Some(owner));
+    }
+}
+
+/// Notes the files of a group.
+fn own_files(group: usize, files: &[File], owners: &mut [Option<Owner>])
+    ensures { (k : ℕ) → k < length owners.old → slice_index_or owners.new k None
+        ≡ option_or (slice_index_or owners.old k None) (owner_in group 0 files.now k) }
+{
+    for i in 0..files.len() {
+        own_file(Owner { group, file: i }, &files[i], owners);
+    }
+}
+
+/// Notes the files of all groups.
+pub(crate) fn own_groups(groups: &[Group], owners: &mut [Option<Owner>])
+    ensures { (k : ℕ) → k < length owners.old → slice_index_or owners.new k None
+        ≡ option_or (slice_index_or owners.old k None) (owner_among 0 groups.now k) }
+{
+    for i in 0..groups.len() {
+        let group = &groups[i];
+        own_files(i, group.files.as_slice(), owners);
+    }
+}
+
+/// The file in that place.
+pub(crate) fn file_at(layout: &Layout, owner: Owner) -> Option<&File>
+    ensures { option_copied result ≡ file_at layout.now owner }
+{
+    let group = layout.groups.as_slice().get(owner.group)?;
+    group.files.as_slice().get(owner.file)
+}
