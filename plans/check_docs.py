@@ -11,7 +11,7 @@
 - Of each member of docs/PLAN.md the example is read, and a float is refused at its path; plans with all defaults written out mean the same.
 - An indented block behind a paragraph that names a plan is in the output of `explain`, or of the words that the paragraph names, for the plan with the
   paragraph's changes. This is left out, and said so, where that program is not there: `cd crates/wild_explain_main && rt run` makes it.
-- The answers and the makers of plans, plans in readable spelling, the statuses of README.md, and what is not known yet.
+- The answers and the makers of plans, plans in readable spelling, and the statuses of README.md.
 - Files and functions that a page names are there.
 """
 import copy
@@ -331,20 +331,6 @@ def fill(value, key, table):
     return whole
 
 
-def not_known():
-    """What docs/PLAN.md calls not known yet is refused at its path."""
-    text = read("docs/PLAN.md").partition("## Not known yet")[2]
-    for name, path in {"plan": "", "options": "/options", "section": "/sections/0", "group": "/groups/0", "input section": f"{FILE}/sections/0", "relocation": f"{FILE}/sections/0/relocations/0"}.items():
-        line = re.search(rf"^- {name}: ([^;\n]*)", text, re.M)[1]
-        for member in re.findall(r"`(\w+)`", line):
-            same(f"docs/PLAN.md: {member}", (3, f"not a plan: {path}/{member}\n"), answer(wrapped(path, {member: 0})))
-    for path, word in re.findall(r"`(machine|kind)` `(\w+)`", text):
-        same(f"docs/PLAN.md: {word}", (3, f"not a plan: /{path}\n"), answer({path: word}))
-    for word in re.findall(r"`(\w+)`", re.search(r"slots ([^\n]*)", text)[1]):
-        path = f"{FILE}/sections/0/slot"
-        same(f"docs/PLAN.md: {word}", (3, f"not a plan: {path}\n"), answer(wrapped(f"{FILE}/sections/0", {"slot": word})))
-
-
 def statuses():
     """The statuses of README.md, where memory is not refused and the plan is not too long."""
     told = {cells[0]: re.findall(r"`([^`]*)`", cells[2]) for _, _, _, heads, cells in rows("README.md") if heads[0] == "Status"}
@@ -380,7 +366,7 @@ def makers():
         for name, text in re.findall(r'const (\w+): &str =\s+r#"(.*?)"#;', read(path)):
             same(path, json.loads(read(f"plans/{name.lower()}.json")), json.loads(text))
     for words, plan in [(["make_hello.py"], "hello"), (["make_pie.py"], "pie"), (["make_slots.py"], "slots"), (["make_rewrites.py"], "rewrites"),
-                        (["make_aarch64.py"], "aarch64"),
+                        (["make_aarch64.py"], "aarch64"), (["make_debug.py"], "debug"), (["make_partial.py"], "partial"),
                         *((["make_shared.py", name], name) for name in ("shared", "uses_shared", "symbols", "frames"))]:
         if plan == "aarch64" and not shutil.which(make_aarch64.ASSEMBLER):
             print(f"left out: plans/{words[0]}: there is no {make_aarch64.ASSEMBLER}")
@@ -433,7 +419,7 @@ if __name__ == "__main__":
     if ONLY_CHANGES:
         changes()
         sys.exit(differences != 0)
-    for check in (answers, statuses, changes, programs, commands, explanations, spelled, members, defaults, not_known, names, makers):
+    for check in (answers, statuses, changes, programs, commands, explanations, spelled, members, defaults, names, makers):
         before = differences
         check()
         print(f"{check.__doc__.splitlines()[0]} {differences - before} differ")

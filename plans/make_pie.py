@@ -9,6 +9,7 @@ The file has what a loader reads, the strings, the code, and the data with the d
 stands a page further on in memory than the one before it. As a linker does, it defines `_DYNAMIC` and `__ehdr_start`,
 and decides which addresses are packed as words (an even place) and which are entries.
 """
+import os
 import subprocess
 import tempfile
 
@@ -22,8 +23,10 @@ FLAGS = "-c -O1 -fPIE -ffreestanding -fno-builtin -fno-strict-aliasing -fno-stac
 
 
 def compiled(source, flags=FLAGS, compiler="gcc"):
+    """The object of a source, made in a folder of its own, which the flags call ROOM."""
     with tempfile.TemporaryDirectory() as room:
-        subprocess.run([compiler, *flags.split(), "-o", f"{room}/object", source], check=True)
+        words = [compiler, *flags.replace("ROOM", room).split(), "-o", f"{room}/object", os.path.abspath(source)]
+        subprocess.run(words, check=True, cwd=room)
         with open(f"{room}/object", "rb") as it:
             return Object(it.read())
 

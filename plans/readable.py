@@ -20,7 +20,8 @@ and its relocation is {"offset": 1, "number": "R_X86_64_PC32", "symbol": "f", "a
 
 - A name is its text, or {"hex": ".."} where that is none. `bytes` of input sections stay in hex.
 - A number of 16 or more is "0x..". A number is read wherever it is written as one, in hex or not.
-- A symbol, or the output section of a part, is its name where no other has it and it is not empty, else its number.
+- A symbol, or the output section of a part, of a group's member or of a section that is kept by itself, is its name where no other has it and it is not
+  empty, else its number.
 - A line that begins with # is left out.
 """
 import json
@@ -31,7 +32,7 @@ NAMES = {"name", "lib_name", "soname", "rpath", "auxiliary"}
 SYMBOLS = {"symbol", "definition", "copies", "first_symbol"}
 # gABI, "Section Types" and "Segment Types", with those of GNU
 SECTION_KINDS = {0: "NULL", 1: "PROGBITS", 3: "STRTAB", 2: "SYMTAB", 4: "RELA", 5: "HASH", 6: "DYNAMIC", 7: "NOTE", 8: "NOBITS", 11: "DYNSYM",
-                 14: "INIT_ARRAY", 15: "FINI_ARRAY", 16: "PREINIT_ARRAY", 18: "SYMTAB_SHNDX", 19: "RELR", 0x6FFFFFF6: "GNU_HASH",
+                 14: "INIT_ARRAY", 15: "FINI_ARRAY", 16: "PREINIT_ARRAY", 17: "GROUP", 18: "SYMTAB_SHNDX", 19: "RELR", 0x6FFFFFF6: "GNU_HASH",
                  0x6FFFFFFD: "GNU_VERDEF", 0x6FFFFFFE: "GNU_VERNEED", 0x6FFFFFFF: "GNU_VERSYM", 0x70000001: "X86_64_UNWIND"}
 SEGMENT_KINDS = {1: "LOAD", 2: "DYNAMIC", 3: "INTERP", 4: "NOTE", 6: "PHDR", 7: "TLS", 0x6474E550: "GNU_EH_FRAME", 0x6474E551: "GNU_STACK",
                  0x6474E552: "GNU_RELRO", 0x6474E553: "GNU_PROPERTY"}
@@ -70,7 +71,7 @@ class Spelling:
         *outer, member = [""] + path
         if member in SYMBOLS:
             return {place: name for name, place in self.symbols.items()}
-        if member == "section" and "parts" in outer:
+        if member in ("singleton", "members") or member == "section" and "parts" in outer:
             return {place: name for name, place in self.sections.items()}
         if member == "kind" and outer[-1:] in (["sections"], ["segments"]):
             return SECTION_KINDS if outer[-1] == "sections" else SEGMENT_KINDS

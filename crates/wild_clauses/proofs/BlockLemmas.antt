@@ -14,7 +14,7 @@ use Rattle.wild_types.specs.Lookups.{is_filled}
 use Rattle.wild_clauses.specs.Contents.{addresses, ends_of, placed_in, file_placed_in, part_placed, parts_placed}
 use Rattle.wild_types.specs.FilePlaces.{given}
 use Rattle.wild_clauses.specs.Thunks.{standing}
-use Rattle.wild_clauses.specs.Misplaced.{both, all_placed, file_all_placed}
+use Rattle.wild_clauses.specs.Misplaced.{both, all_placed, bytes_placed, file_all_placed}
 
 both_none : (o : Option ℕ) → both o None ≡ None
 both_none None = refl
@@ -31,67 +31,66 @@ unfilled l part (e ∷ es) (c ∷ cs) s same h =
     let again = unfilled l (part + 1) es cs s (omega arith) h in
     rw (h, again)
 
+-- one that owns bytes moves that of its part
+pub filled : (l : Layout) (part : ℕ) (ends cursors : List ℕ) (s : InputSection) → is_filled l s ≡ true → all_placed l part ends cursors s ≡ bytes_placed part ends cursors s
+filled l part [] cs s h = refl
+filled l part (e ∷ es) [] s h = refl
+filled l part (e ∷ es) (c ∷ cs) s h = rw (h, filled l (part + 1) es cs s h) refl
+
 -- one of another part moves none
-other_part : (l : Layout) (part end cursor : ℕ) (s : InputSection) → (s.part == part) ≡ false → placed_in l part end cursor s ≡ Some cursor
-other_part l part end cursor s h =
-    elim (cases_Bool (is_filled l s)) [
-      | inl t ↦ rw (t, h)
-      | inr f ↦ rw f
-    ]
-
-pub before_all : (l : Layout) (part : ℕ) (ends cursors : List ℕ) (s : InputSection) → length ends ≡ length cursors → s.part < part → all_placed l part ends cursors s ≡ Some cursors
-before_all l part [] [] s same h = refl
-before_all l part [] (c ∷ cs) s same h = absurd (omega arith)
-before_all l part (e ∷ es) [] s same h = absurd (omega arith)
-before_all l part (e ∷ es) (c ∷ cs) s same h =
-    let again = before_all l (part + 1) es cs s (omega arith) (omega arith) in
+pub before_all : (part : ℕ) (ends cursors : List ℕ) (s : InputSection) → length ends ≡ length cursors → s.part < part → bytes_placed part ends cursors s ≡ Some cursors
+before_all part [] [] s same h = refl
+before_all part [] (c ∷ cs) s same h = absurd (omega arith)
+before_all part (e ∷ es) [] s same h = absurd (omega arith)
+before_all part (e ∷ es) (c ∷ cs) s same h =
+    let again = before_all (part + 1) es cs s (omega arith) (omega arith) in
     let other : (s.part == part) ≡ false = grind (arith, nat_tests) in
-    rw (other_part l part e c s other, again)
+    rw (other, again)
 
-pub behind_all : (l : Layout) (part : ℕ) (ends cursors : List ℕ) (s : InputSection) → length ends ≡ length cursors → part + length cursors ≤ s.part → all_placed l part ends cursors s ≡ Some cursors
-behind_all l part [] [] s same h = refl
-behind_all l part [] (c ∷ cs) s same h = absurd (omega arith)
-behind_all l part (e ∷ es) [] s same h = absurd (omega arith)
-behind_all l part (e ∷ es) (c ∷ cs) s same h =
-    let again = behind_all l (part + 1) es cs s (omega arith) (omega arith) in
+pub behind_all : (part : ℕ) (ends cursors : List ℕ) (s : InputSection) → length ends ≡ length cursors → part + length cursors ≤ s.part → bytes_placed part ends cursors s ≡ Some cursors
+behind_all part [] [] s same h = refl
+behind_all part [] (c ∷ cs) s same h = absurd (omega arith)
+behind_all part (e ∷ es) [] s same h = absurd (omega arith)
+behind_all part (e ∷ es) (c ∷ cs) s same h =
+    let again = behind_all (part + 1) es cs s (omega arith) (omega arith) in
     let other : (s.part == part) ≡ false = grind (arith, nat_tests) in
-    rw (other_part l part e c s other, again)
+    rw (other, again)
 
 -- the cursor of its part moves, where it stands between cursor and end
 abbrev pub moved : List ℕ → ℕ → ℕ → ℕ → Bool → Option (List ℕ)
 moved cursors k address size true = Some (set cursors k (address + size))
 moved cursors k address size false = None
 
-at_part : (l : Layout) (part k : ℕ) (ends cursors : List ℕ) (s : InputSection) → length ends ≡ length cursors → is_filled l s ≡ true → s.part ≡ part + k → k < length cursors → all_placed l part ends cursors s ≡ moved cursors k s.address s.size (nat_le (get_or cursors k 0) s.address && nat_le (s.address + s.size) (get_or ends k 0))
-at_part l part k [] [] s same h e lt = absurd (omega arith)
-at_part l part k [] (c ∷ cs) s same h e lt = absurd (omega arith)
-at_part l part k (b ∷ es) [] s same h e lt = absurd (omega arith)
-at_part l part zero (b ∷ es) (c ∷ cs) s same h e lt =
-    let others = before_all l (part + 1) es cs s (omega arith) (omega arith) in
+at_part : (part k : ℕ) (ends cursors : List ℕ) (s : InputSection) → length ends ≡ length cursors → s.part ≡ part + k → k < length cursors → bytes_placed part ends cursors s ≡ moved cursors k s.address s.size (nat_le (get_or cursors k 0) s.address && nat_le (s.address + s.size) (get_or ends k 0))
+at_part part k [] [] s same e lt = absurd (omega arith)
+at_part part k [] (c ∷ cs) s same e lt = absurd (omega arith)
+at_part part k (b ∷ es) [] s same e lt = absurd (omega arith)
+at_part part zero (b ∷ es) (c ∷ cs) s same e lt =
+    let others = before_all (part + 1) es cs s (omega arith) (omega arith) in
     let here : (s.part == part) ≡ true = grind (arith, nat_tests) in
     elim (cases_Bool (nat_le c s.address && nat_le (s.address + s.size) b)) [
-      | inl t ↦ rw (others, h, here, t)
-      | inr f ↦ rw (others, h, here, f)
+      | inl t ↦ rw (others, here, t)
+      | inr f ↦ rw (others, here, f)
     ]
-at_part l part (suc k) (b ∷ es) (c ∷ cs) s same h e lt =
+at_part part (suc k) (b ∷ es) (c ∷ cs) s same e lt =
     let other : (s.part == part) ≡ false = grind (arith, nat_tests) in
-    let again = at_part l (part + 1) k es cs s (omega arith) h (omega arith) (omega arith) in
-    rw (other_part l part b c s other, again)
+    let again = at_part (part + 1) k es cs s (omega arith) (omega arith) (omega arith) in
+    rw (other, again)
     (later (nat_le (get_or cs k 0) s.address && nat_le (s.address + s.size) (get_or es k 0)))
   where
     later : (t : Bool) → both (Some c) (moved cs k s.address s.size t) ≡ moved (c ∷ cs) (suc k) s.address s.size t
     later true = refl
     later false = refl
 
-pub at_part_in : (l : Layout) (part k : ℕ) (ends cursors : List ℕ) (s : InputSection) → length ends ≡ length cursors → is_filled l s ≡ true → s.part ≡ part + k → k < length cursors → get_or cursors k 0 ≤ s.address → s.address + s.size ≤ get_or ends k 0 → all_placed l part ends cursors s ≡ Some (set cursors k (s.address + s.size))
-at_part_in l part k ends cursors s same h e lt from to =
+pub at_part_in : (part k : ℕ) (ends cursors : List ℕ) (s : InputSection) → length ends ≡ length cursors → s.part ≡ part + k → k < length cursors → get_or cursors k 0 ≤ s.address → s.address + s.size ≤ get_or ends k 0 → bytes_placed part ends cursors s ≡ Some (set cursors k (s.address + s.size))
+at_part_in part k ends cursors s same e lt from to =
     let test : (nat_le (get_or cursors k 0) s.address && nat_le (s.address + s.size) (get_or ends k 0)) ≡ true = grind (arith, nat_tests) in
-    rw test at (at_part l part k ends cursors s same h e lt)
+    rw test at (at_part part k ends cursors s same e lt)
 
-pub at_part_out : (l : Layout) (part k : ℕ) (ends cursors : List ℕ) (s : InputSection) → length ends ≡ length cursors → is_filled l s ≡ true → s.part ≡ part + k → k < length cursors → (s.address < get_or cursors k 0) ⊎ (get_or ends k 0 < s.address + s.size) → all_placed l part ends cursors s ≡ None
-at_part_out l part k ends cursors s same h e lt out =
+pub at_part_out : (part k : ℕ) (ends cursors : List ℕ) (s : InputSection) → length ends ≡ length cursors → s.part ≡ part + k → k < length cursors → (s.address < get_or cursors k 0) ⊎ (get_or ends k 0 < s.address + s.size) → bytes_placed part ends cursors s ≡ None
+at_part_out part k ends cursors s same e lt out =
     let test : (nat_le (get_or cursors k 0) s.address && nat_le (s.address + s.size) (get_or ends k 0)) ≡ false = grind (arith, nat_tests) in
-    rw test at (at_part l part k ends cursors s same h e lt)
+    rw test at (at_part part k ends cursors s same e lt)
 
 -- ---- files and groups
 

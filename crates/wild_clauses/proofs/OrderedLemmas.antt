@@ -1,40 +1,38 @@
--- Sections in a given order, entry by entry; and what is read of a section as a loaded one.
+-- Sections in a given order, entry by entry; and where such a section stands.
 use Rattle.std.proofs.Common.{◌≡◌, ℕ, ◌+◌, ◌<◌, inl, inr, Bool, true, false, List, [], ◌∷◌, ◌++◌, length, get_or, drop, refl, sym, ap, ◌∙◌}
 use Rattle.std.specs.Prelude.{Option, Some, None, Result, Ok, Err, ◌&&◌, option_and_then}
 use Rattle.std.specs.List.{flat_map, list_all}
 use Rattle.std.proofs.lemmas.Bool.{cases_Bool}
 use Rattle.std.proofs.lemmas.List.{drop_more, map-append}
-use Rattle.wild_types.specs.declared.input.Slot.{Slot}
-use Rattle.wild_types.specs.declared.input.Slot.TheVariants as slot
 use Rattle.wild_types.specs.declared.input.InputSection.{InputSection}
 use Rattle.wild_types.specs.declared.layout.SortedSection.{SortedSection}
 use Rattle.wild_types.specs.declared.layout.Layout.{Layout}
 use Rattle.wild_types.specs.declared.file.File.{File}
 use Rattle.wild_types.specs.FileRoles.{is_epilogue}
 use Rattle.wild_types.specs.Lists.{through}
-use Rattle.wild_types.specs.Lookups.{is_loaded}
-use Rattle.wild_laid.specs.Laid.{Input, as_loaded, sorted_input, of_last_file}
+use Rattle.wild_types.specs.Kinds.{is_partial_link}
+use Rattle.wild_types.specs.Lookups.{has_bytes, is_filled}
+use Rattle.wild_laid.specs.Laid.{Input, sorted_input, of_last_file}
 use Rattle.wild_clauses.specs.SlotPlaces.{and_then, walk}
-use Rattle.wild_clauses.specs.Thunks.{section_step, standing}
-use Rattle.wild_clauses.specs.Misplaced.{all_placed, file_all_placed}
-use Rattle.wild_clauses.specs.Ordered.{sections_of, ordered}
-use Rattle.wild_clauses.proofs.BlockLemmas.{unfilled}
+use Rattle.wild_clauses.specs.Thunks.{bytes_step, section_step, standing}
+use Rattle.wild_clauses.specs.Misplaced.{all_placed, bytes_placed, file_all_placed}
+use Rattle.wild_clauses.specs.Ordered.{as_ordered, sections_of, ordered}
+use Rattle.wild_clauses.proofs.BlockLemmas.{filled}
 
 -- ---- one section
 
-loaded_slot : (at : Slot) → is_loaded at ≡ true → at ≡ slot.Loaded
-loaded_slot slot.Loaded e = refl
-loaded_slot other e = cc
+-- of a section in a given order the part, the address and the size are its own
+ordered_bytes_placed : (l : Layout) (part : ℕ) (ends cursors : List ℕ) (s : InputSection) → bytes_placed part ends cursors (as_ordered l s) ≡ bytes_placed part ends cursors s
+ordered_bytes_placed l part [] cs s = refl
+ordered_bytes_placed l part (e ∷ es) [] s = refl
+ordered_bytes_placed l part (e ∷ es) (c ∷ cs) s =
+    elim (cases_Bool (is_partial_link l.kind)) [
+      | inl t ↦ rw (ordered_bytes_placed l (part + 1) es cs s, t) refl
+      | inr f ↦ rw (ordered_bytes_placed l (part + 1) es cs s, f) refl
+    ]
 
--- a loaded section is itself
-pub loaded_is : (s : InputSection) → is_loaded s.slot ≡ true → as_loaded s ≡ s
-loaded_is s e = rw (← loaded_slot s.slot e) refl
-
-pub loaded_placed : (l : Layout) (part : ℕ) (ends cursors : List ℕ) (s : InputSection) → is_loaded s.slot ≡ true → all_placed l part ends cursors (as_loaded s) ≡ all_placed l part ends cursors s
-loaded_placed l part ends cursors s e = ap (all_placed l part ends cursors) (loaded_is s e)
-
-pub unloaded_placed : (l : Layout) (part : ℕ) (ends cursors : List ℕ) (s : InputSection) → length ends ≡ length cursors → is_loaded s.slot ≡ false → all_placed l part ends cursors s ≡ Some cursors
-unloaded_placed l part ends cursors s same e = unfilled l part ends cursors s same (rw e refl)
+pub ordered_placed : (l : Layout) (part : ℕ) (ends cursors : List ℕ) (s : InputSection) → has_bytes l (as_ordered l s) ≡ true → all_placed l part ends cursors (as_ordered l s) ≡ bytes_placed part ends cursors s
+ordered_placed l part ends cursors s h = filled l part ends cursors (as_ordered l s) h ∙ ordered_bytes_placed l part ends cursors s
 
 -- ---- one after another
 
@@ -65,11 +63,21 @@ file_last l part ends cursors next f e h = rw (through_append (all_placed l part
 
 -- ---- the same of steps that may refuse
 
-pub loaded_step : (l : Layout) (group at : ℕ) (s : InputSection) → is_loaded s.slot ≡ true → section_step l group at (as_loaded s) ≡ section_step l group at s
-loaded_step l group at s e = ap (section_step l group at) (loaded_is s e)
+pub filled_step : (l : Layout) (group at : ℕ) (s : InputSection) → is_filled l s ≡ true → section_step l group at s ≡ bytes_step l.primary_part group at s
+filled_step l group at s e = rw e refl
 
-pub unloaded_step : (l : Layout) (group at : ℕ) (s : InputSection) → is_loaded s.slot ≡ false → section_step l group at s ≡ Ok at
-unloaded_step l group at s e = rw e
+pub unfilled_step : (l : Layout) (group at : ℕ) (s : InputSection) → is_filled l s ≡ false → section_step l group at s ≡ Ok at
+unfilled_step l group at s e = rw e refl
+
+pub ordered_step : (l : Layout) (group at : ℕ) (s : InputSection) → has_bytes l (as_ordered l s) ≡ true → section_step l group at (as_ordered l s) ≡ bytes_step l.primary_part group at s
+ordered_step l group at s h = filled_step l group at (as_ordered l s) h ∙ same
+  where
+    same : bytes_step l.primary_part group at (as_ordered l s) ≡ bytes_step l.primary_part group at s
+    same =
+        elim (cases_Bool (is_partial_link l.kind)) [
+          | inl t ↦ rw t refl
+          | inr f ↦ rw f refl
+        ]
 
 pub then_ok : {S : Type 0} (r : Result S ℕ) → and_then r (λ t. Ok t) ≡ r
 then_ok (Ok s) = refl

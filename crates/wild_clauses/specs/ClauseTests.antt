@@ -15,7 +15,7 @@ use Rattle.wild_types.specs.Lookups.{image_size, files_of}
 use Rattle.wild_needs.specs.HashShapes.{sysv_fits, gnu_fits, bucket_astray}
 use Rattle.wild_needs.specs.Versions.{need_count}
 use Rattle.wild_clauses.specs.VersionTables.{parent_is_there, definition_astray, mark_astray, versions_agree}
-use Rattle.wild_clauses.specs.Places.{page_fits, part_fits, section_misfit, segment_fits, group_fits, part_out_of_order, role_again, role_missing, role_not_at, roles, dynamic_unasked, first_section_is_null, part_lies, stands_loaded, takes_room}
+use Rattle.wild_clauses.specs.Places.{page_fits, part_fits, section_misfit, segment_fits, group_fits, part_out_of_order, role_again, role_missing, role_not_at, program_headers_astray, loaded_sections, roles, dynamic_unasked, first_section_is_null, part_lies, stands_loaded, takes_room}
 use Rattle.wild_types.specs.Kinds.{is_fixed_static}
 use Rattle.wild_clauses.specs.Counts.{counts_fit, role_given}
 use Rattle.wild_clauses.specs.Segments.{segment_out_of_order, bytes_are_loaded, leaves_zero_free, segment_in_image, dynamic_astray}
@@ -27,7 +27,8 @@ use Rattle.wild_clauses.specs.SlotPlaces.{slots_astray, slot_is_even, block_is_a
 use Rattle.wild_needs.specs.DynamicSymbols.{dynamic_symbols, misplaced, misfit, first_listed}
 use Rattle.wild_clauses.specs.SlotFlags.{first_asked_failing, dynamic_is_interposable, stub_is_value, stub_has_slot, one_slot_for_address, thread_slot_alone, resolver_is_own, slot_agrees, resolver_moves, second_slot_fits}
 use Rattle.wild_clauses.specs.Contents.{addresses, each_section, share_mismatch, has_share_for_each_part, section_misplaced, sorted_named_once, names_sorted, length_fits, frames_part_fits, discarded_is_empty, part_is_raw, merged_is_raw, identity_is_raw, primary_fits, front_is_free, allocation_agrees, bytes_take_room, fields_lie, relocations_are_read, tls_fits}
-use Rattle.wild_clauses.specs.Fronts.{reversed_fits, merged_fill, identity_fills, front_shared, identity_is_alone, properties_differ}
+use Rattle.wild_clauses.specs.Fronts.{reversed_fits, merged_fill, identity_fills, front_shared, identity_is_alone, properties_differ, keeps_all}
+use Rattle.wild_clauses.specs.Partial.{has_no_segments, has_no_slot, has_no_pair, has_no_thunks, lists_no_symbols, has_no_index, is_no_debug, is_of_kind, tables_fit, group_fits_members, table_has_data}
 use Rattle.wild_types.specs.FilePlaces.{file_misplaced}
 use Rattle.wild_clauses.specs.Thunks.{ascends, thunks_misplaced, block_lost, machine_takes}
 use Rattle.wild_clauses.specs.GroupStarts.{start_places, no_starts, start_astray}
@@ -68,7 +69,7 @@ check_roles l =
     (first_error (fails 4 (role_not_at role.FileHeader 0 0 l.parts))
     (first_error (fails 4 (role_missing role.SectionHeaders l.parts))
     (first_error (fails 4 (role_missing role.Shstrtab l.parts))
-    (first_error (fails 4 (role_not_at role.ProgramHeaders file_header_size 0 l.parts))
+    (first_error (fails 4 (program_headers_astray l))
     (first_error (fails 4 (first_failing (entries_follow l.parts) 0 l.parts))
     (first_error (fails 4 (first_failing (role_given l) 0 roles))
     (fails 4 (dynamic_unasked l))))))))
@@ -92,9 +93,9 @@ check_entries l =
 unfoldable pub check_segments : Layout → Result (Unit {0}) Clause
 check_segments l =
     first_error (fails 6 (segment_out_of_order l.page_size 0 0 l.segments))
-    (first_error (fails 6 (first_failing (bytes_are_loaded side.Memory l.segments) 1 (drop 1 l.sections)))
+    (first_error (fails 6 (first_failing (bytes_are_loaded side.Memory l.segments) 1 (loaded_sections l)))
     (first_error (fails 6 (first_failing (leaves_zero_free l.kind) 0 l.segments))
-    (first_error (fails 6 (first_failing (bytes_are_loaded side.File l.segments) 1 (drop 1 l.sections)))
+    (first_error (fails 6 (first_failing (bytes_are_loaded side.File l.segments) 1 (loaded_sections l)))
     (first_error (fails 6 (first_failing (segment_in_image (image_size l)) 0 l.segments))
     (first_error (fails 6 (dynamic_astray (part_with role.Dynamic l.parts) 0 l.segments))
     (first_error (check_entries l)
@@ -225,11 +226,27 @@ check_names l =
 unfoldable pub check_reversed : Layout → Result (Unit {0}) Clause
 check_reversed l = fails 20 (first_failing (each_section (reversed_fits l.machine)) 0 l.groups)
 
+-- clause 21: what only relocatable objects have, and what they have not
+unfoldable pub check_partial : Layout → Result (Unit {0}) Clause
+check_partial l =
+    first_error (fails 21 (unless (has_no_segments l)))
+    (first_error (fails 21 (first_failing (has_no_slot l) 0 l.symbols))
+    (first_error (fails 21 (unless (has_no_pair l)))
+    (first_error (fails 21 (first_failing (has_no_thunks l) 0 l.thunk_blocks))
+    (first_error (fails 21 (unless (lists_no_symbols l)))
+    (first_error (fails 21 (first_failing (has_no_index l) 0 l.symbols))
+    (first_error (fails 21 (first_failing (each_section (is_no_debug l)) 0 l.groups))
+    (first_error (fails 21 (first_failing (each_section (is_of_kind l)) 0 l.groups))
+    (first_error (fails 21 (first_failing tables_fit 0 l.groups))
+    (first_error (fails 21 (first_failing (each_section group_fits_members) 0 l.groups))
+    (fails 21 (first_failing (each_section table_has_data) 0 l.groups)))))))))))
+
 -- clause 22: merged strings, the linker's name of itself, properties
 unfoldable pub check_fronts : Layout → Result (Unit {0}) Clause
 check_fronts l =
     first_error (fails 22 (merged_fill l))
     (first_error (fails 22 (unless (identity_fills l)))
     (first_error (fails 22 (properties_differ [] 0 l.properties))
+    (first_error (fails 22 (unless (keeps_all l)))
     (first_error (fails 22 (front_shared 0 l.merged))
-    (fails 22 (unless (identity_is_alone l))))))
+    (fails 22 (unless (identity_is_alone l)))))))

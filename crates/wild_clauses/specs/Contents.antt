@@ -24,7 +24,8 @@ use Rattle.wild_types.specs.declared.layout.SortedSection.{SortedSection}
 use Rattle.wild_types.specs.declared.layout.Merged.{Merged}
 use Rattle.wild_types.specs.declared.layout.Layout.{Layout}
 use Rattle.wild_types.specs.Lists.{total, through}
-use Rattle.wild_types.specs.Lookups.{allocated, section_of, is_allocated_section, is_allocated_part, takes_file_bytes, is_frame, is_discarded, is_filled, owns_bytes}
+use Rattle.wild_types.specs.Lookups.{allocated, section_of, is_allocated_section, is_allocated_part, takes_file_bytes, is_frame, is_discarded, is_rela, is_filled, owns_bytes}
+use Rattle.wild_types.specs.Kinds.{is_partial_link}
 use Rattle.wild_types.specs.FileThunks.{thunks_of}
 use Rattle.wild_types.specs.Parts.{has_role}
 use Rattle.wild_laid.specs.Laid.{sorted_input}
@@ -212,11 +213,15 @@ has_room other = false
 
 -- an input section that is written is allocated exactly where its part's section is
 abbrev pub allocation_agrees : Layout → InputSection → Bool
-allocation_agrees l s = not (has_room s.slot) || bool_eq (allocated s.flags) (is_allocated_part l s.part)
+allocation_agrees l s = is_partial_link l.kind || not (has_room s.slot) || bool_eq (allocated s.flags) (is_allocated_part l s.part)
+
+-- the section has bytes, or such are made of it
+abbrev pub has_some : InputSection → Bool
+has_some s = not (length s.bytes == 0) || (is_rela s.slot && not (s.size == 0))
 
 -- bytes stand in no section without data
 abbrev pub bytes_take_room : Layout → InputSection → Bool
-bytes_take_room l s = length s.bytes == 0 || takes_file_bytes l (section_of l s.part)
+bytes_take_room l s = not (has_some s) || takes_file_bytes l (section_of l s.part)
 
 -- ---- clause 10: fields
 

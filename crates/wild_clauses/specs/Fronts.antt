@@ -4,6 +4,7 @@
 --   identity_fills l         the linker's name of itself is, where it has bytes
 --   front_shared l           the first merged strings that stand in a part where others stand too
 --   properties_differ ..     the first property of a type that one before it has
+--   keeps_all l              the output is no image of what debuggers read alone
 use Rattle.std.specs.Prelude.{ℕ, ◌+◌, ◌%◌, ◌==◌, Bool, true, not, ◌&&◌, ◌||◌, if◌then◌else◌, List, [], ◌∷◌, ◌++◌, length, Option, Some, None, slice_get}
 use Rattle.std.specs.List.{flat_map, list_all, list_any}
 use Rattle.wild_laid.specs.Turned.{word_size}
@@ -65,6 +66,10 @@ front_shared i (m ∷ ms) = if stands_in_front m.part m && list_any (stands_in_f
 -- the linker's name of itself stands in a part of its own, where it has bytes
 abbrev pub identity_is_alone : Layout → Bool
 identity_is_alone l = length l.identity.bytes == 0 || not (list_any (stands_in_front l.identity.part) l.merged)
+
+-- an image of what debuggers read alone is not written
+abbrev pub keeps_all : Layout → Bool
+keeps_all l = not l.options.only_keep_debug
 
 -- the property is of that type
 abbrev pub has_type : ℕ → Property → Bool

@@ -64,8 +64,12 @@ relocation_index_fits l r = index_fits (length l.symbols) r.symbol
 abbrev pub symbol_is_there : Layout → ℕ → Bool
 symbol_is_there l i = nat_lt i (length l.symbols)
 
+-- a header index names a section
+abbrev pub header_is_there : Layout → ℕ → Bool
+header_is_there l k = nat_lt k (length l.sections)
+
 abbrev pub section_indexes_fit : Layout → InputSection → Bool
-section_indexes_fit l s = nat_lt s.part (length l.parts) && list_all (relocation_index_fits l) s.relocations
+section_indexes_fit l s = nat_lt s.part (length l.parts) && (index_fits (length l.sections) s.singleton && (list_all (header_is_there l) s.members && list_all (relocation_index_fits l) s.relocations))
 
 -- block 0 may be named where there are none
 abbrev pub block_is_there : Layout → File → Bool

@@ -20,3 +20,4 @@ pub mod Thunks
 pub mod VersionTables
 pub mod WellFormed
 pub mod ZeroFree
+pub mod Partial

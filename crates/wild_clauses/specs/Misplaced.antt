@@ -4,7 +4,8 @@
 --   misplaced l part starts i gs      the same for all parts from number part on
 --   all_placed l part ends cursors s  the cursors of those parts behind an input section; none where it is out of
 --                                     its place
-use Rattle.std.specs.Prelude.{ℕ, ◌+◌, min, if◌then◌else◌, List, [], ◌∷◌, Option, Some, None}
+--   bytes_placed part ends cursors s  the same of an input section that owns bytes
+use Rattle.std.specs.Prelude.{ℕ, ◌+◌, ◌==◌, ◌&&◌, min, nat_le, if◌then◌else◌, List, [], ◌∷◌, Option, Some, None}
 use Rattle.wild_types.specs.declared.input.InputSection.{InputSection}
 use Rattle.wild_types.specs.declared.file.File.{File}
 use Rattle.wild_types.specs.declared.file.Group.{Group}
@@ -40,6 +41,17 @@ both (Some a) (Some bs) = Some (a ∷ bs)
 abbrev pub all_placed : Layout → ℕ → List ℕ → List ℕ → InputSection → Option (List ℕ)
 all_placed l part (end ∷ ends) (cursor ∷ cursors) s = both (placed_in l part end cursor s) (all_placed l (part + 1) ends cursors s)
 all_placed l part ends cursors s = Some []
+
+-- the same of one that owns bytes
+abbrev pub bytes_placed_in : ℕ → ℕ → ℕ → InputSection → Option ℕ
+bytes_placed_in part end cursor s =
+    if s.part == part
+    then (if nat_le cursor s.address && nat_le (s.address + s.size) end then Some (s.address + s.size) else None)
+    else Some cursor
+
+abbrev pub bytes_placed : ℕ → List ℕ → List ℕ → InputSection → Option (List ℕ)
+bytes_placed part (end ∷ ends) (cursor ∷ cursors) s = both (bytes_placed_in part end cursor s) (bytes_placed (part + 1) ends cursors s)
+bytes_placed part ends cursors s = Some []
 
 -- the same behind a file
 abbrev pub file_all_placed : Layout → ℕ → List ℕ → List ℕ → File → Option (List ℕ)

@@ -1,9 +1,10 @@
 -- The clauses on sizes, counts, and where parts and sections stand.
 --   stands_loaded l p   a part that a loader or a program reads stands in a section with bytes in memory and file
-use Rattle.std.specs.Prelude.{ℕ, ◌+◌, ◌%◌, ◌^◌, ◌==◌, Bool, true, not, ◌&&◌, ◌||◌, if◌then◌else◌, nat_le, List, [], ◌∷◌, ◌++◌, length, Option, Some, None, slice_get}
+use Rattle.std.specs.Prelude.{ℕ, ◌+◌, ◌%◌, ◌^◌, ◌==◌, Bool, true, not, ◌&&◌, ◌||◌, if◌then◌else◌, nat_le, List, [], ◌∷◌, ◌++◌, drop, length, Option, Some, None, slice_get}
 use Rattle.std.specs.Int.{is_power_of_two}
 use Rattle.std.specs.List.{list_any, list_all}
 use Rattle.wild_records.specs.Abi.Section.{sht_null}
+use Rattle.wild_records.specs.FileHeader.{file_header_size}
 use Rattle.wild_types.specs.declared.part.Part.{Part}
 use Rattle.wild_types.specs.declared.part.Role.{Role}
 use Rattle.wild_types.specs.declared.part.Role.TheVariants as role
@@ -98,6 +99,10 @@ role_not_at r offset i (p ∷ ps) =
     then (if p.offset == offset then None else Some i)
     else role_not_at r offset (i + 1) ps
 
+-- the program headers follow the file header, which a relocatable object has none of; else the part's place, or the role's
+abbrev pub program_headers_astray : Layout → Option ℕ
+program_headers_astray l = if is_partial_link l.kind then None else role_not_at role.ProgramHeaders file_header_size 0 l.parts
+
 -- all roles, each at its place
 abbrev pub roles : List Role
 roles =
@@ -111,6 +116,12 @@ roles =
 abbrev pub dynamic_unasked : Layout → Option ℕ
 dynamic_unasked l =
     if is_fixed_static l.kind && list_any (has_role role.Dynamic) l.parts then Some (role_place role.Dynamic) else None
+
+-- ---- clause 6: what segments load
+
+-- the sections behind section 0, of an output that is loaded
+abbrev pub loaded_sections : Layout → List Section
+loaded_sections l = if is_partial_link l.kind then [] else drop 1 l.sections
 
 -- ---- clause 5: parts in sections
 

@@ -66,6 +66,10 @@ section_step l group at s =
     then (if nat_le at s.address then Ok (s.address + s.size) else Err group)
     else Ok at
 
+-- the same of one that owns bytes
+abbrev pub bytes_step : ℕ → ℕ → ℕ → InputSection → Result ℕ ℕ
+bytes_step primary group at s = if s.part == primary then (if nat_le at s.address then Ok (s.address + s.size) else Err group) else Ok at
+
 -- the input sections that stand in a file's ranges: its own, and with the last file's the sorted ones, which are written as loaded ones
 abbrev pub standing : Layout → File → List InputSection
 standing l f = f.sections ++ of_last_file f (map (λ (x : Input). x.section) (sorted_inputs l))

@@ -3,7 +3,7 @@
 use Rattle.std.specs.Prelude.{Result}
 use Rattle.wild_types.specs.declared.fault.Clause.{Clause}
 use Rattle.wild_types.specs.declared.layout.Layout.{Layout}
-use Rattle.wild_clauses.specs.ClauseTests.{first_error, check_sizes, check_counts, check_order, check_roles, check_sections, check_segments, check_shares, check_inputs, check_indexes, check_fields, check_slots, check_thunks, check_dynsyms, check_slot_flags, check_tls, check_starts, check_hashes, check_versions, check_names, check_reversed, check_fronts}
+use Rattle.wild_clauses.specs.ClauseTests.{first_error, check_sizes, check_counts, check_order, check_roles, check_sections, check_segments, check_shares, check_inputs, check_indexes, check_fields, check_slots, check_thunks, check_dynsyms, check_slot_flags, check_tls, check_starts, check_hashes, check_versions, check_names, check_reversed, check_partial, check_fronts}
 
 -- Ok, or the first clause that fails
 unfoldable pub first_clause : Layout → Result (Unit {0}) Clause
@@ -28,4 +28,5 @@ first_clause l =
     (first_error (check_versions l)
     (first_error (check_names l)
     (first_error (check_reversed l)
-    (check_fronts l))))))))))))))))))))
+    (first_error (check_partial l)
+    (check_fronts l)))))))))))))))))))))

@@ -2,10 +2,11 @@
 ghost use Rattle.std.specs.Prelude.{◌≡◌, ◌==◌, slice_get};
 ghost use Rattle.std.specs.List.{list_any, list_all};
 ghost use Rattle.wild_types.specs.declared.layout.Merged.{Merged};
-ghost use Rattle.wild_laid.specs.Laid.{as_loaded, sorted_input};
+ghost use Rattle.wild_laid.specs.Laid.{sorted_input};
 ghost use Rattle.wild_clauses.specs.Contents.{has_front, takes_bytes, leaves_front, file_leaves_front, group_leaves_front, front_is_free};
-ghost use Rattle.wild_clauses.specs.Ordered.{sections_of, ordered};
+ghost use Rattle.wild_clauses.specs.Ordered.{as_ordered, sections_of, ordered};
 
+use crate::sorted::has_ordered_bytes;
 use wild_laid::sorted_input;
 use wild_types::{File, InputSection, Layout, Merged, SortedSection, Test, all_pass};
 
@@ -44,11 +45,11 @@ impl Test<InputSection> for LeavesFront<'_> {
     }
 }
 
-/// The same of a section that is written as a loaded one.
-fn loaded_leaves_front(layout: &Layout, section: &InputSection) -> bool
-    ensures { result ≡ leaves_front layout.now (as_loaded section.now) }
+/// The same of a section in a given order.
+fn ordered_leaves_front(layout: &Layout, section: &InputSection) -> bool
+    ensures { result ≡ leaves_front layout.now (as_ordered layout.now section.now) }
 {
-    let takes_bytes = section.bytes.len() != 0 || section.has_bytes(layout);
+    let takes_bytes = section.bytes.len() != 0 || has_ordered_bytes(layout, section);
     !takes_bytes || !has_front(layout, section.part)
 }
 
@@ -57,7 +58,7 @@ impl Test<SortedSection> for LeavesFront<'_> {
 
     fn passes(&self, entry: &SortedSection) -> bool {
         match sorted_input(self.layout, *entry) {
-            Some(found) => loaded_leaves_front(self.layout, found.section),
+            Some(found) => ordered_leaves_front(self.layout, found.section),
             None => true,
         }
     }

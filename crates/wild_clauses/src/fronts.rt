@@ -1,7 +1,7 @@
 //! Clauses 20 and 22: reversed sections, what stands at the front of its part in the first group, properties.
 ghost use Rattle.std.specs.Prelude.{◌≡◌, ◌==◌, not, ◌&&◌, [], drop, slice_get};
 ghost use Rattle.std.specs.List.{list_any};
-ghost use Rattle.wild_clauses.specs.Fronts.{is_whole_word, reversed_fits, given_by, fills_front, merged_size, merged_fits, identity_fills, stands_in_front, front_shared, identity_is_alone, has_type, properties_differ};
+ghost use Rattle.wild_clauses.specs.Fronts.{is_whole_word, reversed_fits, given_by, fills_front, merged_size, merged_fits, identity_fills, stands_in_front, front_shared, identity_is_alone, has_type, properties_differ, keeps_all};
 ghost use Rattle.wild_clauses.specs.ClauseTests.{check_reversed, check_fronts};
 
 use crate::each_section::failing_group;
@@ -154,6 +154,13 @@ fn property_again(properties: &[Property]) -> Option<usize>
     None
 }
 
+/// Whether the output is no image of what debuggers read alone.
+fn keeps_all(layout: &Layout) -> bool
+    ensures { result ≡ keeps_all layout.now }
+{
+    !layout.options.only_keep_debug
+}
+
 #[tactic(auto, unfolding(crate::specs::ClauseTests::check_fronts))]
 pub(crate) fn check_fronts(layout: &Layout) -> Result<(), Clause>
     ensures { result ≡ check_fronts layout.now }
@@ -162,6 +169,7 @@ pub(crate) fn check_fronts(layout: &Layout) -> Result<(), Clause>
     fails(22, first_failing(&MergedFits { layout }, merged))?;
     fails(22, unless(identity_fills(layout)))?;
     fails(22, property_again(layout.properties.as_slice()))?;
+    fails(22, unless(keeps_all(layout)))?;
     fails(22, front_shared(merged))?;
     fails(22, unless(identity_is_alone(layout)))
 }

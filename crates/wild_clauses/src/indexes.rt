@@ -1,6 +1,6 @@
 //! Clause 9: indexes.
 ghost use Rattle.std.specs.Prelude.{◌≡◌, slice_get};
-ghost use Rattle.wild_clauses.specs.Indexes.{part_index_fits, relocation_index_fits, symbol_is_there, section_indexes_fit, file_indexes_fit, group_indexes_fit, thunk_is_there, thunks_are_there, listed_is_there, section_is_there, file_is_there, sorted_is_there, merged_is_there, entry_is_there, definition_is_own, range_follows, range_out_of_order};
+ghost use Rattle.wild_clauses.specs.Indexes.{index_fits, part_index_fits, relocation_index_fits, symbol_is_there, header_is_there, section_indexes_fit, file_indexes_fit, group_indexes_fit, thunk_is_there, thunks_are_there, listed_is_there, section_is_there, file_is_there, sorted_is_there, merged_is_there, entry_is_there, definition_is_own, range_follows, range_out_of_order};
 ghost use Rattle.wild_types.specs.Lists.{through};
 ghost use Rattle.wild_clauses.specs.ClauseTests.{check_indexes};
 
@@ -10,7 +10,7 @@ use crate::verdict::{fails, unless};
 use crate::versions::ParentIsThere;
 use wild_types::{
     Clause, DynamicSymbol, Entry, File, Group, InputRelocation, InputSection, Layout, Merged, Part,
-    SortedSection, Symbol, SymbolIndex, Test, Thunk, all_pass, first_failing,
+    SectionIndex, SortedSection, Symbol, SymbolIndex, Test, Thunk, all_pass, first_failing,
 };
 use wild_words::Items;
 
@@ -44,11 +44,32 @@ impl Test<SymbolIndex> for IndexesFit<'_> {
     }
 }
 
+impl Test<SectionIndex> for IndexesFit<'_> {
+    ghost test = { λ t. header_is_there t.layout.now };
+
+    fn passes(&self, header: &SectionIndex) -> bool {
+        header.0 < self.layout.sections.len()
+    }
+}
+
+/// Whether a header index, where it is there, is one of a count of sections.
+fn header_fits(count: usize, header: Option<SectionIndex>) -> bool
+    ensures { result ≡ index_fits count header }
+{
+    match header {
+        Some(header) => header.0 < count,
+        None => true,
+    }
+}
+
 impl Test<InputSection> for IndexesFit<'_> {
     ghost test = { λ t. section_indexes_fit t.layout.now };
 
     fn passes(&self, section: &InputSection) -> bool {
-        section.part < self.layout.parts.len() && all_pass(self, section.relocations.as_slice())
+        section.part < self.layout.parts.len()
+            && header_fits(self.layout.sections.len(), section.singleton)
+            && all_pass(self, section.members.as_slice())
+            && all_pass(self, section.relocations.as_slice())
     }
 }
 

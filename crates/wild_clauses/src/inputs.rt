@@ -1,6 +1,6 @@
 //! Clause 8: input sections in their parts.
 ghost use Rattle.std.specs.Prelude.{◌≡◌, slice_get};
-ghost use Rattle.wild_clauses.specs.Contents.{length_fits, may_lack_bytes, is_frames_part, frames_part_fits, discarded_is_empty, is_raw, part_is_raw, holds_bytes, merged_is_raw, identity_is_raw, holds_thunks, primary_fits, has_room, allocation_agrees, bytes_take_room};
+ghost use Rattle.wild_clauses.specs.Contents.{length_fits, may_lack_bytes, is_frames_part, frames_part_fits, discarded_is_empty, is_raw, part_is_raw, holds_bytes, merged_is_raw, identity_is_raw, holds_thunks, primary_fits, has_room, allocation_agrees, has_some, bytes_take_room};
 ghost use Rattle.wild_clauses.specs.Passed.{passes_all, parts_fit};
 ghost use Rattle.wild_clauses.specs.ClauseTests.{once_fits, check_inputs};
 
@@ -162,7 +162,7 @@ fn has_room(slot: Slot) -> bool
     matches!(slot, Slot::Loaded | Slot::Sorted | Slot::Frame)
 }
 
-/// A section that is written is allocated exactly where its part's section is.
+/// A section that is written is allocated exactly where its part's section is; a relocatable object has no addresses.
 #[derive(Clone, Copy)]
 struct AllocationAgrees<'a> {
     layout: &'a Layout,
@@ -172,9 +172,17 @@ impl Test<InputSection> for AllocationAgrees<'_> {
     ghost test = { λ t. allocation_agrees t.layout.now };
 
     fn passes(&self, section: &InputSection) -> bool {
-        !has_room(section.slot)
+        self.layout.kind.is_partial_link()
+            || !has_room(section.slot)
             || is_allocated(section.flags) == self.layout.is_allocated_part(section.part)
     }
+}
+
+/// Whether the section has bytes, or such are made of it.
+fn has_some(section: &InputSection) -> bool
+    ensures { result ≡ has_some section.now }
+{
+    section.bytes.len() != 0 || matches!(section.slot, Slot::Rela) && section.size != 0
 }
 
 /// Bytes stand in no section without data.
@@ -188,7 +196,7 @@ impl Test<InputSection> for BytesTakeRoom<'_> {
 
     fn passes(&self, section: &InputSection) -> bool {
         let layout = self.layout;
-        section.bytes.len() == 0 || layout.takes_file_bytes(layout.section_of(section.part))
+        !has_some(section) || layout.takes_file_bytes(layout.section_of(section.part))
     }
 }
 

@@ -17,6 +17,7 @@ mod listed;
 mod loaded;
 mod names;
 mod order;
+mod partial;
 mod places;
 mod roles;
 mod sections;

@@ -1,11 +1,12 @@
 //! Whether the input sections of each part stand in its range of their group, in order and without overlap.
 ghost use Rattle.std.specs.Prelude.{◌≡◌, ◌+◌, ◌*◌, ◌^◌, ◌≤◌, ◌<◌, length, if◌then◌else◌, is_some, Some, None, ℕ, slice_index};
-ghost use Rattle.wild_laid.specs.Laid.{as_loaded, sorted_input};
+ghost use Rattle.wild_laid.specs.Laid.{sorted_input};
 ghost use Rattle.wild_clauses.specs.Contents.{addresses, ends_of, section_misplaced};
 ghost use Rattle.wild_types.specs.Lists.{through};
-ghost use Rattle.wild_clauses.specs.Misplaced.{earlier, misplaced, all_placed, file_all_placed};
-ghost use Rattle.wild_clauses.specs.Ordered.{sections_of, ordered};
+ghost use Rattle.wild_clauses.specs.Misplaced.{earlier, misplaced, all_placed, bytes_placed, file_all_placed};
+ghost use Rattle.wild_clauses.specs.Ordered.{as_ordered, sections_of, ordered};
 
+use crate::sorted::has_ordered_bytes;
 use wild_laid::sorted_input;
 use wild_types::{File, Group, InputSection, Layout, Part, SortedSection, wide_sum};
 
@@ -20,20 +21,14 @@ fn earlier(left: Option<usize>, right: Option<usize>) -> Option<usize>
     }
 }
 
-/// Moves the cursor of a loaded section's part behind it, where that is one of the parts from number `part` on and the section has
-/// bytes; false where the section is out of its place.
-#[tactic(auto, using(crate::proofs::BlockLemmas::unfilled, crate::proofs::BlockLemmas::before_all, crate::proofs::BlockLemmas::behind_all))]
-fn pass_bytes(
-    layout: &Layout,
-    part: usize,
-    ends: &[u128],
-    cursors: &mut [u128],
-    section: &InputSection,
-) -> bool
+/// Moves the cursor of a part behind a section with bytes, where that is one of the parts from number `part` on; false where the section
+/// is out of its place.
+#[tactic(auto, using(crate::proofs::BlockLemmas::before_all, crate::proofs::BlockLemmas::behind_all))]
+fn pass_bytes(part: usize, ends: &[u128], cursors: &mut [u128], section: &InputSection) -> bool
     requires { length ends.now ≡ length cursors.old }
-    ensures { all_placed layout.now part ends.now cursors.old (as_loaded section.now) ≡ (if result then Some cursors.new else None) }
+    ensures { bytes_placed part ends.now cursors.old section.now ≡ (if result then Some cursors.new else None) }
 {
-    if !section.has_bytes(layout) || section.part < part {
+    if section.part < part {
         return true;
     }
     let k = section.part - part;
@@ -48,8 +43,8 @@ fn pass_bytes(
     true
 }
 
-/// The same of a section of a file, which stands there only where it is loaded.
-#[tactic(auto, using(crate::proofs::OrderedLemmas::loaded_placed, crate::proofs::OrderedLemmas::unloaded_placed))]
+/// The same of a section of a file, which stands there only where it owns bytes.
+#[tactic(auto, using(crate::proofs::BlockLemmas::filled, crate::proofs::BlockLemmas::unfilled))]
 fn pass_section(
     layout: &Layout,
     part: usize,
@@ -60,7 +55,22 @@ fn pass_section(
     requires { length ends.now ≡ length cursors.old }
     ensures { all_placed layout.now part ends.now cursors.old section.now ≡ (if result then Some cursors.new else None) }
 {
-    !section.slot.is_loaded() || pass_bytes(layout, part, ends, cursors, section)
+    !section.is_filled(layout) || pass_bytes(part, ends, cursors, section)
+}
+
+/// The same of a section in a given order.
+#[tactic(auto, using(crate::proofs::OrderedLemmas::ordered_placed, crate::proofs::BlockLemmas::unfilled))]
+fn pass_ordered(
+    layout: &Layout,
+    part: usize,
+    ends: &[u128],
+    cursors: &mut [u128],
+    section: &InputSection,
+) -> bool
+    requires { length ends.now ≡ length cursors.old }
+    ensures { all_placed layout.now part ends.now cursors.old (as_ordered layout.now section.now) ≡ (if result then Some cursors.new else None) }
+{
+    !has_ordered_bytes(layout, section) || pass_bytes(part, ends, cursors, section)
 }
 
 fn pass_sections(
@@ -93,7 +103,7 @@ fn pass_entry(
     ensures { through (all_placed layout.now part ends.now) cursors.old (sections_of (sorted_input layout.now entry)) ≡ (if result then Some cursors.new else None) }
 {
     match sorted_input(layout, entry) {
-        Some(found) => pass_bytes(layout, part, ends, cursors, found.section),
+        Some(found) => pass_ordered(layout, part, ends, cursors, found.section),
         None => true,
     }
 }

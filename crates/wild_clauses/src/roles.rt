@@ -2,7 +2,7 @@
 ghost use Rattle.std.specs.Prelude.{◌≡◌, []};
 ghost use Rattle.wild_clauses.specs.Counts.{role_given};
 ghost use Rattle.wild_types.specs.Parts.{has_role};
-ghost use Rattle.wild_clauses.specs.Places.{role_again, role_missing, role_not_at, dynamic_unasked};
+ghost use Rattle.wild_clauses.specs.Places.{role_again, role_missing, role_not_at, program_headers_astray, dynamic_unasked};
 ghost use Rattle.wild_types.specs.Kinds.{is_fixed_static};
 ghost use Rattle.wild_clauses.specs.LoadedTables.{begins_behind, entries_follow};
 ghost use Rattle.wild_clauses.specs.ClauseTests.{check_roles};
@@ -81,6 +81,17 @@ fn role_not_at(role: Role, offset: u64, parts: &[Part]) -> Option<usize>
     Some(place_of(role))
 }
 
+/// The place of the part of program headers, or of its role, where they do not follow the file header; a relocatable object has none.
+fn program_headers_astray(layout: &Layout) -> Option<usize>
+    ensures { result ≡ program_headers_astray layout.now }
+{
+    if layout.kind.is_partial_link() {
+        return None;
+    }
+    let behind = FileHeader::SIZE as u64;
+    role_not_at(Role::ProgramHeaders, behind, layout.parts.as_slice())
+}
+
 /// A part of a role is there, or nothing has to be written in one.
 #[derive(Clone, Copy)]
 struct RoleGiven<'a> {
@@ -151,10 +162,7 @@ pub(crate) fn check_roles(layout: &Layout) -> Result<(), Clause>
     fails(4, role_not_at(Role::FileHeader, 0, parts))?;
     fails(4, role_missing(Role::SectionHeaders, parts))?;
     fails(4, role_missing(Role::Shstrtab, parts))?;
-    fails(
-        4,
-        role_not_at(Role::ProgramHeaders, FileHeader::SIZE as u64, parts),
-    )?;
+    fails(4, program_headers_astray(layout))?;
     fails(4, first_failing(&EntriesFollow { parts }, parts))?;
     fails(4, first_failing(&RoleGiven { layout }, &ROLES))?;
     fails(4, dynamic_unasked(layout))

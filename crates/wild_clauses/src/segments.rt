@@ -1,5 +1,6 @@
 //! Clause 6: segments.
 ghost use Rattle.std.specs.Prelude.{◌≡◌};
+ghost use Rattle.wild_clauses.specs.Places.{loaded_sections};
 ghost use Rattle.wild_clauses.specs.Segments.{stands_behind, segment_out_of_order, leaves_zero_free, segment_in_image};
 ghost use Rattle.wild_clauses.specs.ClauseTests.{check_segments};
 
@@ -8,7 +9,7 @@ use crate::loaded::{Side, not_loaded};
 use crate::verdict::fails;
 use wild_records::abi::segment::PT_LOAD;
 use wild_types::{
-    Clause, Layout, OutputKind, Segment, Test, behind_first, first_failing, wide_sum,
+    Clause, Layout, OutputKind, Section, Segment, Test, behind_first, first_failing, wide_sum,
 };
 
 fn stands_behind(page: u64, end: u128, segment: &Segment) -> bool
@@ -66,12 +67,23 @@ impl Test<Segment> for SegmentInImage {
     }
 }
 
+/// The sections behind section 0, of an output that is loaded.
+fn loaded_sections(layout: &Layout) -> &[Section]
+    ensures { result.now ≡ loaded_sections layout.now }
+{
+    if layout.kind.is_partial_link() {
+        &[]
+    } else {
+        behind_first(layout.sections.as_slice())
+    }
+}
+
 #[tactic(auto, unfolding(crate::specs::ClauseTests::check_segments))]
 pub(crate) fn check_segments(layout: &Layout) -> Result<(), Clause>
     ensures { result ≡ check_segments layout.now }
 {
     let segments = layout.segments.as_slice();
-    let later = behind_first(layout.sections.as_slice());
+    let later = loaded_sections(layout);
     let page = layout.page_size;
     let kind = layout.kind;
     let size = layout.image_end();

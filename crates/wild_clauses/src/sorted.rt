@@ -1,5 +1,7 @@
 //! Clause 8: each section in a given order is named once in it, and the order names no others.
 ghost use Rattle.std.specs.Prelude.{◌≡◌};
+ghost use Rattle.wild_types.specs.Lookups.{has_bytes};
+ghost use Rattle.wild_clauses.specs.Ordered.{as_ordered};
 ghost use Rattle.wild_clauses.specs.Contents.{times_named, is_named_once, sections_named_once, files_named_once, sorted_named_once, names_sorted};
 
 use wild_laid::sorted_input;
@@ -87,5 +89,16 @@ impl Test<SortedSection> for NamesSorted<'_> {
 
     fn passes(&self, entry: &SortedSection) -> bool {
         sorted_input(self.layout, *entry).is_some()
+    }
+}
+
+/// Whether there are bytes of a section in a given order, which is written as a loaded one.
+pub(crate) fn has_ordered_bytes(layout: &Layout, section: &InputSection) -> bool
+    ensures { result ≡ has_bytes layout.now (as_ordered layout.now section.now) }
+{
+    if section.nobits {
+        section.size != 0 && layout.takes_file_bytes(layout.section_of(section.part))
+    } else {
+        section.bytes.len() != 0
     }
 }

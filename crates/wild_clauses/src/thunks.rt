@@ -1,12 +1,13 @@
 //! Clause 12: where thunks stand.
 ghost use Rattle.std.specs.Prelude.{◌≡◌, ◌+◌, ◌*◌, ◌^◌, ◌<◌, ◌≤◌, length, IfOk, Some};
 ghost use Rattle.std.specs.List.{list_any};
-ghost use Rattle.wild_laid.specs.Laid.{as_loaded, sorted_input};
-ghost use Rattle.wild_clauses.specs.Ordered.{sections_of, ordered};
+ghost use Rattle.wild_laid.specs.Laid.{sorted_input};
+ghost use Rattle.wild_clauses.specs.Ordered.{as_ordered, sections_of, ordered};
 ghost use Rattle.wild_clauses.specs.SlotPlaces.{walk};
-ghost use Rattle.wild_clauses.specs.Thunks.{has_thunks, ascends_from, ascends, next_code, stand_from, behind_thunks, block_step, section_step, standing, file_step, misplaced_from, misplaced_in, thunks_misplaced, owns, is_owned, block_lost, machine_takes};
+ghost use Rattle.wild_clauses.specs.Thunks.{has_thunks, ascends_from, ascends, next_code, stand_from, behind_thunks, block_step, section_step, bytes_step, standing, file_step, misplaced_from, misplaced_in, thunks_misplaced, owns, is_owned, block_lost, machine_takes};
 ghost use Rattle.wild_clauses.specs.ClauseTests.{check_thunks};
 
+use crate::sorted::has_ordered_bytes;
 use crate::verdict::fails;
 use wild_laid::sorted_input;
 use wild_types::{
@@ -97,19 +98,14 @@ fn block_step(block: usize, end: u128, at: u128, thunks: &[Thunk]) -> Result<u12
     behind_thunks(block, end, (at + 3) / 4 * 4, thunks)
 }
 
-/// The place behind a loaded section of the primary part that has bytes; the number of its group where it begins before the free
+/// The place behind a section with bytes, where that is one of the primary part; the number of its group where it begins before the free
 /// place.
-fn step_bytes(
-    layout: &Layout,
-    group: usize,
-    at: u128,
-    section: &InputSection,
-) -> Result<u128, usize>
+fn step_bytes(primary: usize, group: usize, at: u128, section: &InputSection) -> Result<u128, usize>
     requires { at ≤ 2 ^ 65 }
-    ensures is { result ≡ section_step layout.now group at (as_loaded section.now) }
+    ensures is { result ≡ bytes_step primary group at section.now }
     ensures small { IfOk result (λ n. n ≤ 2 ^ 65) }
 {
-    if !section.has_bytes(layout) || section.part != layout.primary_part {
+    if section.part != primary {
         return Ok(at);
     }
     if u128::from(section.address) < at {
@@ -118,8 +114,8 @@ fn step_bytes(
     Ok(wide_sum(section.address, section.size))
 }
 
-/// The same of a section of a file, which stands there only where it is loaded.
-#[tactic(auto, using(crate::proofs::OrderedLemmas::loaded_step, crate::proofs::OrderedLemmas::unloaded_step))]
+/// The same of a section of a file, which stands there only where it owns bytes.
+#[tactic(auto, using(crate::proofs::OrderedLemmas::filled_step, crate::proofs::OrderedLemmas::unfilled_step))]
 fn section_step(
     layout: &Layout,
     group: usize,
@@ -130,10 +126,28 @@ fn section_step(
     ensures is { result ≡ section_step layout.now group at section.now }
     ensures small { IfOk result (λ n. n ≤ 2 ^ 65) }
 {
-    if !section.slot.is_loaded() {
+    if !section.is_filled(layout) {
         return Ok(at);
     }
-    step_bytes(layout, group, at, section)
+    step_bytes(layout.primary_part, group, at, section)
+}
+
+/// The same of a section in a given order.
+#[tactic(auto, using(crate::proofs::OrderedLemmas::ordered_step, crate::proofs::OrderedLemmas::unfilled_step))]
+fn ordered_step(
+    layout: &Layout,
+    group: usize,
+    at: u128,
+    section: &InputSection,
+) -> Result<u128, usize>
+    requires { at ≤ 2 ^ 65 }
+    ensures is { result ≡ section_step layout.now group at (as_ordered layout.now section.now) }
+    ensures small { IfOk result (λ n. n ≤ 2 ^ 65) }
+{
+    if !has_ordered_bytes(layout, section) {
+        return Ok(at);
+    }
+    step_bytes(layout.primary_part, group, at, section)
 }
 
 /// The same of the section that an entry of the order names.
@@ -144,7 +158,7 @@ fn step_entry(layout: &Layout, group: usize, at: u128, entry: SortedSection) -> 
     ensures small { IfOk result (λ n. n ≤ 2 ^ 65) }
 {
     match sorted_input(layout, entry) {
-        Some(found) => step_bytes(layout, group, at, found.section),
+        Some(found) => ordered_step(layout, group, at, found.section),
         None => Ok(at),
     }
 }

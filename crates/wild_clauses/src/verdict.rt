@@ -14,6 +14,7 @@ use crate::inputs::check_inputs;
 use crate::loaded::Side;
 use crate::names::check_names;
 use crate::order::check_order;
+use crate::partial::check_partial;
 use crate::roles::check_roles;
 use crate::sections::check_sections;
 use crate::segments::check_segments;
@@ -70,5 +71,6 @@ pub fn well_formed(layout: &Layout) -> Result<(), Clause>
     check_versions(layout)?;
     check_names(layout)?;
     check_reversed(layout)?;
+    check_partial(layout)?;
     check_fronts(layout)
 }

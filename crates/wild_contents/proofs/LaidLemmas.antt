@@ -22,6 +22,7 @@ use Rattle.wild_types.specs.declared.layout.Layout.{Layout}
 use Rattle.wild_types.specs.Lists.{total}
 use Rattle.wild_types.specs.FileRoles.{is_prelude}
 use Rattle.wild_types.specs.FileSymbols.{copies_of}
+use Rattle.wild_types.specs.Kinds.{is_partial_link}
 use Rattle.wild_types.specs.Lookups.{is_frame}
 use Rattle.wild_frames.specs.Frames.{frame_bytes}
 use Rattle.wild_needs.specs.declared.table.Named.{Named}
@@ -32,7 +33,7 @@ use Rattle.wild_needs.specs.Needs.{frame_room, has_last}
 use Rattle.wild_needs.specs.TableSymbols.{TableSymbol, file_items, item_name, is_local, has_long, table_strings}
 use Rattle.wild_laid.specs.Turned.{as_turned, turned}
 use Rattle.wild_laid.specs.FrameInputs.{frames_of, kept_size}
-use Rattle.wild_laid.specs.Laid.{Input, laid_by, laid_section, laid_sections, laid_file, laid_from, laid_files, behind, file_frames, sorted_input, sorted_inputs, sorted_sections, of_last_file, processed}
+use Rattle.wild_laid.specs.Laid.{Input, without_relocations, unread, laid_by, laid_section, laid_sections, laid_file, laid_from, laid_files, behind, file_frames, sorted_input, sorted_inputs, sorted_sections, of_last_file, processed}
 use Rattle.wild_symbols.specs.declared.table.TableFields.{TableFields}
 use Rattle.wild_types.specs.declared.fault.Fault.{Fault}
 use Rattle.std.specs.Prelude.{Result}
@@ -52,19 +53,28 @@ use Rattle.wild_contents.proofs.GeneralLemmas.{generals_are}
 
 -- ---- the walk over the sections of a file
 
-turned_room : (b : Bool) (s : InputSection) → s.slot ≡ slot.Loaded → frame_room (if b then turned s else s) ≡ 0
+turned_room : (b : Bool) (s : InputSection) → is_frame s.slot ≡ false → frame_room (if b then turned s else s) ≡ 0
 turned_room true s e = rw e refl
 turned_room false s e = rw e refl
+
+-- without its relocations a section has its slot and its part
+unread_slot : (b : Bool) (s : InputSection) → (if b then without_relocations s else s).slot ≡ s.slot
+unread_slot true s = refl
+unread_slot false s = refl
+
+unread_part : (b : Bool) (s : InputSection) → (if b then without_relocations s else s).part ≡ s.part
+unread_part true s = refl
+unread_part false s = refl
 
 room_by : (l : Layout) (f : File) (at : ℕ) (s : InputSection) (k : Slot) → s.slot ≡ k → frame_room (laid_by k l f at s) ≡ (if is_frame k then length (frame_bytes (frames_of l f s)) else 0)
 unfolding as_turned
 room_by l f at s slot.Discard e = rw e refl
-room_by l f at s slot.Loaded e = turned_room s.reversed s e
+room_by l f at s slot.Loaded e = turned_room (unread l s).reversed (unread l s) (ap is_frame (unread_slot (is_partial_link l.kind) s ∙ e))
 room_by l f at s slot.Sorted e = rw e refl
-room_by l f at s slot.Debug e = rw e refl
+room_by l f at s slot.Debug e = turned_room s.reversed s (ap is_frame e)
 room_by l f at s slot.Frame e = refl
 room_by l f at s slot.Merge e = rw e refl
-room_by l f at s slot.Rela e = rw e refl
+room_by l f at s slot.Rela e = refl
 room_by l f at s slot.Group e = rw e refl
 
 -- how many bytes of frames a section has is told by how it stands
@@ -130,9 +140,9 @@ turned_part false s = refl
 part_by : (l : Layout) (f : File) (at : ℕ) (s : InputSection) (k : Slot) → (laid_by k l f at s).part ≡ s.part
 unfolding as_turned
 part_by l f at s slot.Discard = refl
-part_by l f at s slot.Loaded = turned_part s.reversed s
+part_by l f at s slot.Loaded = turned_part (unread l s).reversed (unread l s) ∙ unread_part (is_partial_link l.kind) s
 part_by l f at s slot.Sorted = refl
-part_by l f at s slot.Debug = refl
+part_by l f at s slot.Debug = turned_part s.reversed s
 part_by l f at s slot.Frame = refl
 part_by l f at s slot.Merge = refl
 part_by l f at s slot.Rela = refl
@@ -163,7 +173,7 @@ fields_laid l at f (named.Thunk a) i s = refl
 
 entry_laid : (l : Layout) (at : ℕ) (f : File) (x : TableSymbol) → named_entry l (laid_file l at f) x ≡ named_entry l f x
 unfolding table_fields
-entry_laid l at f x = ap (λ (r : Result TableFields Fault). record { name = item_name x; local = is_local x; fields = or_none_in_table r }) (fields_laid l at f x.named x.index x.symbol)
+entry_laid l at f x = ap (λ (r : Result TableFields Fault). record { name = Some (item_name x); local = is_local x; fields = or_none_in_table r }) (fields_laid l at f x.named x.index x.symbol)
 
 map_same : {X Y : Type 0} (f g : X → Y) (xs : List X) → ((x : X) → f x ≡ g x) → map f xs ≡ map g xs
 map_same f g [] same = refl

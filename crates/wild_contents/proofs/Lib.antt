@@ -1,4 +1,5 @@
 pub mod OwnLemmas
+pub mod PartLemmas
 pub mod SlotLemmas
 pub mod GeneralLemmas
 pub mod StringLemmas

@@ -1,13 +1,14 @@
 -- Laws of walks over what `.symtab` has of symbols.
 use Rattle.std.proofs.Common.{◌≡◌, ℕ, ◌+◌, ◌<◌, inl, inr, Bool, true, false, if◌then◌else◌, List, [], ◌∷◌, ◌++◌, length, take, get_or, map, refl, sym, ap, ◌∙◌, subst, Ok, Err}
+use Rattle.std.specs.Prelude.{Result, OnOk, option_to_list}
 use Rattle.std.specs.List.{flat_map}
+use Rattle.std.proofs.lemmas.List.Concat.{flat_map-append}
 use Rattle.std.proofs.lemmas.Bool.{cases_Bool}
 use Rattle.std.proofs.lemmas.List.{append-nil, append_assoc}
 use Rattle.wild_words.proofs.ListLemmas.{flat_map-more}
 use Rattle.wild_records.specs.declared.symtab_entry.SymtabEntry.{SymtabEntry}
 use Rattle.wild_types.specs.declared.file.File.{File}
 use Rattle.wild_types.specs.declared.layout.Layout.{Layout}
-use Rattle.wild_needs.specs.DynamicStrings.{behind_text}
 use Rattle.wild_types.specs.declared.part.Role.{Role}
 use Rattle.wild_types.specs.declared.file.Group.{Group}
 use Rattle.wild_needs.specs.TableSymbols.{TableSymbol, is_on, file_items, table_strings, has_long}
@@ -15,9 +16,9 @@ use Rattle.wild_layout.specs.Content.{indexes_of}
 use Rattle.wild_symbols.specs.Strings.{string, string_bytes}
 use Rattle.wild_symbols.specs.Symbols.{symbol_bytes}
 use Rattle.wild_symbols.specs.DynamicEntries.{entry_at}
-use Rattle.wild_symbols.specs.TableEntries.{NamedEntry, named_entry, null_entries, is_side, side_entries, long_indexes, index_bytes, file_table, group_table, table_entries}
+use Rattle.wild_symbols.specs.TableEntries.{NamedEntry, named_entry, null_entry, section_entry, null_entries, name_at, behind_name, is_side, side_entries, long_indexes, index_bytes, file_table, group_table, table_entries}
 use Rattle.wild_symbols.specs.TableLaws.{names_of, NamesOfFiles}
-use Rattle.wild_contents.specs.Walks.{taken_bytes, sunk, Walks, Written, with_entry, Writes}
+use Rattle.wild_contents.specs.Walks.{taken_bytes, sunk, Walks, Written, with_entry, Writes, WritesSection}
 use Rattle.wild_needs.specs.declared.table.TablePart.{TablePart}
 use Rattle.wild_needs.specs.declared.table.TablePart.TheVariants.{Side, Long, Strings}
 use Rattle.wild_needs.specs.Runs.{Ran, none, more, stop}
@@ -28,13 +29,13 @@ pub walks_none : (k : TablePart) (bs : List ℕ) (at : ℕ) → Walks k bs at bs
 walks_none k bs at = record { on = λ rest. refl }
 
 -- one entry
-pub walks_one : (k : TablePart) (from to : List ℕ) (at next : ℕ) (n : NamedEntry) → to ≡ from ++ taken_bytes k at n → next ≡ behind_text at n.name → Walks k from at to next (n ∷ [])
+pub walks_one : (k : TablePart) (from to : List ℕ) (at next : ℕ) (n : NamedEntry) → to ≡ from ++ taken_bytes k at n → next ≡ behind_name at n.name → Walks k from at to next (n ∷ [])
 unfolding sunk
 walks_one k from to at next n step is = record {
   on = λ rest.
       ap (λ (j : ℕ). to ++ sunk k j rest) is
-      ∙ ap (λ (bs : List ℕ). bs ++ sunk k (behind_text at n.name) rest) step
-      ∙ append_assoc from (taken_bytes k at n) (sunk k (behind_text at n.name) rest);
+      ∙ ap (λ (bs : List ℕ). bs ++ sunk k (behind_name at n.name) rest) step
+      ∙ append_assoc from (taken_bytes k at n) (sunk k (behind_name at n.name) rest);
 }
 
 -- one walk behind another
@@ -51,6 +52,44 @@ walks_more {X} k f xs t x a b c i j m low read one two =
 pub walked : (k : TablePart) (from to : List ℕ) (at next : ℕ) (ns : List NamedEntry) → Walks k from at to next ns → to ≡ from ++ sunk k at ns
 unfolding sunk
 walked k from to at next ns h = sym (append-nil to) ∙ h.on [] ∙ ap (λ (zs : List NamedEntry). from ++ sunk k at zs) (append-nil ns)
+
+-- ---- entries of sections
+
+-- a walk in place
+pub record Walked (a b : Written) (ns : List NamedEntry) : Type 0 where
+  pub walks : Walks a.part a.bytes a.at b.bytes b.at ns
+  pub layout : b.layout ≡ a.layout
+  pub file : b.file ≡ a.file
+  pub part : b.part ≡ a.part
+
+-- the one entry, or want of memory
+pub section_ran : {E : Type 0} (a b : Written) (k : ℕ) (r : Result (Unit {0}) E) → OnOk r (b ≡ with_entry (section_entry k) a) → Ran WritesSection (λ c y d i. Unit {0}) a (k ∷ []) r b
+section_ran a b k (Ok u) h = more h none
+section_ran a b k (Err e) h = stop tt
+
+entry_walked : (n : NamedEntry) (a b c : Written) (ns : List NamedEntry) → b ≡ with_entry n a → Walked b c ns → Walked a c (n ∷ ns)
+entry_walked n a b c ns is rest =
+    let w = with_entry n a in
+    let next = subst (λ (v : Written). Walked v c ns) is rest in
+    record {
+      walks = walks_on a.part a.bytes w.bytes c.bytes a.at w.at c.at (n ∷ []) ns (walks_one a.part a.bytes w.bytes a.at w.at n refl refl) next.walks;
+      layout = next.layout;
+      file = next.file;
+      part = next.part;
+    }
+
+-- what was written of sections, one behind the other
+pub sections_walked : {E : Type 0} {refuses : Written → ℕ → E → Written → Type 0} {a b : Written} {ks : List ℕ} {u : Unit {0}} → Ran WritesSection refuses a ks (Ok u) b → Walked a b (map section_entry ks)
+sections_walked {a = a} none = record { walks = walks_none a.part a.bytes a.at; layout = refl; file = refl; part = refl }
+sections_walked {a = a} {b = c} (more {b = b} {x = k} {xs = ks} h t) = entry_walked (section_entry k) a b c (map section_entry ks) h (sections_walked t)
+
+-- the entry of zeros, and those of sections behind it
+pub prelude_walked : {E : Type 0} {refuses : Written → ℕ → E → Written → Type 0} {u : Unit {0}} (a b c : Written) (ks : List ℕ) → b ≡ with_entry null_entry a → Ran WritesSection refuses b ks (Ok u) c → Walked a c (null_entry ∷ map section_entry ks)
+prelude_walked a b c ks is run = entry_walked null_entry a b c (map section_entry ks) is (sections_walked run)
+
+-- they are of the same part of the same file
+pub prelude_kept : {E : Type 0} {refuses : Written → ℕ → E → Written → Type 0} {u : Unit {0}} (a b c : Written) (ks : List ℕ) → b ≡ with_entry null_entry a → Ran WritesSection refuses b ks (Ok u) c → (c.layout ≡ a.layout) × (c.file ≡ a.file) × (c.part ≡ a.part)
+prelude_kept a b c ks is run = let w = prelude_walked a b c ks is run in (w.layout, w.file, w.part)
 
 -- ---- symbols
 
@@ -95,8 +134,8 @@ pub sides_sunk : (local : Bool) (at : ℕ) (ns : List NamedEntry) → sunk (Side
 unfolding sunk side_entries
 sides_sunk local at [] = refl
 sides_sunk local at (n ∷ ns) =
-    ap (λ (bs : List ℕ). taken_bytes (Side local) at n ++ bs) (sides_sunk local (behind_text at n.name) ns)
-    ∙ side_first (is_side local n) (entry_at at n.fields.fields) (side_entries local (behind_text at n.name) ns)
+    ap (λ (bs : List ℕ). taken_bytes (Side local) at n ++ bs) (sides_sunk local (behind_name at n.name) ns)
+    ∙ side_first (is_side local n) (entry_at (name_at at n.name) n.fields.fields) (side_entries local (behind_name at n.name) ns)
 
 long_first : (local : Bool) (n : NamedEntry) (ns : List NamedEntry) → taken_bytes (Long local) 0 n ++ index_bytes (long_indexes local ns) ≡ index_bytes (long_indexes local (n ∷ ns))
 long_first local n ns = elim (cases_Bool (is_side local n)) [
@@ -107,12 +146,14 @@ long_first local n ns = elim (cases_Bool (is_side local n)) [
 pub longs_sunk : (local : Bool) (at : ℕ) (ns : List NamedEntry) → sunk (Long local) at ns ≡ index_bytes (long_indexes local ns)
 unfolding sunk
 longs_sunk local at [] = refl
-longs_sunk local at (n ∷ ns) = ap (λ (bs : List ℕ). taken_bytes (Long local) 0 n ++ bs) (longs_sunk local (behind_text at n.name) ns) ∙ long_first local n ns
+longs_sunk local at (n ∷ ns) = ap (λ (bs : List ℕ). taken_bytes (Long local) 0 n ++ bs) (longs_sunk local (behind_name at n.name) ns) ∙ long_first local n ns
 
 pub names_sunk : (at : ℕ) (ns : List NamedEntry) → sunk Strings at ns ≡ string_bytes (names_of ns)
 unfolding sunk
 names_sunk at [] = refl
-names_sunk at (n ∷ ns) = ap (λ (bs : List ℕ). string n.name ++ bs) (names_sunk (behind_text at n.name) ns)
+names_sunk at (n ∷ ns) =
+    ap (λ (bs : List ℕ). string_bytes (option_to_list n.name) ++ bs) (names_sunk (behind_name at n.name) ns)
+    ∙ sym (flat_map-append string (option_to_list n.name) (names_of ns))
 
 -- the entries of a group
 pub table_walked : (local : Bool) (l : Layout) (g : Group) (from to : List ℕ) (next : ℕ) → Walks (Side local) from g.strtab_start to next (flat_map (file_table l) g.files) → to ≡ from ++ symbol_bytes (table_entries l local g)
@@ -130,7 +171,7 @@ no_indexes local l r f bs has = rw has (sym (append-nil bs))
 pub names_walked : NamesOfFiles → (l : Layout) (f : File) (from to : List ℕ) (at next : ℕ) → Walks Strings from at to next (file_table l f) → to ≡ from ++ string_bytes (table_strings l f)
 names_walked law l f from to at next h = walked Strings from to at next (file_table l f) h ∙ ap (λ (bs : List ℕ). from ++ bs) (names_sunk at (file_table l f) ∙ ap string_bytes (law l f))
 
-pub ruleset walks = (walks_none, walks_one)
+pub ruleset prelude_walks = (walks_none, prelude_walked)
 
 pub ruleset walk_files = (walks_none, walks_more)
 

@@ -2,11 +2,12 @@
 --   entry_of l f named i s     the entry of symbol i of a file, or of the name of its slot, its stub or a thunk to it
 --   taken_bytes k at n         what a part takes of an entry whose name stands at an offset of the strings
 --   sunk k at ns               of some, whose names stand one behind the other
+--   with_entry n w             an entry more
 --   Walks k from at to next ns   from bytes and an offset to others: those of the entries are added, whatever comes behind them
 --   Written                    what is written of a part, for which file, and where the next name stands
---   Writes a x b               what the part takes of a symbol was added
+--   Writes a x b               what the part takes of a symbol was added; WritesSection a k b that of section k
 --   Passes a x b, Lacks a x e b   a symbol that lacks nothing, and one that lacks what the error says
-use Rattle.std.specs.Prelude.{◌≡◌, ℕ, Bool, if◌then◌else◌, List, [], ◌∷◌, ◌++◌}
+use Rattle.std.specs.Prelude.{◌≡◌, ℕ, Bool, if◌then◌else◌, List, [], ◌∷◌, ◌++◌, option_to_list}
 use Rattle.wild_words.specs.Words.{word}
 use Rattle.wild_types.specs.declared.fault.At.{At}
 use Rattle.wild_types.specs.declared.fault.Error.{Error}
@@ -17,12 +18,11 @@ use Rattle.wild_needs.specs.declared.table.Named.{Named}
 use Rattle.wild_needs.specs.declared.table.TablePart.{TablePart}
 use Rattle.wild_needs.specs.declared.table.TablePart.TheVariants as parts
 use Rattle.wild_types.specs.declared.layout.Layout.{Layout}
-use Rattle.wild_needs.specs.DynamicStrings.{behind_text}
 use Rattle.wild_needs.specs.TableSymbols.{TableSymbol, item}
-use Rattle.wild_symbols.specs.Strings.{string}
+use Rattle.wild_symbols.specs.Strings.{string_bytes}
 use Rattle.wild_symbols.specs.Symbols.{symbol_bytes}
 use Rattle.wild_symbols.specs.DynamicEntries.{entry_at}
-use Rattle.wild_symbols.specs.TableEntries.{NamedEntry, named_entry, is_side}
+use Rattle.wild_symbols.specs.TableEntries.{NamedEntry, named_entry, section_entry, is_side, name_at, behind_name}
 use Rattle.wild_layout.specs.Faults.{table_error}
 
 -- the entry of symbol i of a file, or of the name of its slot, its stub or a thunk to it
@@ -32,14 +32,14 @@ entry_of l f named i s = named_entry l f (item named i s)
 -- what a part takes of an entry whose name stands at an offset of the strings: the entry or its longer section index, of its side, or
 -- the name
 abbrev pub taken_bytes : TablePart → ℕ → NamedEntry → List ℕ
-taken_bytes (parts.Side local) at n = if is_side local n then symbol_bytes (entry_at at n.fields.fields ∷ []) else []
+taken_bytes (parts.Side local) at n = if is_side local n then symbol_bytes (entry_at (name_at at n.name) n.fields.fields ∷ []) else []
 taken_bytes (parts.Long local) at n = if is_side local n then word 4 n.fields.long else []
-taken_bytes parts.Strings at n = string n.name
+taken_bytes parts.Strings at n = string_bytes (option_to_list n.name)
 
 -- of some, whose names stand one behind the other
 unfoldable pub sunk : TablePart → ℕ → List NamedEntry → List ℕ
 sunk k at [] = []
-sunk k at (n ∷ ns) = taken_bytes k at n ++ sunk k (behind_text at n.name) ns
+sunk k at (n ∷ ns) = taken_bytes k at n ++ sunk k (behind_name at n.name) ns
 
 -- from bytes and an offset to others: those of the entries are added, whatever comes behind them
 pub record Walks (k : TablePart) (from : List ℕ) (at : ℕ) (to : List ℕ) (next : ℕ) (ns : List NamedEntry) : Type 0 where
@@ -55,11 +55,15 @@ pub record Written : Type 0 where
 
 -- an entry more
 abbrev pub with_entry : NamedEntry → Written → Written
-with_entry n w = record w { at = behind_text w.at n.name; bytes = w.bytes ++ taken_bytes w.part w.at n }
+with_entry n w = record w { at = behind_name w.at n.name; bytes = w.bytes ++ taken_bytes w.part w.at n }
 
 -- what the part takes of a symbol was added
 abbrev pub Writes : Written → TableSymbol → Written → Type 0
 Writes a x b = b ≡ with_entry (named_entry a.layout a.file x) a
+
+-- what it takes of a section
+abbrev pub WritesSection : Written → ℕ → Written → Type 0
+WritesSection a k b = b ≡ with_entry (section_entry k) a
 
 -- the symbols of a file, which are looked at
 pub record Looked : Type 0 where

@@ -101,7 +101,7 @@ fn add_sorted_section<A: Arch>(
 {
     match sorted_input(resolved.layout, entry) {
         Some(input) => {
-            let laid = lay_sorted(alloc, input.section)?;
+            let laid = lay_sorted(alloc, resolved.layout, input.section)?;
             add_stood(alloc, resolved, role, laid.section(), bytes)
         }
         None => Ok(()),

@@ -1,17 +1,21 @@
 //! The bytes that a group has of a part.
-ghost use Rattle.std.specs.Prelude.{◌≡◌, [], ◌++◌, length, All, IfOk, OnOk};
+ghost use Rattle.std.specs.Prelude.{◌≡◌, [], ◌++◌, true, length, All, IfOk, OnOk};
 ghost use Rattle.wild_types.specs.Faults.{Answers};
 ghost use Rattle.wild_types.specs.Item.{item_now};
+ghost use Rattle.wild_types.specs.Kinds.{is_partial_link};
 ghost use Rattle.wild_layout.specs.Sites.{MovesApart, item_bytes};
-ghost use Rattle.wild_layout.specs.Faults.{item_errors};
+ghost use Rattle.wild_layout.specs.Faults.{item_errors, debug_errors};
+ghost use Rattle.wild_layout.specs.Debug.{debug_bytes};
+ghost use Rattle.wild_layout.specs.Partial.{rela_bytes_of, group_words};
 ghost use Rattle.wild_sections.specs.Origins.{ending_errors};
 ghost use Rattle.wild_layout.specs.SectionPlaces.{FieldLies};
 
 use std::alloc::{AllocError, Global};
 use std::marker::Model;
+use wild_debug::apply_debug_relocations;
 use wild_relax::Arch;
-use wild_sections::{Origin, Resolved, write_data};
-use wild_types::{Error, ItemRef};
+use wild_sections::{Origin, Resolved, write_data, write_group_section, write_rela_section};
+use wild_types::{Error, InputSection, ItemRef};
 
 /// Bytes that grow at their end, which contracts see as a list of numbers.
 #[derive(Drop)]
@@ -76,6 +80,57 @@ impl PartBytes {
         let from = self.entries.len();
         self.entries.extend_from_slice(item.bytes)?;
         write_data(alloc, resolved, origin, item, &mut self.entries[from..])
+    }
+
+    /// Adds the bytes of a section that debuggers read, which stands so, with its relocations, or answers its first fault, with the place
+    /// that it has in the input.
+    pub fn add_debug<A: Arch>(
+        &mut self,
+        resolved: &Resolved<A>,
+        origin: &Origin,
+        section: &InputSection,
+    ) -> Result<(), Error>
+        requires lies { All (FieldLies resolved.now.layout.now.machine (length section.now.bytes)) section.now.relocations }
+        requires origins { length origin.now.relocations.now ≡ length section.now.relocations }
+        ensures faults { Answers result (debug_errors resolved.now.layout.now origin.now.place.group origin.now.place.file origin.now.place.section section.now origin.now.relocations.now) }
+        ensures bytes { OnOk result (self.new ≡ self.old ++ debug_bytes resolved.now.layout.now section.now) }
+    {
+        let from = self.entries.len();
+        self.entries.extend_from_slice(section.bytes.as_slice())?;
+        apply_debug_relocations(
+            resolved,
+            origin.place,
+            origin.relocations,
+            section,
+            &mut self.entries[from..],
+        )
+    }
+
+    /// Adds the bytes of a table of relocations, which stands with those of its target.
+    #[tactic(auto, using(crate::proofs::PartLemmas::rela_room))]
+    pub fn add_rela<A: Arch>(
+        &mut self,
+        alloc: Global,
+        resolved: &Resolved<A>,
+        section: &InputSection,
+    ) -> Result<(), AllocError>
+        requires partial { is_partial_link resolved.now.layout.now.kind ≡ true }
+        requires size { length (rela_bytes_of resolved.now.layout.now section.now) ≡ section.now.size }
+        ensures { OnOk result (self.new ≡ self.old ++ rela_bytes_of resolved.now.layout.now section.now) }
+    {
+        let mut room = vec![in alloc; 0u8; section.size as usize]?;
+        write_rela_section(resolved, section, &mut room);
+        self.extend(&room)
+    }
+
+    /// Adds the bytes of a group.
+    pub fn add_group(&mut self, alloc: Global, section: &InputSection) -> Result<(), AllocError>
+        requires size { length (group_words section.now) ≡ section.now.size }
+        ensures { OnOk result (self.new ≡ self.old ++ group_words section.now) }
+    {
+        let mut room = vec![in alloc; 0u8; section.size as usize]?;
+        write_group_section(section, &mut room);
+        self.extend(&room)
     }
 
     /// The bytes.

@@ -9,7 +9,7 @@ ghost use Rattle.wild_needs.specs.DynamicStrings.{behind_text};
 ghost use Rattle.wild_needs.specs.TableSymbols.{full_name, table_strings};
 ghost use Rattle.wild_symbols.specs.Strings.{string, string_bytes};
 ghost use Rattle.wild_symbols.specs.Symbols.{symbol_bytes};
-ghost use Rattle.wild_symbols.specs.TableEntries.{is_side, null_entry, null_entries, file_table, fields_of, table_entries};
+ghost use Rattle.wild_symbols.specs.TableEntries.{is_side, null_entry, section_entry, null_entries, file_table, fields_of, table_entries};
 ghost use Rattle.wild_layout.specs.Content.{indexes_of};
 ghost use Rattle.wild_contents.specs.Walks.{entry_of, taken_bytes, with_entry, Walks};
 
@@ -22,7 +22,8 @@ use wild_needs::{Named, TablePart, TableSink, give_table, has_long, is_on, prefi
 use wild_relax::Arch;
 use wild_sections::{Resolved, section_in_file};
 use wild_symbols::{
-    TableFields, entry_at, names_are_strings, no_fields, null_table_fields, table_fields,
+    SectionSink, TableFields, entry_at, give_section_symbols, names_are_strings, no_fields,
+    null_table_fields, section_fields, table_fields,
 };
 use wild_types::{Fault, File, Group, Role, Symbol, SymbolIndex};
 
@@ -47,6 +48,7 @@ pub(crate) fn fields_of<A: Arch>(
         symbol,
         section.0,
         address,
+        resolved.section_within(SymbolIndex(index)),
         &resolved.named,
     )
 }
@@ -138,6 +140,20 @@ impl<'r, 'l, 'f, A: Arch> TableSink for TableBytes<'r, 'l, 'f, A> {
     }
 }
 
+impl<'r, 'l, 'f, A: Arch> SectionSink for TableBytes<'r, 'l, 'f, A> {
+    ghost use Rattle.wild_contents.specs.Walks.{WritesSection};
+
+    type Error = AllocError;
+
+    ghost goes = { WritesSection };
+
+    ghost refuses = { λ a k e b. Unit {0} };
+
+    fn take(&mut self, header: usize) -> Result<(), AllocError> {
+        self.add_section(header)
+    }
+}
+
 impl<'r, 'l, 'f, A: Arch> TableBytes<'r, 'l, 'f, A> {
     /// The bytes, and where the next name stands.
     fn into_parts(self) -> (PartBytes, u64)
@@ -206,17 +222,29 @@ impl<'r, 'l, 'f, A: Arch> TableBytes<'r, 'l, 'f, A> {
         Ok(())
     }
 
-    /// The same, where the file is the first one of an output with such a table.
-    #[tactic(auto, using(crate::proofs::WalkLemmas::walks))]
+    /// Adds what the part takes of the entry of a section, which has no name.
+    fn add_section(&mut self, section: usize) -> Result<(), AllocError>
+        ensures { OnOk result (self.new ≡ with_entry (section_entry section) self.old) }
+    {
+        let fields = section_fields(section);
+        match self.part {
+            TablePart::Side(true) => add_entry(entry_at(0, fields.fields), &mut self.bytes),
+            TablePart::Long(true) => add_index(fields.long, &mut self.bytes),
+            _ => Ok(()),
+        }
+    }
+
+    /// Adds what the part takes of the entry of zeros and those of sections, where the file is the first one of an output with such a table.
+    #[tactic(auto, using(crate::proofs::WalkLemmas::prelude_walks))]
     fn add_null(&mut self) -> Result<(), AllocError>
         ensures walks { OnOk result (Walks self.old.part self.old.bytes self.old.at self.new.bytes self.new.at (null_entries self.old.layout self.old.file)) }
         ensures kept { OnOk result ((self.new.layout ≡ self.old.layout) × (self.new.file ≡ self.old.file) × (self.new.part ≡ self.old.part)) }
     {
         if self.resolved.layout.has_table() && self.file.role.is_prelude() {
-            self.add_zeros()
-        } else {
-            Ok(())
+            self.add_zeros()?;
+            give_section_symbols(self.resolved.layout, self)?;
         }
+        Ok(())
     }
 }
 

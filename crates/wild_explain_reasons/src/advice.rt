@@ -249,8 +249,11 @@ fn push_entry(out: &mut String, layout: &Layout) -> Result<(), AllocError> {
     Ok(())
 }
 
-/// Adds what a loader, or a program at work, would stumble over.
+/// Adds what a loader, or a program at work, would stumble over; nothing loads a relocatable object.
 pub fn push_advice(out: &mut String, layout: &Layout) -> Result<(), AllocError> {
+    if layout.kind.is_partial_link() {
+        return Ok(());
+    }
     push_pages(out, layout)?;
     push_thread_data(out, layout)?;
     push_interpreter(out, layout)?;

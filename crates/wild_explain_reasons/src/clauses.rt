@@ -8,6 +8,7 @@ use crate::lists::{
     first_astray, test_file, test_group, test_input, test_listed, test_version, wrong_relocation,
 };
 use crate::names::part_word;
+use crate::partial::test_made;
 use crate::plan::{push_plan, test_plan};
 use crate::symbols::{position_of, test_symbol};
 use crate::table_rows::TABLE_ROWS;
@@ -19,7 +20,7 @@ use std::fmt::Write;
 use wild_types::Layout;
 
 /// Of each clause its number, its name, and what is likely wrong in a plan that fails it.
-const CLAUSES: [(u32, &str, &str); 21] = [
+const CLAUSES: [(u32, &str, &str); 22] = [
     (
         1,
         "sizes and alignments",
@@ -63,7 +64,7 @@ const CLAUSES: [(u32, &str, &str); 21] = [
     (
         9,
         "indexes",
-        "`symbol_count` left out; `first_symbol` that was not moved with a symbol that was added; a `definition` that is itself defined elsewhere",
+        "`symbol_count` left out; `first_symbol` that was not moved with a symbol that was added; a `definition` that is itself defined elsewhere; `singleton` or `members` counted without section 0",
     ),
     (
         10,
@@ -121,9 +122,14 @@ const CLAUSES: [(u32, &str, &str); 21] = [
         "`reversed` at a section of other things than words of 8 bytes; a relocation of 4 bytes, or R_X86_64_NONE, in it",
     ),
     (
+        21,
+        "relocatable objects",
+        "`segments`, `dynsyms`, `got` or `plt` in a plan of kind `partial`; slot `debug` in place of `loaded`; `size` of a table that was not changed with the relocations of its target; `target` counted among all sections; `size` of a group without the word of its flags",
+    ),
+    (
         22,
         "merged strings, the linker's name of itself, properties",
-        "the first group's entry of `part_sizes` for the part, which was not changed with the strings; a property listed twice",
+        "the first group's entry of `part_sizes` for the part, which was not changed with the strings; a property listed twice; `only_keep_debug`",
     ),
 ];
 
@@ -171,12 +177,13 @@ fn find_input(layout: &Layout, group: usize, test: InputTest) -> Option<Finding>
                 file,
                 section,
             };
-            let fails = match test {
-                InputTest::Order => !is_named_once(layout, at, input),
-                _ => test_input(layout, input, test),
+            let verdict = match test {
+                InputTest::Order => plain(!is_named_once(layout, at, input)),
+                InputTest::Target | InputTest::Group => test_made(held, input, test),
+                _ => plain(test_input(layout, input, test)),
             };
-            if fails {
-                return finding(Item::Input(at), plain(true));
+            if verdict.fails {
+                return finding(Item::Input(at), verdict);
             }
         }
     }

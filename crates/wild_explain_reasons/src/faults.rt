@@ -137,6 +137,40 @@ fn fault_words(fault: Fault) -> (&'static str, &'static str) {
     }
 }
 
+/// The same of a fault in a section that debuggers read, where that is another.
+fn debug_words(fault: Fault) -> (&'static str, &'static str) {
+    match fault {
+        Fault::UnsupportedRelocation { .. } => (
+            "the relocation type is not known, or is not of an address, of a place in the thread-local data or of one from the thread pointer: no other is told in a debug section",
+            "resolve the relocation to a type that is known, with its symbol",
+        ),
+        _ => fault_words(fault),
+    }
+}
+
+/// The input section that a fault is in.
+fn place_of(at: At) -> Option<SectionPlace> {
+    Some(SectionPlace {
+        group: at.group?,
+        file: at.file?,
+        section: at.section?,
+    })
+}
+
+/// The words for a fault there.
+fn words_at(
+    layout: &Layout,
+    fault: Fault,
+    at: Option<SectionPlace>,
+) -> (&'static str, &'static str) {
+    match at {
+        Some(place) if let Some(section) = section_at(layout, place) && section.slot.is_debug() => {
+            debug_words(fault)
+        }
+        _ => fault_words(fault),
+    }
+}
+
 /// The place of the first relocation of a section at that offset.
 fn place_at(section: &InputSection, offset: u64) -> Option<usize> {
     for (i, relocation) in section.relocations.as_slice().iter().enumerate() {
@@ -240,7 +274,14 @@ fn push_outside(out: &mut String, layout: &Layout, fault: Fault, at: At) -> Resu
     };
     if let Some(symbol) = symbol {
         write!(out, "where: /symbols/{symbol}/resolution\nfound: ")?;
-        push_decided(out, layout, symbol)?;
+        return push_decided(out, layout, symbol);
+    }
+    if let (Some(group), Some(file)) = (at.group, at.file) {
+        let item = Item::File(group, file);
+        write!(out, "where: ")?;
+        push_item(out, item)?;
+        write!(out, "\nfound: ")?;
+        push_found(out, layout, item)?;
     }
     Ok(())
 }
@@ -281,18 +322,12 @@ pub(crate) fn push_fault(
     fault: Fault,
     at: At,
 ) -> Result<(), AllocError> {
-    let (what, remedy) = fault_words(fault);
+    let place = place_of(at);
+    let (what, remedy) = words_at(layout, fault, place);
     writeln!(out, "what: {what}")?;
-    match (at.group, at.file, at.section) {
-        (Some(group), Some(file), Some(section)) => {
-            let place = SectionPlace {
-                group,
-                file,
-                section,
-            };
-            push_inside(out, layout, place, at.offset)?;
-        }
-        _ => push_outside(out, layout, fault, at)?,
+    match place {
+        Some(place) => push_inside(out, layout, place, at.offset)?,
+        None => push_outside(out, layout, fault, at)?,
     }
     push_numbers(out, layout, fault)?;
     writeln!(out, "remedy: {remedy}")?;

@@ -109,6 +109,23 @@ fn resolution_of(layout: &Layout, symbol: Option<SymbolIndex>) -> Option<Resolut
     layout.symbols.as_slice().get(definition.0)?.resolution
 }
 
+/// What is done with a relocation of a section that begins at `start`.
+fn done_word(
+    layout: &Layout,
+    section: &InputSection,
+    relocation: &InputRelocation,
+    image: &[u8],
+    start: u64,
+) -> &'static str {
+    if section.slot.is_debug() {
+        "a value as the output is linked"
+    } else if is_rewritten(layout.machine, section, relocation, image, start) {
+        "its instruction was rewritten"
+    } else {
+        treatment_word(treatment_of(layout, section.flags, relocation))
+    }
+}
+
 /// Adds what one relocation wrote.
 fn push_written(
     out: &mut String,
@@ -120,12 +137,8 @@ fn push_written(
     let start = offset_of(layout, section);
     let offset = relocation.offset;
     let width = field_bytes(layout.machine, relocation.number) as u64;
-    let word = treatment_word(treatment_of(layout, section.flags, relocation));
-    if is_rewritten(layout.machine, section, relocation, image, start) {
-        write!(out, "; its instruction was rewritten")?;
-    } else {
-        write!(out, "; {word}")?;
-    }
+    let word = done_word(layout, section, relocation, image, start);
+    write!(out, "; {word}")?;
     if let Some(resolution) = resolution_of(layout, relocation.symbol) {
         push_resolution(out, resolution)?;
     }
@@ -154,12 +167,13 @@ fn push_section_fields(
     Ok(())
 }
 
-/// Adds what each relocation of an image wrote: what is done with it, the addresses of its symbol, and its field before and after.
+/// Adds what each relocation of an image wrote: what is done with it, the addresses of its symbol, and its field before and after. A
+/// relocatable object keeps them in tables.
 pub fn push_fields(out: &mut String, layout: &Layout, image: &[u8]) -> Result<(), AllocError> {
     for (group, found) in layout.groups.as_slice().iter().enumerate() {
         for (file, held) in found.files.as_slice().iter().enumerate() {
             for (section, input) in held.sections.as_slice().iter().enumerate() {
-                if input.is_read() {
+                if input.is_written() && !layout.kind.is_partial_link() {
                     let at = SectionPlace {
                         group,
                         file,

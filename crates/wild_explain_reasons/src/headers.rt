@@ -81,6 +81,11 @@ fn is_fixed(layout: &Layout) -> bool {
     layout.kind.is_static_executable() && layout.kind.has_fixed_load_address()
 }
 
+/// Whether the role is that of program headers, which a relocatable object has none of.
+pub(crate) fn has_no_headers(layout: &Layout, role: Role) -> bool {
+    layout.kind.is_partial_link() && matches!(role, Role::ProgramHeaders)
+}
+
 /// Whether a part fails a test.
 pub(crate) fn test_part(layout: &Layout, index: usize, part: &Part, test: PartTest) -> Verdict {
     match test {
@@ -97,7 +102,10 @@ pub(crate) fn test_part(layout: &Layout, index: usize, part: &Part, test: PartTe
             Some((first, _)) => first < index && !has_role(Role::Raw, part),
             None => false,
         }),
-        PartTest::At(offset) => due(part.offset != offset, offset),
+        PartTest::At(offset) => {
+            let is_asked = !has_no_headers(layout, part.role);
+            due(is_asked && part.offset != offset, offset)
+        }
         PartTest::Follows => match first_of(layout, Role::RelaDynRelative) {
             Some((_, before)) => {
                 let end = before.offset.saturating_add(before.size);
@@ -113,7 +121,8 @@ pub(crate) fn test_part(layout: &Layout, index: usize, part: &Part, test: PartTe
         PartTest::Unallocated => {
             let place = place_of(part.role);
             let is_read = place_of(Role::Got) <= place && place <= place_of(Role::Dynamic);
-            plain(is_read && !layout.is_allocated_section(part.section))
+            let is_asked = is_read && !layout.kind.is_partial_link();
+            plain(is_asked && !layout.is_allocated_section(part.section))
         }
         PartTest::Entries => plain(is_fixed(layout)),
         PartTest::Split => plain(is_carried(layout, part)),
@@ -168,7 +177,7 @@ pub(crate) fn test_section(
     test: SectionTest,
 ) -> Verdict {
     let zeros = section.is_without_data();
-    let is_loaded = index != 0 && is_allocated(section.flags);
+    let is_loaded = index != 0 && is_allocated(section.flags) && !layout.kind.is_partial_link();
     let end = section.address.saturating_add(section.size);
     match test {
         SectionTest::Ends => plain(

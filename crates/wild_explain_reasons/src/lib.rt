@@ -13,6 +13,7 @@ mod lists;
 mod names;
 mod needs;
 mod owner;
+mod partial;
 mod plan;
 mod reason;
 mod symbols;

@@ -3,6 +3,7 @@
 use crate::fronts::has_front;
 use crate::headers::{ends_high, first_of, given_before};
 use crate::items::{Item, SectionPlace, section_at};
+use crate::partial::{is_of_other, names_no_section};
 use crate::tests::{EntryTest, FileTest, GroupTest, InputTest};
 use crate::verdict::{Finding, Verdict, due, plain};
 use wild_types::{
@@ -269,7 +270,11 @@ pub(crate) fn test_input(layout: &Layout, section: &InputSection, test: InputTes
     };
     match test {
         InputTest::Ends => ends_high(section.address, section.size),
-        InputTest::Before | InputTest::Behind | InputTest::Order => false,
+        InputTest::Before
+        | InputTest::Behind
+        | InputTest::Order
+        | InputTest::Target
+        | InputTest::Group => false,
         InputTest::Length => {
             let bytes = if section.nobits { 0 } else { section.size };
             let may_lack = matches!(section.slot, Slot::Merge | Slot::Rela);
@@ -284,10 +289,16 @@ pub(crate) fn test_input(layout: &Layout, section: &InputSection, test: InputTes
         InputTest::Allocation => {
             let allocated = layout.is_allocated_part(section.part);
             let written = matches!(section.slot, Slot::Loaded | Slot::Sorted | Slot::Frame);
-            written && is_allocated(section.flags) != allocated
+            let is_asked = written && !layout.kind.is_partial_link();
+            is_asked && is_allocated(section.flags) != allocated
         }
         InputTest::Room => {
-            length != 0 && !layout.takes_file_bytes(layout.section_of(section.part))
+            let is_made = matches!(section.slot, Slot::Rela) && section.size != 0;
+            (length != 0 || is_made) && !layout.takes_file_bytes(layout.section_of(section.part))
+        }
+        InputTest::Singleton | InputTest::Members => names_no_section(layout, section, test),
+        InputTest::Debug | InputTest::Partial | InputTest::NoData => {
+            is_of_other(layout, section, test)
         }
         InputTest::PartIndex => section.part >= layout.parts.len(),
         InputTest::Words => section.reversed && section.size % 8 != 0,

@@ -1,8 +1,9 @@
 //! Tests of the plan as a whole, and what stands there.
 
 use crate::fronts::{ends_without_zero, test_identity};
-use crate::headers::dynamic_before;
+use crate::headers::{dynamic_before, has_no_headers};
 use crate::names::{role_at, role_word};
+use crate::partial::test_object;
 use crate::symbols::{behind_reserved, undefined_entries};
 use crate::tests::PlanTest;
 use crate::thunks::has_thunks;
@@ -70,7 +71,9 @@ pub(crate) fn test_plan(layout: &Layout, index: usize, test: PlanTest) -> Verdic
         }
         PlanTest::NoSection => plain(layout.sections.len() == 0),
         PlanTest::NoGroup => plain(layout.groups.len() == 0),
-        PlanTest::Missing(role) => plain(!is_there(role, parts)),
+        PlanTest::Missing(role) => {
+            plain(!is_there(role, parts) && !has_no_headers(layout, role))
+        }
         PlanTest::StaticDynamic => plain(is_role_there(layout, index)),
         PlanTest::FirstSection => plain(match layout.sections.as_slice().get(0) {
             Some(first) => first.kind != 0 || first.name.len() != 0,
@@ -103,6 +106,10 @@ pub(crate) fn test_plan(layout: &Layout, index: usize, test: PlanTest) -> Verdic
         | PlanTest::IdentityRaw
         | PlanTest::IdentitySize
         | PlanTest::IdentityAlone => test_identity(layout, test),
+        PlanTest::Segmented | PlanTest::Paired | PlanTest::Listed => {
+            plain(layout.kind.is_partial_link() && test_object(layout, test))
+        }
+        PlanTest::KeepsAll => plain(layout.options.only_keep_debug),
         PlanTest::Interpreter => plain(ends_without_zero(layout.interp.as_slice())),
         PlanTest::NoPair | PlanTest::TooMany | PlanTest::NoTable | PlanTest::Versions => {
             plain(true)
@@ -159,7 +166,7 @@ pub(crate) fn push_plan(
             write!(out, "{length} bytes")?;
         }
         PlanTest::StaticDynamic | PlanTest::NoTable => push_table(out, layout, index)?,
-        PlanTest::Pair | PlanTest::NoPair => {
+        PlanTest::Pair | PlanTest::NoPair | PlanTest::Paired => {
             let pair = layout.tlsld.unwrap_or(0);
             write!(out, "{pair}")?;
         }
@@ -176,10 +183,10 @@ pub(crate) fn push_plan(
         _ => {
             let (sections, groups) = (layout.sections.len(), layout.groups.len());
             let (segments, symbols) = (layout.segments.len(), layout.symbols.len());
-            let versions = layout.options.versions;
+            let (listed, versions) = (layout.dynsyms.len(), layout.options.versions);
             write!(
                 out,
-                "{sections} sections (section 0 is `{{}}`), {groups} groups, {segments} segments, {symbols} symbols, option `versions` {versions}"
+                "{sections} sections (section 0 is `{{}}`), {groups} groups, {segments} segments, {symbols} symbols, {listed} `dynsyms`, option `versions` {versions}"
             )?;
         }
     }

@@ -208,6 +208,13 @@ pub(crate) fn test_symbol(
             None => false,
         }),
         SymbolTest::Position => test_position(layout, index, symbol),
+        SymbolTest::Slotted => {
+            let is_slotted = got_of(symbol).is_some() || plt_of(symbol).is_some();
+            plain(layout.kind.is_partial_link() && is_slotted)
+        }
+        SymbolTest::Indexed => {
+            plain(layout.kind.is_partial_link() && dynsym_of(symbol).is_some())
+        }
         SymbolTest::Name => plain(symbol.name.as_slice().contains(&0)),
         _ => plain(test_flags(layout, symbol, test)),
     }

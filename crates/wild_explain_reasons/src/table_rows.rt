@@ -17,7 +17,7 @@ const SHAPE: &str = "the shape of the GNU hash table";
 const ZERO: &str = "a name has a zero byte; the one that ends a string is added when it is written";
 
 /// Those of the clauses on indexes, slots, tables and names.
-pub(crate) const TABLE_ROWS: [Row; 81] = [
+pub(crate) const TABLE_ROWS: [Row; 95] = [
     (
         9,
         Test::Part(PartTest::Section),
@@ -61,6 +61,18 @@ pub(crate) const TABLE_ROWS: [Row; 81] = [
         Test::Input(InputTest::PartIndex),
         "an input section's part is not there",
         "/part",
+    ),
+    (
+        9,
+        Test::Input(InputTest::Singleton),
+        "the output section of an input section that is kept by itself is not there",
+        "/singleton",
+    ),
+    (
+        9,
+        Test::Input(InputTest::Members),
+        "a member of a group is no output section",
+        "/members",
     ),
     (
         9,
@@ -405,6 +417,72 @@ pub(crate) const TABLE_ROWS: [Row; 81] = [
         "/relocations",
     ),
     (
+        21,
+        Test::Plan(PlanTest::Segmented),
+        "a relocatable object has no segments",
+        "/segments",
+    ),
+    (
+        21,
+        Test::Symbol(SymbolTest::Slotted),
+        "no symbol of a relocatable object has slots or a stub",
+        "/resolution",
+    ),
+    (
+        21,
+        Test::Plan(PlanTest::Paired),
+        "a relocatable object has no slots, and no pair of them for thread-local data",
+        "/tlsld",
+    ),
+    (
+        21,
+        Test::Thunk(ThunkTest::Any),
+        "a relocatable object has no thunks",
+        "",
+    ),
+    (
+        21,
+        Test::Plan(PlanTest::Listed),
+        "a relocatable object has no dynamic symbols",
+        "/dynsyms",
+    ),
+    (
+        21,
+        Test::Symbol(SymbolTest::Indexed),
+        "no symbol of a relocatable object has an index in a dynamic symbol table",
+        "/resolution/dynsym",
+    ),
+    (
+        21,
+        Test::Input(InputTest::Debug),
+        "a debug section of a relocatable object is written as all others are (slot `loaded`)",
+        "/slot",
+    ),
+    (
+        21,
+        Test::Input(InputTest::Partial),
+        "only a relocatable object has tables of relocations, groups and sections that are kept by themselves",
+        "",
+    ),
+    (
+        21,
+        Test::Input(InputTest::Target),
+        "a table of relocations has not 24 bytes for each relocation of its target, or its file has no such section",
+        "/size",
+    ),
+    (
+        21,
+        Test::Input(InputTest::Group),
+        "a group has not four bytes for its flags and four for each member",
+        "/size",
+    ),
+    (
+        21,
+        Test::Input(InputTest::NoData),
+        "a table of relocations or a group is without data",
+        "/nobits",
+    ),
+    (
         22,
         Test::Merged(MergedTest::Size),
         "merged strings are not the room of their part in the first group",
@@ -421,6 +499,12 @@ pub(crate) const TABLE_ROWS: [Row; 81] = [
         Test::Property,
         "an earlier property has the type",
         "/ptype",
+    ),
+    (
+        22,
+        Test::Plan(PlanTest::KeepsAll),
+        "an image of debug sections alone is not written",
+        "/options/only_keep_debug",
     ),
     (
         22,

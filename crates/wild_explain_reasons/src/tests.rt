@@ -39,6 +39,13 @@ pub(crate) enum PlanTest {
     IdentitySize,
     IdentityAlone,
     Interpreter,
+    /// Of a relocatable object.
+    Segmented,
+    /// The same.
+    Paired,
+    /// The same.
+    Listed,
+    KeepsAll,
 }
 
 /// What is asked of a part.
@@ -106,6 +113,10 @@ pub(crate) enum SymbolTest {
     Second,
     Other,
     Name,
+    /// Of a relocatable object.
+    Slotted,
+    /// The same.
+    Indexed,
 }
 
 /// What is asked of an input section.
@@ -127,8 +138,17 @@ pub(crate) enum InputTest {
     Words,
     Reversed,
     PartIndex,
+    Singleton,
+    Members,
     Symbols,
     Name,
+    /// Of a relocatable object.
+    Debug,
+    /// Of any other output.
+    Partial,
+    Target,
+    Group,
+    NoData,
 }
 
 /// What is asked of a file.
@@ -153,6 +173,8 @@ pub(crate) enum ThunkTest {
     Place,
     Owner,
     Last,
+    /// Of a relocatable object.
+    Any,
 }
 
 /// What is asked of an entry of `sorted`.

@@ -116,6 +116,7 @@ pub(crate) fn find_thunk(layout: &Layout, index: usize, test: ThunkTest) -> Opti
         ThunkTest::Symbol => first_absent(layout, thunks)?,
         ThunkTest::Order => first_descending(thunks)?,
         ThunkTest::Owner if is_owned(layout, index) => return None,
+        ThunkTest::Any if !layout.kind.is_partial_link() || thunks.is_empty() => return None,
         _ => 0,
     };
     Some(Finding {

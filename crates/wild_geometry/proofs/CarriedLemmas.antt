@@ -105,9 +105,9 @@ abbrev pub IsByteCarried : Layout → ℕ → ℕ → Type 0
 IsByteCarried l offset address = (h : Segment) × CarriesByte l h offset address
 
 -- byte n of a section with data
-byte_of : (l : Layout) → Laid l → (k : ℕ) (o : Filled l k) (n : ℕ) → n < o.section.size → IsByteCarried l (o.section.offset + n) (o.section.address + n)
-byte_of l h k o n lt =
-    let loaded = later_item (λ x. bytes_are_loaded side.File l.segments x ≡ true) l.sections k o.section o.is o.later h.segments.loaded in
+byte_of : (l : Layout) → Laid l → is_partial_link l.kind ≡ false → (k : ℕ) (o : Filled l k) (n : ℕ) → n < o.section.size → IsByteCarried l (o.section.offset + n) (o.section.address + n)
+byte_of l h kind k o n lt =
+    let loaded = later_item (λ x. bytes_are_loaded side.File l.segments x ≡ true) l.sections k o.section o.is o.later (h.segments.loaded kind) in
     let found = segment_of l.segments o.section loaded o.allocated o.bits n lt in
     let c = carries_by o.section (o.section.address + n) found.item found.passes o.bits in
     let a = c.from in
@@ -116,15 +116,15 @@ byte_of l h k o n lt =
     (found.item, record { listed = found.listed; loaded = c.loaded; from = a; to = b; distance = omega arith })
 
 -- a byte of a part of such a section, that many behind the part's start
-pub byte_of_part : (l : Layout) → Laid l → (p : Part) → part_lies l p ≡ true → (o : Filled l p.section) → (k : ℕ) → k < p.size → IsByteCarried l (p.offset + k) (p.address + k)
-byte_of_part l h p lies o k lt =
+pub byte_of_part : (l : Layout) → Laid l → is_partial_link l.kind ≡ false → (p : Part) → part_lies l p ≡ true → (o : Filled l p.section) → (k : ℕ) → k < p.size → IsByteCarried l (p.offset + k) (p.address + k)
+byte_of_part l h kind p lies o k lt =
     let level = part_level l p lies o in
     let low = level.low in
     let high = level.high in
     let near = level.address in
     let same = level.distance in
     let n = p.offset - o.section.offset + k in
-    let c = byte_of l h p.section o n (omega arith) in
+    let c = byte_of l h kind p.section o n (omega arith) in
     let offset : o.section.offset + n ≡ p.offset + k = omega arith in
     let address : o.section.address + n ≡ p.address + k = omega arith in
     subst (λ (a : ℕ). IsByteCarried l (p.offset + k) a) address (subst (λ (b : ℕ). IsByteCarried l b (o.section.address + n)) offset c)
@@ -137,7 +137,7 @@ IsPartMapped-from_laid l h i d low kind loaded k lt =
     let asked : (is_partial_link l.kind || not (is_loaded_role p.role)) ≡ false = rw (kind, loaded) refl in
     let both = and_parts (is_allocated_section l p.section) (takes_file_bytes l p.section) (or_other (is_partial_link l.kind || not (is_loaded_role p.role)) (is_allocated_section l p.section && takes_file_bytes l p.section) (h.parts.loaded i d low) asked) in
     let o = Filled-from_tests l p.section (ltb-true _ _ (h.indexes.parts i d low)) both.0 both.1 in
-    let c = byte_of_part l h p (h.parts.lie i d low) o k lt in
+    let c = byte_of_part l h kind p (h.parts.lie i d low) o k lt in
     (c.0, record { listed = c.1.listed; loaded = c.1.loaded; from = c.1.from; to = c.1.to; distance = c.1.distance })
 
 -- ---- input sections
@@ -147,24 +147,26 @@ room_of_loaded slot.Loaded h = refl
 room_of_loaded other h = cc
 
 -- the output section of an input section that is allocated
-output_of : (l : Layout) → Laid l → (s : InputSection) → Holds l s → is_loaded s.slot ≡ true → allocated s.flags ≡ true → (st : Stood l s) → Filled l st.part.section
-output_of l h s holds loaded alloc st =
-    let agrees = implied (has_room s.slot) (bool_eq (allocated s.flags) (is_allocated_part l s.part)) holds.allocation (room_of_loaded s.slot loaded) in
+output_of : (l : Layout) → Laid l → is_partial_link l.kind ≡ false → (s : InputSection) → Holds l s → is_loaded s.slot ≡ true → allocated s.flags ≡ true → (st : Stood l s) → Filled l st.part.section
+output_of l h kind s holds loaded alloc st =
+    let room = room_of_loaded s.slot loaded in
+    let asked : (is_partial_link l.kind || not (has_room s.slot)) ≡ false = rw (kind, room) refl in
+    let agrees = or_other (is_partial_link l.kind || not (has_room s.slot)) (bool_eq (allocated s.flags) (is_allocated_part l s.part)) holds.allocation asked in
     let part : is_allocated_part l s.part ≡ true = rw alloc at agrees in
     let place : is_allocated_section l st.part.section ≡ true = subst (λ (o : Option Part). is_allocated_section l (section_of_part o) ≡ true) st.is part in
     let named = ltb-true _ _ (holds_at (λ p. part_index_fits l p ≡ true) l.parts s.part st.part st.is h.indexes.parts) in
     Filled-from_tests l st.part.section named place st.takes
 
-pub IsMapped-from_stood : (l : Layout) → Laid l → (s : InputSection) → Holds l s → (is_filled l s ≡ true → Stood l s) → IsMapped l s
-IsMapped-from_stood l h s holds stood filled alloc =
+pub IsMapped-from_stood : (l : Layout) → Laid l → is_partial_link l.kind ≡ false → (s : InputSection) → Holds l s → (is_filled l s ≡ true → Stood l s) → IsMapped l s
+IsMapped-from_stood l h kind s holds stood loaded filled alloc =
     let st = stood filled in
-    let o = output_of l h s holds (and_parts (is_loaded s.slot) _ filled).0 alloc st in
+    let o = output_of l h kind s holds loaded alloc st in
     let lies = holds_at (λ p. part_lies l p ≡ true) l.parts s.part st.part st.is h.parts.lie in
     let from = st.from in
     let to = st.to in
     let place = place_is l s st in
     λ k lt. (
-    let c = byte_of_part l h st.part lies o (s.address - st.part.address + k) (omega arith) in
+    let c = byte_of_part l h kind st.part lies o (s.address - st.part.address + k) (omega arith) in
     let a = c.1.from in
     let b = c.1.to in
     let d = c.1.distance in

@@ -11,6 +11,7 @@ use Rattle.wild_types.specs.declared.file.File.{File}
 use Rattle.wild_types.specs.declared.layout.Layout.{Layout}
 use Rattle.wild_types.specs.FileRoles.{is_epilogue}
 use Rattle.wild_types.specs.Item.{item_of}
+use Rattle.wild_types.specs.Kinds.{is_partial_link}
 use Rattle.wild_types.specs.Lists.{total}
 use Rattle.wild_types.specs.Lookups.{is_frame}
 use Rattle.wild_frames.specs.declared.entry.KeptEntry.{KeptEntry}
@@ -19,7 +20,7 @@ use Rattle.wild_frames.proofs.EntryLemmas.{found_walked, KeptIs, each_kept, no_g
 use Rattle.wild_frames.proofs.WriteLemmas.{length-entry}
 use Rattle.wild_laid.specs.Turned.{as_turned}
 use Rattle.wild_laid.specs.FrameInputs.{frames_of, kept_size}
-use Rattle.wild_laid.specs.Laid.{entry_relocations, moved_by, laid_relocations, framed, laid_by, laid_section, laid_file}
+use Rattle.wild_laid.specs.Laid.{entry_relocations, moved_by, laid_relocations, framed, without_relocations, unread, tabled, laid_by, laid_section, laid_file}
 use Rattle.wild_laid.proofs.LaidFiles.{All-sections}
 use Rattle.wild_needs.specs.Needs.{frame_room, frames_room, last_of}
 use Rattle.wild_layout.specs.Content.{frame_bytes_of, frames_bytes, end_of_frames}
@@ -73,6 +74,13 @@ slot_of_turned s = by s.reversed refl
     by true e = rw e refl
     by false e = rw e refl
 
+pub slot_of_unread : (l : Layout) (s : InputSection) → (unread l s).slot ≡ s.slot
+slot_of_unread l s = by (is_partial_link l.kind)
+  where
+    by : (b : Bool) → (if b then without_relocations s else s).slot ≡ s.slot
+    by true = refl
+    by false = refl
+
 no_frame : (l : Layout) (f : File) (s : InputSection) → is_frame s.slot ≡ false → HasFrameRoom l f s
 unfolding frame_bytes_of
 no_frame l f s e = rw e refl
@@ -86,8 +94,10 @@ unfolding laid_section
 frame_room_of l f g at s = by s.slot refl
   where
     by : (k : Slot) → s.slot ≡ k → HasFrameRoom l g (laid_by k l f at s)
-    by slot.Loaded e = no_frame l g (as_turned s) (ap is_frame (slot_of_turned s ∙ e))
+    by slot.Loaded e = no_frame l g (as_turned (unread l s)) (ap is_frame (slot_of_turned (unread l s) ∙ slot_of_unread l s ∙ e))
+    by slot.Debug e = no_frame l g (as_turned s) (ap is_frame (slot_of_turned s ∙ e))
     by slot.Frame e = framed_room l f g at s
+    by slot.Rela e = no_frame l g (tabled f s) refl
     by other e = no_frame l g s (ap is_frame e)
 
 -- so much is kept of a section as has room there
@@ -96,8 +106,10 @@ unfolding laid_section kept_size
 frame_room_is l f at s = by s.slot refl
   where
     by : (k : Slot) → s.slot ≡ k → frame_room (laid_by k l f at s) ≡ (if is_frame s.slot then length (frame_bytes (frames_of l f s)) else 0)
-    by slot.Loaded e = rw (slot_of_turned s, e) refl
+    by slot.Loaded e = rw (slot_of_turned (unread l s), slot_of_unread l s, e) refl
+    by slot.Debug e = rw (slot_of_turned s, e) refl
     by slot.Frame e = rw e refl
+    by slot.Rela e = rw e refl
     by other e = rw e refl
 
 -- ---- a file

@@ -3,9 +3,10 @@ use Rattle.wild_types.specs.declared.file.Group.{Group}
 use Rattle.wild_types.specs.FileRoles.{is_prelude}
 use Rattle.wild_types.specs.Lists.{total}
 use Rattle.std.proofs.lemmas.List.{length-append, append-nil}
+use Rattle.std.proofs.lemmas.Bool.{and_parts, not-true}
 use Rattle.std.specs.List.{flat_map}
 use Rattle.std.proofs.Common.{◌≡◌, ℕ, ◌-◌, Bool, true, false, List, [], length, get_or, refl, sym, ap, ◌∙◌, arith, ◌∷◌, ◌++◌, replicate, if◌then◌else◌}
-use Rattle.std.specs.Prelude.{All, Option, Some, None, slice_get}
+use Rattle.std.specs.Prelude.{All, Option, Some, None, not, slice_get}
 use Rattle.std.proofs.lemmas.List.Elements.{All-nil, All-head, All-tail}
 use Rattle.wild_words.proofs.ListLemmas.{All-flat_map, flat_map-same}
 use Rattle.wild_types.specs.declared.part.Role.TheVariants as role
@@ -15,23 +16,26 @@ use Rattle.wild_types.specs.declared.input.InputSection.{InputSection}
 use Rattle.wild_types.specs.declared.file.File.{File}
 use Rattle.wild_types.specs.declared.layout.Layout.{Layout}
 use Rattle.wild_types.specs.Item.{item_of}
-use Rattle.wild_types.specs.Lookups.{is_frame, is_read}
+use Rattle.wild_types.specs.Lookups.{is_frame, has_relocations, is_read, is_written, has_fields}
 use Rattle.wild_frames.specs.Frames.{frame_bytes}
 use Rattle.wild_laid.specs.Turned.{turned, as_turned}
 use Rattle.wild_laid.specs.FrameInputs.{frames_of, kept_size}
-use Rattle.wild_laid.specs.Laid.{Input, laid_by, laid_section, sorted_inputs, sorted_by, sorted_in_file, sorted_in_group, files_at, sorted_input, as_loaded, laid_sections, behind, laid_files}
+use Rattle.wild_laid.specs.Laid.{Input, laid_by, laid_section, sorted_inputs, sorted_by, sorted_in_file, sorted_in_group, files_at, sorted_input, as_loaded, unread, laid_sections, behind, laid_files}
 use Rattle.wild_layout.specs.Content.{frame_bytes_of, content, file_content, frames_bytes}
 use Rattle.wild_layout.specs.Sites.{item_bytes, section_bytes, sites}
 use Rattle.wild_layout.specs.SectionPlaces.{SectionLies}
+use Rattle.wild_layout.proofs.PartialLemmas.{is_own, section_bytes_read}
 use Rattle.wild_geometry.proofs.SiteLemmas.{length-section_bytes}
+use Rattle.wild_geometry.proofs.FrameSections.{slot_of_unread}
 use Rattle.wild_layout.proofs.SiteLemmas.{All-one}
 use Rattle.wild_types.specs.declared.layout.SortedSection.{SortedSection}
 use Rattle.wild_words.specs.Overlay.{overlay}
 
--- the bytes of a section with data are its own with its sites
-pub data_bytes : (l : Layout) (f : File) (s : InputSection) → s.nobits ≡ false → section_bytes l f s ≡ overlay (sites l (item_of l f s)) s.bytes
-unfolding section_bytes
-data_bytes l f s n = by_bits (s.nobits) n
+-- the bytes of a section that a loader may apply relocations to are its own with its sites
+pub data_bytes : (l : Layout) (f : File) (s : InputSection) → is_read s ≡ true → section_bytes l f s ≡ overlay (sites l (item_of l f s)) s.bytes
+data_bytes l f s r =
+    let both = and_parts (has_relocations s.slot) (not s.nobits) r in
+    section_bytes_read l f s both.0 ∙ by_bits s.nobits (not-true s.nobits both.1)
   where
     by_bits : (b : Bool) → b ≡ false → (if b then replicate s.size 0 else overlay (sites l (item_of l f s)) s.bytes) ≡ overlay (sites l (item_of l f s)) s.bytes
     by_bits false h = refl
@@ -57,8 +61,10 @@ unfolding laid_section kept_size
 stands_so l f at s = by s.slot refl
   where
     by : (k : Slot) → s.slot ≡ k → StandsSo (laid_by k l f at s) at (if is_frame k then length (frame_bytes (frames_of l f s)) else 0)
-    by slot.Loaded e = NoFrame (ap is_frame (turned_slot s ∙ e)) refl
+    by slot.Loaded e = NoFrame (ap is_frame (turned_slot (unread l s) ∙ slot_of_unread l s ∙ e)) refl
+    by slot.Debug e = NoFrame (ap is_frame (turned_slot s ∙ e)) refl
     by slot.Frame e = Frames refl refl refl refl
+    by slot.Rela e = NoFrame refl refl
     by other e = NoFrame (ap is_frame e) refl
 
 pub frame_item : (l : Layout) (f : File) (t : InputSection) → is_frame t.slot ≡ true → frame_bytes_of l f t ≡ item_bytes l (item_of l f t)
@@ -76,9 +82,14 @@ frame_reads other e = cc
 pub frame_read : (t : InputSection) → is_frame t.slot ≡ true → t.nobits ≡ false → is_read t ≡ true
 frame_read t e n = (let k = frame_reads t.slot e in rw (k, n) refl)
 
+frame_written : (t : InputSection) → is_frame t.slot ≡ true → t.nobits ≡ false → is_written t ≡ true
+frame_written t e n = (let k = frame_reads t.slot e in rw (k, n) refl)
+
 pub length-frame_item : (l : Layout) (f : File) (t : InputSection) → SectionLies l t → is_frame t.slot ≡ true → t.nobits ≡ false → length (frame_bytes_of l f t) ≡ t.size
 length-frame_item l f t lies e n =
-    ap (λ (bs : List ℕ). length bs) (frame_item l f t e ∙ sym (data_bytes l f t n)) ∙ length-section_bytes l f t (λ m. lies.bytes (frame_read t e n)) lies.fields
+    let k = frame_reads t.slot e in
+    ap (λ (bs : List ℕ). length bs) (frame_item l f t e ∙ sym (data_bytes l f t (frame_read t e n)))
+    ∙ length-section_bytes l f t (ap is_own k) (λ m. lies.bytes (frame_written t e n)) (lies.fields (ap has_fields k))
 
 -- the sections that stand in a given order are loaded ones
 abbrev pub IsLoadedInput : Input → Type 0
@@ -88,15 +99,15 @@ one_sorted : (l : Layout) (x : SortedSection) → All IsLoadedInput (sorted_inpu
 unfolding sorted_input
 one_sorted l x = by_group (slice_get (files_at (slice_get l.groups x.group)) x.file)
   where
-    by_slot : (f : File) (s : InputSection) (k : Slot) → All IsLoadedInput (sorted_by f k s)
-    by_slot f s slot.Sorted = All-one IsLoadedInput (record { file = f; section = as_loaded s }) refl
+    by_slot : (f : File) (s : InputSection) (k : Slot) → All IsLoadedInput (sorted_by l f k s)
+    by_slot f s slot.Sorted = All-one IsLoadedInput (record { file = f; section = as_loaded (unread l s) }) refl
     by_slot f s other = All-nil IsLoadedInput
 
-    by_section : (f : File) (o : Option InputSection) → All IsLoadedInput (sorted_in_file f o)
+    by_section : (f : File) (o : Option InputSection) → All IsLoadedInput (sorted_in_file l f o)
     by_section f None = All-nil IsLoadedInput
     by_section f (Some s) = by_slot f s s.slot
 
-    by_group : (o : Option File) → All IsLoadedInput (sorted_in_group o x.section)
+    by_group : (o : Option File) → All IsLoadedInput (sorted_in_group l o x.section)
     by_group None = All-nil IsLoadedInput
     by_group (Some f) = by_section f (slice_get f.sections x.section)
 

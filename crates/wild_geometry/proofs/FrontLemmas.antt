@@ -21,7 +21,7 @@ use Rattle.wild_types.specs.declared.layout.Layout.{Layout}
 use Rattle.wild_types.specs.FilePlaces.{given}
 use Rattle.wild_types.specs.FileThunks.{thunks_of}
 use Rattle.wild_types.specs.Lists.{total}
-use Rattle.wild_types.specs.Lookups.{is_loaded, has_counted, has_bytes, is_filled, owns_bytes, takes_file_bytes}
+use Rattle.wild_types.specs.Lookups.{has_range, has_counted, has_bytes, is_filled, owns_bytes, takes_file_bytes}
 use Rattle.wild_clauses.specs.Contents.{is_raw, holds_bytes, has_front, takes_bytes, leaves_front, file_leaves_front, group_leaves_front, section_misplaced}
 use Rattle.wild_clauses.specs.Fronts.{given_by, fills_front, merged_size, stands_in_front, front_shared}
 use Rattle.wild_clauses.specs.Thunks.{standing}
@@ -32,7 +32,7 @@ use Rattle.wild_geometry.proofs.OrderLemmas.{Follows, EndsBy-image}
 use Rattle.wild_geometry.proofs.ShareLemmas.{size_from_shares}
 use Rattle.wild_geometry.proofs.RunLemmas.{sections_in, Run-behind}
 use Rattle.wild_geometry.proofs.StandingLemmas.{all_sections}
-use Rattle.wild_geometry.proofs.SectionLemmas.{raw_role}
+use Rattle.wild_geometry.proofs.SectionLemmas.{raw_role, right_or}
 use Rattle.wild_geometry.proofs.PieceLemmas.{owner_at, owners_apart, owner_ends, InImage}
 
 -- ---- as one list
@@ -124,10 +124,6 @@ any_at t (x ∷ xs) (suc i) d l h = or_right (t x) (list_any t xs) (any_at t xs 
 left_or : (a b : Bool) → a ≡ true → (a || b) ≡ true
 left_or true b e = refl
 left_or false b e = cc
-
-right_or : (a b : Bool) → b ≡ true → (a || b) ≡ true
-right_or true b e = refl
-right_or false b e = e
 
 merged_stands : (l : Layout) → Laid l → All (λ (m : Merged). HasSome (merged_front m) → FrontStands l (merged_front m)) l.merged
 merged_stands l h i m low some =
@@ -264,12 +260,9 @@ absurd_or false b h t u = cc
 
 filled_takes : (l : Layout) (s : InputSection) → is_filled l s ≡ true → takes_bytes l s ≡ true
 filled_takes l s h =
-    let both = and_parts (is_loaded s.slot) (has_bytes l s) h in
-    right_or (not (length s.bytes == 0)) (owns_bytes l s) (and_from (has_counted s.slot) (has_bytes l s) (counted s.slot both.0) both.1)
-  where
-    counted : (k : Slot) → is_loaded k ≡ true → has_counted k ≡ true
-    counted slot.Loaded e = refl
-    counted other e = cc
+    let both = and_parts (has_range s.slot) (has_bytes l s) h in
+    let ranges = both.0 in
+    right_or (not (length s.bytes == 0)) (owns_bytes l s) (and_from (has_range s.slot || has_counted s.slot) (has_bytes l s) (rw ranges refl) both.1)
 
 abbrev StandsBehind : Layout → Front → ℕ → InputSection → Type 0
 StandsBehind l x at s = is_filled l s ≡ true → s.part ≡ x.part → at + length x.bytes ≤ s.address

@@ -26,6 +26,7 @@ use Rattle.wild_types.specs.declared.file.File.{File}
 use Rattle.wild_types.specs.declared.file.Group.{Group}
 use Rattle.wild_types.specs.declared.layout.Layout.{Layout}
 use Rattle.wild_types.specs.Item.{Item, item_of}
+use Rattle.wild_types.specs.Kinds.{is_partial_link}
 use Rattle.wild_types.specs.Lists.{total}
 use Rattle.wild_types.specs.Lookups.{is_read, is_frame, is_counted, allocated, has_address, files_of, file_of, bit}
 use Rattle.wild_types.specs.FileRoles.{is_epilogue, is_prelude}
@@ -35,7 +36,8 @@ use Rattle.wild_frames.specs.declared.frames.Target.{Target}
 use Rattle.wild_frames.specs.Frames.{Frames, frame_bytes}
 use Rattle.wild_laid.specs.Turned.{turned, as_turned}
 use Rattle.wild_laid.specs.FrameInputs.{has_symbol, home_of, target_in, target_at, symbol_target, target_by, target_of, frames_of, kept_size, section_target}
-use Rattle.wild_laid.specs.Laid.{Input, framed, laid_by, laid_section, laid_sections, laid_file, laid_from, laid_files, file_frames, frames_at, behind, part_address, sorted_inputs, as_loaded, processed, of_last_file, sorted_sections, frame_flags, laid_relocations}
+use Rattle.wild_laid.specs.Laid.{Input, framed, laid_by, laid_section, laid_sections, laid_file, laid_from, laid_files, file_frames, frames_at, behind, part_address, sorted_inputs, as_loaded, unread, processed, of_last_file, sorted_sections, frame_flags, laid_relocations}
+use Rattle.wild_laid.proofs.PlainLemmas.{unread_linked}
 use Rattle.wild_layout.specs.SectionPlaces.{HasWords, SectionLies}
 use Rattle.wild_layout.specs.Geometry.{IsLaidOut}
 use Rattle.wild_meaning.specs.Frames.{code_in, code_at, code_by, code_of, frames_in, kept_bytes, kept_of_file, IsFrameInput, frames_item, frames_item_of, frames_address, code_section, kept_by, without, address_of_part}
@@ -71,19 +73,23 @@ turned_flags s = by s.reversed
     by true = refl
     by false = refl
 
-laid_loaded : (l : Layout) (f : File) (at : ℕ) (s : InputSection) → s.slot ≡ slot.Loaded → laid_section l f at s ≡ as_turned s
+laid_loaded : (l : Layout) (f : File) (at : ℕ) (s : InputSection) → is_partial_link l.kind ≡ false → s.slot ≡ slot.Loaded → laid_section l f at s ≡ as_turned s
 unfolding laid_section
-laid_loaded l f at s e = ap (λ (k : Slot). laid_by k l f at s) e
+laid_loaded l f at s kind e = ap (λ (k : Slot). laid_by k l f at s) e ∙ ap as_turned (unread_linked l s kind)
+
+-- a sorted one is among those that stand in their order
+is_sorted : (l : Layout) (s : InputSection) → is_partial_link l.kind ≡ false → IsLaidOut l → (k : IsInput l s) → s.slot ≡ slot.Sorted → Contains (sorted_inputs l) (record { file = k.file; section = as_loaded s })
+is_sorted l s kind laid k e = subst (λ (t : InputSection). Contains (sorted_inputs l) (record { file = k.file; section = as_loaded t })) (unread_linked l s kind) (laid.sorted k.group k.file s k.grouped k.filed k.listed e)
 
 -- a loaded section
-loaded_item : (l : Layout) (item : Item) (s : InputSection) → IsLaidOut l → (k : IsKeptSection l s) → s.slot ≡ slot.Loaded → item ≡ stood_item l k.input.file s → IsLaidItem l item
-loaded_item l item s laid k e is =
+loaded_item : (l : Layout) (item : Item) (s : InputSection) → is_partial_link l.kind ≡ false → IsLaidOut l → (k : IsKeptSection l s) → s.slot ≡ slot.Loaded → item ≡ stood_item l k.input.file s → IsLaidItem l item
+loaded_item l item s kind laid k e is =
     let g = k.input.group in
     let f = k.input.file in
     let a = laid_of l g f k.input.filed in
     let c = laid_section_of l f a.0 f.sections s k.input.listed in
     let t = laid_section l f c.0 s in
-    let same : t ≡ as_turned s = laid_loaded l f c.0 s e in
+    let same : t ≡ as_turned s = laid_loaded l f c.0 s kind e in
     let n = k.has_data in
     let here = turned_item l f s (λ r. has_words l s laid k.input (rw (e, n) refl) r) in
     record {
@@ -147,8 +153,8 @@ last_file : (l : Layout) → IsLaidOut l → LastFile l.groups
 last_file l laid = groups_last true 0 l.groups laid.some_group laid.files
 
 -- a sorted section, which stands with the last file
-sorted_item : (l : Layout) (item : Item) (s : InputSection) → IsLaidOut l → (k : IsKeptSection l s) → s.slot ≡ slot.Sorted → item ≡ stood_item l k.input.file s → IsLaidItem l item
-sorted_item l item s laid k e is =
+sorted_item : (l : Layout) (item : Item) (s : InputSection) → is_partial_link l.kind ≡ false → IsLaidOut l → (k : IsKeptSection l s) → s.slot ≡ slot.Sorted → item ≡ stood_item l k.input.file s → IsLaidItem l item
+sorted_item l item s kind laid k e is =
     let f = k.input.file in
     let last = last_file l laid in
     let a = laid_of l last.group last.file last.filed in
@@ -158,7 +164,7 @@ sorted_item l item s laid k e is =
     record {
       section = as_turned (as_loaded s);
       kept = record {
-        input = record { group = last.group; grouped = last.grouped; file = laid_file l a.0 last.file; filed = a.1; owner = f; listed = Ordered last.last (record { file = f; section = as_loaded s }) (laid.sorted k.input.group f s k.input.grouped k.input.filed k.input.listed e) refl refl };
+        input = record { group = last.group; grouped = last.grouped; file = laid_file l a.0 last.file; filed = a.1; owner = f; listed = Ordered last.last (record { file = f; section = as_loaded s }) (is_sorted l s kind laid k.input e) refl refl };
         reads = turned_reads (as_loaded s) refl n;
         room = λ plain. subst (λ (y : ℕ). allocated y ≡ true) (sym (turned_flags (as_loaded s))) (alloc_bit s.flags k.room);
       };
@@ -191,8 +197,8 @@ pub record InputStands (l : Layout) (s : InputSection) : Type 0 where
   pub input : IsLaid l section
   pub is : section ≡ as_turned (as_loaded s)
 
-pub input_stands : (l : Layout) (s : InputSection) → IsLaidOut l → IsInput l s → IsLoadedSlot s.slot → InputStands l s
-input_stands l s laid k loaded = by_slot s.slot refl loaded
+pub input_stands : (l : Layout) (s : InputSection) → is_partial_link l.kind ≡ false → IsLaidOut l → IsInput l s → IsLoadedSlot s.slot → InputStands l s
+input_stands l s kind laid k loaded = by_slot s.slot refl loaded
   where
     by_slot : (t : Slot) → s.slot ≡ t → IsLoadedSlot t → InputStands l s
     by_slot slot.Loaded e h =
@@ -201,24 +207,24 @@ input_stands l s laid k loaded = by_slot s.slot refl loaded
         record {
           section = laid_section l k.file c.0 s;
           input = record { group = k.group; grouped = k.grouped; file = laid_file l a.0 k.file; filed = a.1; owner = laid_file l a.0 k.file; listed = Own refl c.1 };
-          is = laid_loaded l k.file c.0 s e ∙ ap as_turned (loaded_same s e);
+          is = laid_loaded l k.file c.0 s kind e ∙ ap as_turned (loaded_same s e);
         }
     by_slot slot.Sorted e h =
         let last = last_file l laid in
         let a = laid_of l last.group last.file last.filed in
         record {
           section = as_turned (as_loaded s);
-          input = record { group = last.group; grouped = last.grouped; file = laid_file l a.0 last.file; filed = a.1; owner = k.file; listed = Ordered last.last (record { file = k.file; section = as_loaded s }) (laid.sorted k.group k.file s k.grouped k.filed k.listed e) refl refl };
+          input = record { group = last.group; grouped = last.grouped; file = laid_file l a.0 last.file; filed = a.1; owner = k.file; listed = Ordered last.last (record { file = k.file; section = as_loaded s }) (is_sorted l s kind laid k e) refl refl };
           is = refl;
         }
     by_slot other e h = absurd h
 
-section_item : (l : Layout) (item : Item) (s : InputSection) → IsLaidOut l → (k : IsKeptSection l s) → item ≡ stood_item l k.input.file s → IsLaidItem l item
-section_item l item s laid k is = by_slot s.slot refl k.loaded
+section_item : (l : Layout) (item : Item) (s : InputSection) → is_partial_link l.kind ≡ false → IsLaidOut l → (k : IsKeptSection l s) → item ≡ stood_item l k.input.file s → IsLaidItem l item
+section_item l item s kind laid k is = by_slot s.slot refl k.loaded
   where
     by_slot : (t : Slot) → s.slot ≡ t → IsLoadedSlot t → IsLaidItem l item
-    by_slot slot.Loaded e h = loaded_item l item s laid k e is
-    by_slot slot.Sorted e h = sorted_item l item s laid k e is
+    by_slot slot.Loaded e h = loaded_item l item s kind laid k e is
+    by_slot slot.Sorted e h = sorted_item l item s kind laid k e is
     by_slot other e h = absurd h
 
 -- ---- frames
@@ -461,8 +467,8 @@ frames_kept l item s laid k is =
 -- ---- items
 
 pub kept_laid : KeptIsLaid
-kept_laid = λ l item laid kept. by_kept l item laid kept
+kept_laid = λ l item kind laid kept. by_kept l item kind laid kept
   where
-    by_kept : (l : Layout) (item : Item) → IsLaidOut l → IsKept l item → IsLaidItem l item
-    by_kept l item laid (OfSection s k is) = section_item l item s laid k is
-    by_kept l item laid (OfFrames s k is) = frames_kept l item s laid k is
+    by_kept : (l : Layout) (item : Item) → is_partial_link l.kind ≡ false → IsLaidOut l → IsKept l item → IsLaidItem l item
+    by_kept l item kind laid (OfSection s k is) = section_item l item s kind laid k is
+    by_kept l item kind laid (OfFrames s k is) = frames_kept l item s laid k is

@@ -14,8 +14,9 @@ use Rattle.wild_clauses.specs.Indexes.{part_index_fits, primary_is_there, thunks
 use Rattle.wild_types.specs.FileSymbols.{copied_again}
 use Rattle.wild_clauses.specs.VersionTables.{parent_is_there}
 use Rattle.wild_clauses.specs.Fronts.{reversed_fits, merged_fits, identity_fills, front_shared, identity_is_alone}
-use Rattle.wild_clauses.specs.ClauseTests.{fails, check_inputs, check_indexes, check_fields, check_thunks, check_tls, check_starts, check_reversed, check_fronts}
+use Rattle.wild_clauses.specs.ClauseTests.{fails, check_inputs, check_indexes, check_fields, check_thunks, check_tls, check_starts, check_reversed, check_partial, check_fronts}
 use Rattle.wild_clauses.specs.Thunks.{ascends, thunks_misplaced, block_lost, machine_takes}
+use Rattle.wild_clauses.specs.Partial.{has_no_segments, has_no_slot, has_no_pair, has_no_thunks, lists_no_symbols, has_no_index, is_no_debug, is_of_kind, tables_fit, group_fits_members, table_has_data}
 use Rattle.wild_clauses.specs.WellFormed.{first_clause}
 use Rattle.wild_types.proofs.ListLemmas.{All-from_none_fails}
 use Rattle.wild_clauses.proofs.ClauseLemmas.{None-from_fails}
@@ -143,11 +144,40 @@ pub StartsFollow-from_check : (l : Layout) → check_starts l ≡ Ok tt → star
 unfolding check_starts
 StartsFollow-from_check l h = None-from_fails 16 _ h
 
--- ---- clauses 20 and 22
+-- ---- clauses 20 to 22
 
 pub WordsAreWhole-from_check : (l : Layout) → check_reversed l ≡ Ok tt → All (λ g. each_section (reversed_fits l.machine) g ≡ true) l.groups
 unfolding check_reversed
 WordsAreWhole-from_check l h = All-from_none_fails (each_section (reversed_fits l.machine)) 0 l.groups (None-from_fails 20 _ h)
+
+-- what only relocatable objects have, and what they have not
+pub record PartialHolds (l : Layout) : Type 0 where
+  pub segments : has_no_segments l ≡ true
+  pub thunks : All (λ (b : List Thunk). has_no_thunks l b ≡ true) l.thunk_blocks
+  pub tables : All (λ g. tables_fit g ≡ true) l.groups
+  pub members : All (λ g. each_section group_fits_members g ≡ true) l.groups
+  pub filled : All (λ g. each_section table_has_data g ≡ true) l.groups
+
+pub PartialHolds-from_check : (l : Layout) → check_partial l ≡ Ok tt → PartialHolds l
+unfolding check_partial
+PartialHolds-from_check l h =
+    let a = Both-from_first_error (fails 21 (unless (has_no_segments l))) _ h in
+    let b = Both-from_first_error (fails 21 (first_failing (has_no_slot l) 0 l.symbols)) _ a.rest in
+    let c = Both-from_first_error (fails 21 (unless (has_no_pair l))) _ b.rest in
+    let d = Both-from_first_error (fails 21 (first_failing (has_no_thunks l) 0 l.thunk_blocks)) _ c.rest in
+    let e = Both-from_first_error (fails 21 (unless (lists_no_symbols l))) _ d.rest in
+    let f = Both-from_first_error (fails 21 (first_failing (has_no_index l) 0 l.symbols)) _ e.rest in
+    let g = Both-from_first_error (fails 21 (first_failing (each_section (is_no_debug l)) 0 l.groups)) _ f.rest in
+    let i = Both-from_first_error (fails 21 (first_failing (each_section (is_of_kind l)) 0 l.groups)) _ g.rest in
+    let j = Both-from_first_error (fails 21 (first_failing tables_fit 0 l.groups)) _ i.rest in
+    let k = Both-from_first_error (fails 21 (first_failing (each_section group_fits_members) 0 l.groups)) _ j.rest in
+    record {
+      segments = holds_from_unless (has_no_segments l) (None-from_fails 21 _ a.first);
+      thunks = All-from_none_fails (has_no_thunks l) 0 l.thunk_blocks (None-from_fails 21 _ d.first);
+      tables = All-from_none_fails tables_fit 0 l.groups (None-from_fails 21 _ j.first);
+      members = All-from_none_fails (each_section group_fits_members) 0 l.groups (None-from_fails 21 _ k.first);
+      filled = All-from_none_fails (each_section table_has_data) 0 l.groups (None-from_fails 21 _ k.rest);
+    }
 
 -- what stands at the fronts of parts
 pub record FrontsHold (l : Layout) : Type 0 where
@@ -162,7 +192,8 @@ FrontsHold-from_check l h =
     let a = Both-from_first_error _ _ h in
     let b = Both-from_first_error _ _ a.rest in
     let c = Both-from_first_error _ _ b.rest in
-    let d = Both-from_first_error _ _ c.rest in
+    let o = Both-from_first_error _ _ c.rest in
+    let d = Both-from_first_error _ _ o.rest in
     record {
       merged = All-from_none_fails (merged_fits l) 0 l.merged (None-from_fails 22 _ a.first);
       identity = holds_from_unless (identity_fills l) (None-from_fails 22 _ b.first);
@@ -193,6 +224,7 @@ pub record Laid (l : Layout) : Type 0 where
   pub hashes : HasHashShapes l
   pub versions : HasVersionsInOrder l
   pub words : All (λ g. each_section (reversed_fits l.machine) g ≡ true) l.groups
+  pub partial : PartialHolds l
   pub fronts : FrontsHold l
   pub needed : flat_map_from (part_errors l) 0 l.parts ≡ []
 
@@ -220,6 +252,7 @@ Laid-from_clauses l h n =
       hashes = HasHashShapes-from_check l c.hashes;
       versions = HasVersionsInOrder-from_check l c.versions;
       words = WordsAreWhole-from_check l c.reversed;
+      partial = PartialHolds-from_check l c.partial;
       fronts = FrontsHold-from_check l c.fronts;
       needed = n;
     }

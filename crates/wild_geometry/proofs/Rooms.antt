@@ -1,6 +1,5 @@
 -- Where pieces stand, whatever their bytes are: input sections as the room that they take of the image.
 use Rattle.std.proofs.Common.{◌≡◌, ℕ, ◌+◌, ◌<◌, ◌≤◌, ◌⊎◌, Bool, true, false, if◌then◌else◌, List, [], ◌∷◌, ◌++◌, length, map, get_or, All, AllPairs, replicate, slice_get, flat_map, refl, sym, ap, ◌∙◌, arith, subst}
-use Rattle.std.proofs.lemmas.Bool.{and_parts}
 use Rattle.std.proofs.lemmas.List.{length-replicate, length-map, get_or-map, map-append, append_assoc}
 use Rattle.std.proofs.lemmas.List.Concat.{flat_map-append}
 use Rattle.std.proofs.lemmas.List.Elements.{All-head, All-tail}
@@ -15,18 +14,17 @@ use Rattle.wild_types.specs.declared.file.File.{File}
 use Rattle.wild_types.specs.declared.file.Group.{Group}
 use Rattle.wild_types.specs.declared.layout.Layout.{Layout}
 use Rattle.wild_types.specs.FileRoles.{is_epilogue}
-use Rattle.wild_types.specs.Lookups.{is_filled, is_loaded, is_read, files_of}
+use Rattle.wild_types.specs.Lookups.{is_filled, is_loaded, is_rela, has_range, files_of}
 use Rattle.wild_laid.specs.Turned.{as_turned}
-use Rattle.wild_laid.specs.Laid.{Input, laid_by, laid_section, laid_sections, laid_file, laid_files, sorted_inputs, of_last_file}
+use Rattle.wild_laid.specs.Laid.{Input, unread, tabled, laid_by, laid_section, laid_sections, laid_file, laid_files, sorted_inputs, of_last_file}
 use Rattle.wild_laid.proofs.LaidFiles.{joined_sections, joined_laid}
 use Rattle.wild_clauses.specs.Thunks.{standing}
 use Rattle.wild_layout.specs.Image.{offset_in, section_piece, section_pieces, of_first_file, sorted_piece, once_pieces, thunk_pieces, file_pieces, owned_pieces}
 use Rattle.wild_layout.specs.Sites.{section_bytes, extent_of}
-use Rattle.wild_layout.specs.SectionPlaces.{SectionLies}
-use Rattle.wild_geometry.proofs.SiteLemmas.{length-section_bytes}
-use Rattle.wild_geometry.proofs.StandingLemmas.{EachInput}
-use Rattle.wild_geometry.proofs.SectionLemmas.{Known, length_of_data}
-use Rattle.wild_geometry.proofs.StayLemmas.{Turns, turns}
+use Rattle.wild_geometry.proofs.StandingLemmas.{EachIn}
+use Rattle.wild_geometry.proofs.SectionLemmas.{Known, is_whole}
+use Rattle.wild_geometry.proofs.StayLemmas.{IsAt, Turns, turns, turns_unread, is_turned}
+use Rattle.wild_geometry.proofs.LongSections.{IsLong, IsTabled, IsTabledTable, long_turned, long_group, long_tabled}
 
 -- ---- pieces at the same places
 
@@ -74,34 +72,17 @@ length-room l s = length-replicate s.size 0
 abbrev pub section_room : Layout → InputSection → List Piece
 section_room l s = if is_filled l s then room_of l s ∷ [] else []
 
--- ---- a section that lies where it is to
-
--- a section that owns bytes has as many as its size
-abbrev pub HasSize : Layout → InputSection → Type 0
-HasSize l s = is_filled l s ≡ true → (f : File) → length (section_bytes l f s) ≡ s.size
-
-read_if : (s : InputSection) (k : Slot) → s.slot ≡ k → is_loaded k ≡ true → s.nobits ≡ false → is_read s ≡ true
-read_if s slot.Loaded e loaded bits = rw (e, bits) refl
-read_if s other e loaded bits = cc
-
-pub lies_size : (l : Layout) (s : InputSection) → SectionLies l s → HasSize l s
-lies_size l s h filled f = by s.nobits refl
-  where
-    by : (nobits : Bool) → s.nobits ≡ nobits → length (section_bytes l f s) ≡ s.size
-    by true e = length-section_bytes l f s (λ n. (let both : true ≡ false = sym e ∙ n in cc)) h.fields
-    by false e = length-section_bytes l f s (λ n. h.bytes (read_if s s.slot refl (and_parts (is_loaded s.slot) _ filled).0 e)) h.fields
-
 -- ---- where a section stands as it does, its room is
 
-no_room : (l : Layout) (s : InputSection) → is_loaded s.slot ≡ false → section_room l s ≡ []
+no_room : (l : Layout) (s : InputSection) → has_range s.slot ≡ false → section_room l s ≡ []
 no_room l s e = rw e refl
 
-no_piece : (l : Layout) (f : File) (s : InputSection) → is_loaded s.slot ≡ false → section_piece l f s ≡ []
+no_piece : (l : Layout) (f : File) (s : InputSection) → has_range s.slot ≡ false → section_piece l f s ≡ []
 no_piece l f s e = rw e refl
 
 -- a section at the place of another, of the same size
-turned_place : (l : Layout) (f : File) (s t : InputSection) → Turns l s t → map extent_of (section_room l s) ≡ map extent_of (section_piece l f t)
-turned_place l f s t h = by (is_filled l s) refl
+long_place : (l : Layout) (f : File) (s t : InputSection) → IsAt l s t → IsLong l t → map extent_of (section_room l s) ≡ map extent_of (section_piece l f t)
+long_place l f s t h long = by (is_filled l s) refl
   where
     at : ℕ
     at = offset_in (slice_get l.parts t.part) t.address
@@ -109,38 +90,55 @@ turned_place l f s t h = by (is_filled l s) refl
     same_at : offset_in (slice_get l.parts s.part) s.address ≡ at
     same_at = sym (ap (λ (k : ℕ). offset_in (slice_get l.parts k) t.address) h.part ∙ ap (λ (a : ℕ). offset_in (slice_get l.parts s.part) a) h.address)
 
-    long : is_filled l s ≡ true → length (section_bytes l f t) ≡ s.size
-    long e = length-section_bytes l f t (λ n. length_of_data l t h.holds (and_parts (is_loaded t.slot) _ (h.filled ∙ e)).0 n) h.holds.fields ∙ h.size
-
-    with : (b : Bool) → is_filled l s ≡ b → map extent_of (if b then room_of l s ∷ [] else []) ≡ map extent_of (if b then record { at = at; bytes = section_bytes l f t } ∷ [] else [])
-    with false e = refl
-    with true e =
-        let same = length-room l s ∙ sym (long e) in
+    with : (b : Bool) → map extent_of (if b then room_of l s ∷ [] else []) ≡ map extent_of (if b then record { at = at; bytes = section_bytes l f t } ∷ [] else [])
+    with false = refl
+    with true =
+        let same = length-room l s ∙ sym (long f ∙ h.size) in
         let place = same_at in
         ap (λ (x : Extent). x ∷ []) (ap (λ (n : ℕ). record { start = n; end = n + length (room_of l s).bytes }) place ∙ ap (λ (n : ℕ). record { start = at; end = at + n }) same)
 
     by : (b : Bool) → is_filled l s ≡ b → map extent_of (section_room l s) ≡ map extent_of (section_piece l f t)
-    by b e = rw (e, h.filled ∙ e) (with b e)
+    by b e = rw (e, h.filled ∙ e) (with b)
 
--- a section of a file stands where its room is
-abbrev pub HasPlace : Layout → InputSection → Type 0
-HasPlace l s = (f g : File) (at : ℕ) → map extent_of (section_room l s) ≡ map extent_of (section_piece l g (laid_section l f at s))
+-- one whose words may be reversed
+turned_place : (l : Layout) (f : File) (s t : InputSection) → Turns l s t → is_turned s.slot ≡ true → map extent_of (section_room l s) ≡ map extent_of (section_piece l f t)
+turned_place l f s t h own = long_place l f s t h.at (long_turned l t h.holds (ap is_turned h.slot ∙ own))
 
-pub place_of_known : (l : Layout) (s : InputSection) → Known l s → HasPlace l s
+-- a table is at its place
+pub tabled_at : (l : Layout) (f : File) (s : InputSection) → s.slot ≡ slot.Rela → IsAt l s (tabled f s)
+tabled_at l f s e = record { filled = rw e refl; part = refl; address = refl; size = refl }
+
+pub as_it_is : (l : Layout) (s : InputSection) → IsAt l s s
+as_it_is l s = record { filled = refl; part = refl; address = refl; size = refl }
+
+-- a section of file f stands where its room is
+abbrev pub HasPlace : Layout → File → InputSection → Type 0
+HasPlace l f s = (g : File) (at : ℕ) → map extent_of (section_room l s) ≡ map extent_of (section_piece l g (laid_section l f at s))
+
+pub place_of_known : (l : Layout) (f : File) (s : InputSection) → Known l s → IsTabledTable l f s → HasPlace l f s
 unfolding laid_section
-place_of_known l s h f g at = by s.slot refl
+place_of_known l f s h tables g at = by s.slot refl
   where
     by : (k : Slot) → s.slot ≡ k → map extent_of (section_room l s) ≡ map extent_of (section_piece l g (laid_by k l f at s))
-    by slot.Loaded e = turned_place l g s (as_turned s) (turns l s h (ap is_loaded e))
-    by slot.Frame e = ap (map extent_of) (no_room l s (ap is_loaded e))
-    by other e = ap (map extent_of) (no_room l s (ap is_loaded e) ∙ sym (no_piece l g s (ap is_loaded e)))
+    by slot.Loaded e = turned_place l g s (as_turned (unread l s)) (turns_unread l s h (ap is_whole e)) (ap is_turned e)
+    by slot.Debug e = turned_place l g s (as_turned s) (turns l s h (ap is_whole e)) (ap is_turned e)
+    by slot.Frame e = ap (map extent_of) (no_room l s (ap has_range e))
+    by slot.Rela e = (let rela = ap is_rela e in long_place l g s (tabled f s) (tabled_at l f s e) (long_tabled l f s h rela (tables rela)))
+    by slot.Group e = long_place l g s s (as_it_is l s) (long_group l s h e)
+    by other e = ap (map extent_of) (no_room l s (ap has_range e) ∙ sym (no_piece l g s (ap has_range e)))
 
 -- and a sorted one
 abbrev pub HasSortedPlace : Layout → Input → Type 0
 HasSortedPlace l x = map extent_of (section_room l x.section) ≡ map extent_of (sorted_piece l x)
 
+pub loaded_slot : (k : Slot) → is_loaded k ≡ true → (is_whole k ≡ true) × (is_turned k ≡ true)
+loaded_slot slot.Loaded h = (refl, refl)
+loaded_slot other h = cc
+
 pub place_of_sorted : (l : Layout) (x : Input) → Known l x.section → is_loaded x.section.slot ≡ true → HasSortedPlace l x
-place_of_sorted l x h loaded = turned_place l x.file x.section (as_turned x.section) (turns l x.section h loaded)
+place_of_sorted l x h loaded =
+    let both = loaded_slot x.section.slot loaded in
+    turned_place l x.file x.section (as_turned x.section) (turns l x.section h both.0) both.1
 
 -- ---- file by file
 
@@ -173,10 +171,10 @@ sorted_places : (l : Layout) → All (HasSortedPlace l) (sorted_inputs l) → (l
 sorted_places l h false = refl
 sorted_places l h true = of_map (section_room l) (sorted_piece l) (λ (x : Input). x.section) (sorted_inputs l) h
 
-own_places : (l : Layout) (f g : File) (at : ℕ) (ss : List InputSection) → All (HasPlace l) ss → map extent_of (flat_map (section_room l) ss) ≡ map extent_of (flat_map (section_piece l g) (laid_sections l f at ss))
+own_places : (l : Layout) (f g : File) (at : ℕ) (ss : List InputSection) → All (HasPlace l f) ss → map extent_of (flat_map (section_room l) ss) ≡ map extent_of (flat_map (section_piece l g) (laid_sections l f at ss))
 own_places l f g at ss h =
     map-flat_map extent_of (section_room l) ss
-    ∙ joined_sections l f (λ (s : InputSection). map extent_of (section_room l s)) (λ (s : InputSection). map extent_of (section_piece l g s)) at ss (λ i s m a. h i s m f g a)
+    ∙ joined_sections l f (λ (s : InputSection). map extent_of (section_room l s)) (λ (s : InputSection). map extent_of (section_piece l g s)) at ss (λ i s m a. h i s m g a)
     ∙ sym (map-flat_map extent_of (section_piece l g) (laid_sections l f at ss))
 
 -- two lists in front of a third
@@ -190,20 +188,20 @@ three xs ys zs us vs a b =
     ∙ ap (λ (es : List Extent). map extent_of us ++ es) (sym (map-append extent_of vs zs))
     ∙ sym (map-append extent_of us (vs ++ zs))
 
-in_file : (l : Layout) → All (HasSortedPlace l) (sorted_inputs l) → (f : File) (at : ℕ) → All (HasPlace l) f.sections → map extent_of (file_rooms l f) ≡ map extent_of (file_pieces l (laid_file l at f))
+in_file : (l : Layout) → All (HasSortedPlace l) (sorted_inputs l) → (f : File) (at : ℕ) → All (HasPlace l f) f.sections → map extent_of (file_rooms l f) ≡ map extent_of (file_pieces l (laid_file l at f))
 in_file l sorted f at own =
     let later = of_last_file f (map (λ (x : Input). x.section) (sorted_inputs l)) in
     ap (λ (ps : List Piece). map extent_of (ps ++ others_in l f)) (flat_map-append (section_room l) f.sections later)
     ∙ three (flat_map (section_room l) f.sections) (flat_map (section_room l) later) (others_in l f) (section_pieces l (laid_file l at f)) (of_last_file f (flat_map (sorted_piece l) (sorted_inputs l)))
     (own_places l f (laid_file l at f) at f.sections own) (sorted_places l sorted (is_epilogue f.role))
 
-in_group : (l : Layout) → All (HasSortedPlace l) (sorted_inputs l) → (g : Group) → All (λ (f : File). All (HasPlace l) f.sections) g.files → flat_map (λ (f : File). map extent_of (file_rooms l f)) g.files ≡ map extent_of (owned_pieces l g)
+in_group : (l : Layout) → All (HasSortedPlace l) (sorted_inputs l) → (g : Group) → All (λ (f : File). All (HasPlace l f) f.sections) g.files → flat_map (λ (f : File). map extent_of (file_rooms l f)) g.files ≡ map extent_of (owned_pieces l g)
 in_group l sorted g own =
     joined_laid l (λ (f : File). map extent_of (file_rooms l f)) (λ (f : File). map extent_of (file_pieces l f)) g (λ i f m at. in_file l sorted (get_or g.files i f) at (own i f m))
     ∙ sym (map-flat_map extent_of (file_pieces l) (laid_files l g))
 
 -- the rooms are where all that files own stands
-pub rooms_stand : (l : Layout) → EachInput l (HasPlace l) → All (HasSortedPlace l) (sorted_inputs l) → map extent_of (flat_map (file_rooms l) (files_of l.groups)) ≡ map extent_of (flat_map (owned_pieces l) l.groups)
+pub rooms_stand : (l : Layout) → EachIn l (HasPlace l) → All (HasSortedPlace l) (sorted_inputs l) → map extent_of (flat_map (file_rooms l) (files_of l.groups)) ≡ map extent_of (flat_map (owned_pieces l) l.groups)
 rooms_stand l own sorted =
     map-flat_map extent_of (file_rooms l) (files_of l.groups)
     ∙ flat_map-flat_map (λ (f : File). map extent_of (file_rooms l f)) (λ (g : Group). g.files) l.groups

@@ -10,7 +10,7 @@ use Rattle.wild_types.specs.declared.file.File.{File}
 use Rattle.wild_types.specs.declared.file.Group.{Group}
 use Rattle.wild_types.specs.declared.layout.SortedSection.{SortedSection}
 use Rattle.wild_types.specs.declared.layout.Layout.{Layout}
-use Rattle.wild_laid.specs.Laid.{Input, as_loaded, sorted_by, sorted_in_file, sorted_in_group, files_at, sorted_input, sorted_inputs}
+use Rattle.wild_laid.specs.Laid.{Input, as_loaded, unread, sorted_by, sorted_in_file, sorted_in_group, files_at, sorted_input, sorted_inputs}
 use Rattle.wild_clauses.specs.Contents.{names_section, times_named, is_named_once, sections_named_once, files_named_once, sorted_named_once}
 
 -- ---- what the clause says of a section
@@ -69,16 +69,16 @@ named_there i j k xs h = by xs (let e = eqb-true (times_named xs i j k) 1 h in o
 
 -- ---- and found by its name
 
-one_input : (f : File) (s : InputSection) → s.slot ≡ slot.Sorted → sorted_by f s.slot s ≡ (record { file = f; section = as_loaded s }) ∷ []
-one_input f s e = rw e refl
+one_input : (l : Layout) (f : File) (s : InputSection) → s.slot ≡ slot.Sorted → sorted_by l f s.slot s ≡ (record { file = f; section = as_loaded (unread l s) }) ∷ []
+one_input l f s e = rw e refl
 
-input_at : (l : Layout) (i j k : ℕ) (g : Group) (f : File) (s : InputSection) → slice_get l.groups i ≡ Some g → slice_get g.files j ≡ Some f → slice_get f.sections k ≡ Some s → s.slot ≡ slot.Sorted → sorted_input l (entry i j k) ≡ (record { file = f; section = as_loaded s }) ∷ []
+input_at : (l : Layout) (i j k : ℕ) (g : Group) (f : File) (s : InputSection) → slice_get l.groups i ≡ Some g → slice_get g.files j ≡ Some f → slice_get f.sections k ≡ Some s → s.slot ≡ slot.Sorted → sorted_input l (entry i j k) ≡ (record { file = f; section = as_loaded (unread l s) }) ∷ []
 unfolding sorted_input
 input_at l i j k g f s a b c e =
-    ap (λ (o : Option Group). sorted_in_group (slice_get (files_at o) j) k) a
-    ∙ ap (λ (o : Option File). sorted_in_group o k) b
-    ∙ ap (sorted_in_file f) c
-    ∙ one_input f s e
+    ap (λ (o : Option Group). sorted_in_group l (slice_get (files_at o) j) k) a
+    ∙ ap (λ (o : Option File). sorted_in_group l o k) b
+    ∙ ap (sorted_in_file l f) c
+    ∙ one_input l f s e
 
 Contains-flat_map : {X Y : Type 0} (f : X → List Y) (xs : List X) (x : X) (y : Y) → Contains xs x → Contains (f x) y → Contains (flat_map f xs) y
 Contains-flat_map {X} {Y} f xs x y c h = by xs c.0 c.1 c.2
@@ -92,7 +92,7 @@ sorted_test : (l : Layout) (i j k : ℕ) (s : InputSection) → s.slot ≡ slot.
 sorted_test l i j k s e h = rw e at h
 
 -- where the order names each sorted section, each is among those that stand
-pub is_sorted_input : (l : Layout) → sorted_named_once l 0 l.groups ≡ None → (g : Group) (f : File) (s : InputSection) → Contains l.groups g → Contains g.files f → Contains f.sections s → s.slot ≡ slot.Sorted → Contains (sorted_inputs l) (record { file = f; section = as_loaded s })
+pub is_sorted_input : (l : Layout) → sorted_named_once l 0 l.groups ≡ None → (g : Group) (f : File) (s : InputSection) → Contains l.groups g → Contains g.files f → Contains f.sections s → s.slot ≡ slot.Sorted → Contains (sorted_inputs l) (record { file = f; section = as_loaded (unread l s) })
 is_sorted_input l h g f s a b c e =
     let in_group = subst (λ (x : Group). files_named_once l a.0 0 x.files ≡ true) a.2 (group_at l 0 a.0 l.groups a.0 g h (omega arith) a.1) in
     let in_file = subst (λ (x : File). sections_named_once l a.0 b.0 0 x.sections ≡ true) b.2 (file_at l a.0 0 b.0 g.files b.0 f in_group (omega arith) b.1) in
@@ -101,6 +101,6 @@ is_sorted_input l h g f s a b c e =
     let group = slice_get-get_or l.groups a.0 g a.1 ∙ ap Some a.2 in
     let file = slice_get-get_or g.files b.0 f b.1 ∙ ap Some b.2 in
     let section = slice_get-get_or f.sections c.0 s c.1 ∙ ap Some c.2 in
-    let input : Input = record { file = f; section = as_loaded s } in
+    let input : Input = record { file = f; section = as_loaded (unread l s) } in
     let own = subst (λ (xs : List Input). Contains xs input) (sym (input_at l a.0 b.0 c.0 g f s group file section e)) (Contains-here input []) in
     Contains-flat_map (sorted_input l) l.sorted (entry a.0 b.0 c.0) input there own

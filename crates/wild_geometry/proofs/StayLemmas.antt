@@ -1,5 +1,5 @@
 -- Input sections as they stand: what is known of the plan's holds of them.
-use Rattle.std.proofs.Common.{◌≡◌, ℕ, ◌+◌, ◌%◌, ◌^◌, ◌≤◌, inl, inr, ◌==◌, nat_le, nat_lt, Bool, true, false, not, ◌&&◌, ◌||◌, if◌then◌else◌, List, [], ◌∷◌, length, map, get_or, All, refl, sym, ap, arith, subst}
+use Rattle.std.proofs.Common.{◌≡◌, ℕ, ◌+◌, ◌%◌, ◌^◌, ◌≤◌, inl, inr, ◌==◌, nat_le, nat_lt, Bool, true, false, not, ◌&&◌, ◌||◌, if◌then◌else◌, List, [], ◌∷◌, length, map, get_or, All, refl, sym, ap, ◌∙◌, arith, subst}
 use Rattle.std.specs.List.{filter, list_all}
 use Rattle.std.proofs.lemmas.Bool.{cases_Bool, and_parts, eqb-true}
 use Rattle.std.proofs.lemmas.List.Elements.{All-nil, All-cons, All-head, All-tail, All-append, All-map}
@@ -14,12 +14,13 @@ use Rattle.wild_types.specs.declared.file.Group.{Group}
 use Rattle.wild_types.specs.declared.layout.Layout.{Layout}
 use Rattle.wild_types.specs.FileRoles.{is_epilogue}
 use Rattle.wild_types.specs.Lists.{total}
-use Rattle.wild_types.specs.Lookups.{is_loaded, is_frame, is_discarded, is_filled, takes_file_bytes, section_of}
+use Rattle.wild_types.specs.Kinds.{is_partial_link}
+use Rattle.wild_types.specs.Lookups.{is_loaded, is_frame, is_discarded, is_rela, has_counted, has_range, is_filled, takes_file_bytes, section_of}
 use Rattle.wild_types.specs.Rows.{field_bytes}
 use Rattle.wild_frames.specs.Frames.{kept_in}
 use Rattle.wild_laid.specs.Turned.{turned_bytes, turned_offset, turned, as_turned}
 use Rattle.wild_laid.specs.FrameInputs.{frames_of, kept_size}
-use Rattle.wild_laid.specs.Laid.{Input, entry_relocations, moved_by, laid_relocations, framed, laid_by, laid_section, laid_sections, laid_file, file_frames, frames_at, laid_files, sorted_inputs, sorted_sections, of_last_file, processed}
+use Rattle.wild_laid.specs.Laid.{Input, entry_relocations, moved_by, laid_relocations, framed, without_relocations, unread, tabled, laid_by, laid_section, laid_sections, laid_file, file_frames, frames_at, laid_files, sorted_inputs, sorted_sections, of_last_file, processed}
 use Rattle.wild_laid.proofs.LaidFiles.{All-low_sections, All-low_files}
 use Rattle.wild_laid.proofs.TurnedBytes.{length-turned_bytes}
 use Rattle.wild_clauses.specs.Contents.{may_lack_bytes}
@@ -28,7 +29,8 @@ use Rattle.wild_clauses.specs.Thunks.{standing}
 use Rattle.wild_layout.specs.Geometry.{NamesSymbol, EachSection}
 use Rattle.wild_layout.specs.SectionPlaces.{FieldLies, IsWord}
 use Rattle.wild_geometry.proofs.StandingLemmas.{EachStanding, sorted_loaded}
-use Rattle.wild_geometry.proofs.SectionLemmas.{Holds, Known, length_of_data, not_discarded}
+use Rattle.wild_geometry.proofs.SectionLemmas.{Holds, Known, is_whole, length_of_data, not_discarded, known_unread}
+use Rattle.wild_geometry.proofs.FrameSections.{slot_of_unread}
 
 -- ---- words
 
@@ -51,26 +53,24 @@ Words-from_known l s h e =
       fields = λ i r m. is_word l s.size (get_or s.relocations i r) (All-from_list_all (is_whole_word l.machine) s.relocations both.1 i r m) (h.holds.fields i r m);
     }
 
--- the bytes of a loaded section are as many as its size, or there are none
-bytes_even : (l : Layout) (s : InputSection) → Known l s → is_loaded s.slot ≡ true → s.reversed ≡ true → length s.bytes % 8 ≡ 0
-bytes_even l s h loaded e =
-    let whole = (Words-from_known l s h e).whole in
-    by s.nobits refl
+-- the bytes of such a section are as many as its size, or there are none
+bytes_even : (l : Layout) (s : InputSection) → Known l s → is_whole s.slot ≡ true → s.reversed ≡ true → length s.bytes % 8 ≡ 0
+bytes_even l s h own e = by s.nobits refl
   where
     none : (n : ℕ) → (n == 0) ≡ true → n % 8 ≡ 0
     none n t = let z = eqb-true n 0 t in omega arith
 
     by : (b : Bool) → s.nobits ≡ b → length s.bytes % 8 ≡ 0
     by true t =
-        let d = not_discarded s.slot loaded in
+        let d = not_discarded s.slot own in
         let fits = h.holds.length in
         none (length s.bytes) (rw (d, t) at fits)
-    by false t = let long = length_of_data l s h.holds loaded t in let whole = (Words-from_known l s h e).whole in omega arith
+    by false t = let long = length_of_data l s h.holds own t in let whole = (Words-from_known l s h e).whole in omega arith
 
 -- ---- a section whose words are reversed
 
-pub length-turned : (l : Layout) (s : InputSection) → Known l s → is_loaded s.slot ≡ true → s.reversed ≡ true → length (turned_bytes s.bytes) ≡ length s.bytes
-length-turned l s h loaded e = length-turned_bytes s.bytes (bytes_even l s h loaded e)
+pub length-turned : (l : Layout) (s : InputSection) → Known l s → is_whole s.slot ≡ true → s.reversed ≡ true → length (turned_bytes s.bytes) ≡ length s.bytes
+length-turned l s h whole e = length-turned_bytes s.bytes (bytes_even l s h whole e)
 
 turned_fields : (l : Layout) (s : InputSection) → Known l s → s.reversed ≡ true → All (FieldLies l.machine s.size) (map (turned_offset s.size) s.relocations)
 turned_fields l s h e =
@@ -80,41 +80,64 @@ turned_fields l s h e =
     let within = word.within in
     inr (omega arith))
 
-turned_holds : (l : Layout) (s : InputSection) → Known l s → is_loaded s.slot ≡ true → s.reversed ≡ true → Holds l (turned s)
-turned_holds l s h loaded e =
-    let long = length-turned l s h loaded e in
+turned_holds : (l : Layout) (s : InputSection) → Known l s → is_whole s.slot ≡ true → s.reversed ≡ true → Holds l (turned s)
+turned_holds l s h whole e =
+    let long = length-turned l s h whole e in
     record {
       small = h.holds.small;
       part = h.holds.part;
       length = subst (λ (n : ℕ). (is_discarded s.slot || (if s.nobits then n == 0 else (n == s.size || (may_lack_bytes s.slot && n == 0)))) ≡ true) (sym long) h.holds.length;
       raw = h.holds.raw;
       allocation = h.holds.allocation;
-      room = subst (λ (n : ℕ). (n == 0 || takes_file_bytes l (section_of l s.part)) ≡ true) (sym long) h.holds.room;
+      room = subst (λ (n : ℕ). (not (not (n == 0) || (is_rela s.slot && not (s.size == 0))) || takes_file_bytes l (section_of l s.part)) ≡ true) (sym long) h.holds.room;
       fields = turned_fields l s h e;
       symbols = All-map (NamesSymbol l) (turned_offset s.size) s.relocations h.holds.symbols;
     }
 
 -- as it stands it fills what it filled
-turned_filled : (l : Layout) (s : InputSection) → Known l s → is_loaded s.slot ≡ true → s.reversed ≡ true → is_filled l (turned s) ≡ is_filled l s
-turned_filled l s h loaded e =
-    let long = length-turned l s h loaded e in
-    ap (λ (n : ℕ). is_loaded s.slot && (if s.nobits then not (s.size == 0) && takes_file_bytes l (section_of l s.part) else not (n == 0))) long
+turned_filled : (l : Layout) (s : InputSection) → Known l s → is_whole s.slot ≡ true → s.reversed ≡ true → is_filled l (turned s) ≡ is_filled l s
+turned_filled l s h whole e =
+    let long = length-turned l s h whole e in
+    ap (λ (n : ℕ). has_range s.slot && (if s.nobits then has_counted s.slot && (not (s.size == 0) && takes_file_bytes l (section_of l s.part)) else if is_rela s.slot then not (s.size == 0) else not (n == 0))) long
 
--- a loaded section as it stands: at its place, with its room
-pub record Turns (l : Layout) (s t : InputSection) : Type 0 where
-  pub holds : Holds l t
+-- a section has the place and the room of another
+pub record IsAt (l : Layout) (s t : InputSection) : Type 0 where
   pub filled : is_filled l t ≡ is_filled l s
   pub part : t.part ≡ s.part
   pub address : t.address ≡ s.address
   pub size : t.size ≡ s.size
 
-pub turns : (l : Layout) (s : InputSection) → Known l s → is_loaded s.slot ≡ true → Turns l s (as_turned s)
+-- a section as it stands: at its place, with its room
+pub record Turns (l : Layout) (s t : InputSection) : Type 0 where
+  pub holds : Holds l t
+  pub slot : t.slot ≡ s.slot
+  pub at : IsAt l s t
+
+pub turns : (l : Layout) (s : InputSection) → Known l s → is_whole s.slot ≡ true → Turns l s (as_turned s)
 unfolding as_turned
-turns l s h loaded = by s.reversed refl
+turns l s h whole = by s.reversed refl
   where
     by : (b : Bool) → s.reversed ≡ b → Turns l s (if b then turned s else s)
-    by true e = record { holds = turned_holds l s h loaded e; filled = turned_filled l s h loaded e; part = refl; address = refl; size = refl }
-    by false e = record { holds = h.holds; filled = refl; part = refl; address = refl; size = refl }
+    by true e = record { holds = turned_holds l s h whole e; slot = refl; at = record { filled = turned_filled l s h whole e; part = refl; address = refl; size = refl } }
+    by false e = record { holds = h.holds; slot = refl; at = record { filled = refl; part = refl; address = refl; size = refl } }
+
+unread_at : (l : Layout) (s : InputSection) → IsAt l s (unread l s)
+unread_at l s = by (is_partial_link l.kind)
+  where
+    by : (b : Bool) → IsAt l s (if b then without_relocations s else s)
+    by true = record { filled = refl; part = refl; address = refl; size = refl }
+    by false = record { filled = refl; part = refl; address = refl; size = refl }
+
+-- of a relocatable object without its relocations
+pub turns_unread : (l : Layout) (s : InputSection) → Known l s → is_whole s.slot ≡ true → Turns l s (as_turned (unread l s))
+turns_unread l s h whole =
+    let t = turns l (unread l s) (known_unread l s h) (ap is_whole (slot_of_unread l s) ∙ whole) in
+    let u = unread_at l s in
+    record {
+      holds = t.holds;
+      slot = t.slot ∙ slot_of_unread l s;
+      at = record { filled = t.at.filled ∙ u.filled; part = t.at.part ∙ u.part; address = t.at.address ∙ u.address; size = t.at.size ∙ u.size };
+    }
 
 -- ---- frames
 
@@ -144,48 +167,70 @@ framed_named l f s h =
 
 -- ---- all that stand, as they do
 
--- what of a section that stands is known, of it as it stands
-pub record Stays (l : Layout) (R P : InputSection → Type 0) : Type 0 where
-  pub loaded : (s : InputSection) → is_loaded s.slot ≡ true → R s → P (as_turned s)
-  pub frame : (f : File) (at : ℕ) (s : InputSection) → is_frame s.slot ≡ true → at + kept_size l f s ≤ 2 ^ 62 → R s → P (framed l f at s)
-  pub other : (s : InputSection) → is_loaded s.slot ≡ false → is_frame s.slot ≡ false → R s → P s
+-- the section stands as it is, but for its words
+abbrev pub is_turned : Slot → Bool
+is_turned slot.Loaded = true
+is_turned slot.Debug = true
+is_turned other = false
 
-laid_stays : (l : Layout) (R P : InputSection → Type 0) → Stays l R P → (f : File) (at : ℕ) (s : InputSection) → at + kept_size l f s ≤ 2 ^ 62 → R s → P (laid_section l f at s)
+-- it stands as the input has it
+abbrev pub is_as_it_is : Slot → Bool
+is_as_it_is slot.Loaded = false
+is_as_it_is slot.Debug = false
+is_as_it_is slot.Frame = false
+is_as_it_is slot.Rela = false
+is_as_it_is other = true
+
+-- what of a section that stands in a file's ranges is known, of it as it stands
+pub record Stays (l : Layout) (R : File → InputSection → Type 0) (P : InputSection → Type 0) : Type 0 where
+  pub loaded : (f : File) (s : InputSection) → is_loaded s.slot ≡ true → R f s → P (as_turned (unread l s))
+  pub turned : (f : File) (s : InputSection) → is_turned s.slot ≡ true → R f s → P (as_turned s)
+  pub frame : (f : File) (at : ℕ) (s : InputSection) → is_frame s.slot ≡ true → at + kept_size l f s ≤ 2 ^ 62 → R f s → P (framed l f at s)
+  pub table : (f : File) (s : InputSection) → is_rela s.slot ≡ true → R f s → P (tabled f s)
+  pub other : (f : File) (s : InputSection) → is_as_it_is s.slot ≡ true → R f s → P s
+
+laid_stays : (l : Layout) (R : File → InputSection → Type 0) (P : InputSection → Type 0) → Stays l R P → (f : File) (at : ℕ) (s : InputSection) → at + kept_size l f s ≤ 2 ^ 62 → R f s → P (laid_section l f at s)
 unfolding laid_section
 laid_stays l R P stays f at s low r = by s.slot refl
   where
     by : (k : Slot) → s.slot ≡ k → P (laid_by k l f at s)
-    by slot.Loaded e = stays.loaded s (ap is_loaded e) r
+    by slot.Loaded e = stays.loaded f s (ap is_loaded e) r
+    by slot.Debug e = stays.turned f s (ap is_turned e) r
     by slot.Frame e = stays.frame f at s (ap is_frame e) low r
-    by other e = stays.other s (ap is_loaded e) (ap is_frame e) r
+    by slot.Rela e = stays.table f s (ap is_rela e) r
+    by other e = stays.other f s (ap is_as_it_is e) r
 
 -- and of sorted sections
 All-of_map : {X Y : Type 0} (P : Y → Type 0) (f : X → Y) (xs : List X) → All P (map f xs) → All (λ x. P (f x)) xs
 All-of_map P f [] h = λ i x m. absurd (omega arith)
 All-of_map {X} {Y} P f (x ∷ xs) h = All-cons (λ (y : X). P (f y)) x xs (All-head P (f x) (map f xs) h) (All-of_map P f xs (All-tail P (f x) (map f xs) h))
 
-sorted_stays : (l : Layout) (R P : InputSection → Type 0) → Stays l R P → (last : Bool) → All R (if last then map (λ (x : Input). x.section) (sorted_inputs l) else []) → All P (if last then sorted_sections l else [])
-sorted_stays l R P stays false h = All-nil P
-sorted_stays l R P stays true h =
-    let each = All-of_map R (λ (x : Input). x.section) (sorted_inputs l) h in
-    All-map P (λ (x : Input). as_turned x.section) (sorted_inputs l) (λ i x m. stays.loaded (get_or (sorted_inputs l) i x).section (sorted_loaded l i x m) (each i x m))
+sorted_stays : (l : Layout) (R : File → InputSection → Type 0) (P : InputSection → Type 0) → Stays l R P → (f : File) (last : Bool) → All (R f) (if last then map (λ (x : Input). x.section) (sorted_inputs l) else []) → All P (if last then sorted_sections l else [])
+sorted_stays l R P stays f false h = All-nil P
+sorted_stays l R P stays f true h =
+    let each = All-of_map (R f) (λ (x : Input). x.section) (sorted_inputs l) h in
+    All-map P (λ (x : Input). as_turned x.section) (sorted_inputs l) (λ i x m. (let y = get_or (sorted_inputs l) i x in stays.turned f y.section (loaded_turned y.section.slot (sorted_loaded l i x m)) (each i x m)))
+  where
+    loaded_turned : (k : Slot) → is_loaded k ≡ true → is_turned k ≡ true
+    loaded_turned slot.Loaded h = refl
+    loaded_turned other h = cc
 
-file_stays : (l : Layout) (R P : InputSection → Type 0) → Stays l R P → (f : File) (at : ℕ) → at + file_frames l f ≤ 2 ^ 62 → All R (standing l f) → All P (processed l (laid_file l at f))
+file_stays : (l : Layout) (R : File → InputSection → Type 0) (P : InputSection → Type 0) → Stays l R P → (f : File) (at : ℕ) → at + file_frames l f ≤ 2 ^ 62 → All (R f) (standing l f) → All P (processed l (laid_file l at f))
 file_stays l R P stays f at low h =
     let sorted = of_last_file f (map (λ (x : Input). x.section) (sorted_inputs l)) in
-    let own = All-append-left R f.sections sorted h in
+    let own = All-append-left (R f) f.sections sorted h in
     All-append P (laid_sections l f at f.sections) (of_last_file f (sorted_sections l))
     (All-low_sections l f P (2 ^ 62) at f.sections (omega arith) low (λ i s m a ends. laid_stays l R P stays f a (get_or f.sections i s) ends (own i s m)))
-    (sorted_stays l R P stays (is_epilogue f.role) (All-append-right R f.sections sorted h))
+    (sorted_stays l R P stays f (is_epilogue f.role) (All-append-right (R f) f.sections sorted h))
 
 -- the frames of a group end below 2^62
 abbrev pub FramesEnd : Layout → Group → Type 0
 FramesEnd l g = frames_at l g + total (file_frames l) g.files ≤ 2 ^ 62
 
-group_stays : (l : Layout) (R P : InputSection → Type 0) → Stays l R P → (g : Group) → FramesEnd l g → All (λ (f : File). All R (standing l f)) g.files → All (λ (f : File). All P (processed l f)) (laid_files l g)
+group_stays : (l : Layout) (R : File → InputSection → Type 0) (P : InputSection → Type 0) → Stays l R P → (g : Group) → FramesEnd l g → All (λ (f : File). All (R f) (standing l f)) g.files → All (λ (f : File). All P (processed l f)) (laid_files l g)
 unfolding laid_files
 group_stays l R P stays g low h =
     All-low_files l (λ (f : File). All P (processed l f)) (2 ^ 62) (frames_at l g) g.files (omega arith) low (λ i f m a ends. file_stays l R P stays (get_or g.files i f) a ends (h i f m))
 
-pub EachSection-from_standing : (l : Layout) (R P : InputSection → Type 0) → Stays l R P → All (FramesEnd l) l.groups → EachStanding l R → EachSection l P
+pub EachSection-from_standing : (l : Layout) (R : File → InputSection → Type 0) (P : InputSection → Type 0) → Stays l R P → All (FramesEnd l) l.groups → EachStanding l R → EachSection l P
 EachSection-from_standing l R P stays low h = λ i g m. group_stays l R P stays (get_or l.groups i g) (low i g m) (h i g m)

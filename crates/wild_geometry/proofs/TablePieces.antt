@@ -29,6 +29,7 @@ use Rattle.wild_geometry.proofs.ShareLemmas.{total_to, size_from_shares, content
 use Rattle.wild_geometry.proofs.StandingLemmas.{all_sections, sorted_loaded}
 use Rattle.wild_geometry.proofs.SectionLemmas.{each_known, sorted_known, Runs}
 use Rattle.wild_geometry.proofs.PieceLemmas.{parts_apart, owner_at, offset_is, stood_room, Standing, section_rooms_apart, InImage, section_rooms_within}
+use Rattle.wild_geometry.proofs.LongSections.{each_tabled}
 use Rattle.wild_geometry.proofs.Rooms.{AreBeside, room_of, section_room, place_of_known, place_of_sorted, rooms_stand}
 use Rattle.wild_geometry.proofs.ThunkRuns.{all_thunks}
 use Rattle.wild_geometry.proofs.ThunkLemmas.{SectionsStand, ThunksStand, thunk_room, each_thunk}
@@ -218,7 +219,7 @@ owned_from_laid : (l : Layout) → Laid l → SectionsStand l → ThunksStand l 
 owned_from_laid l laid stood thunks = record {
   laid = laid;
   follow = (PartsFollow-from_order l 0 0 l.parts laid.order).pairs;
-  places = rooms_stand l (λ i g m j f n k s o. place_of_known l (get_or (get_or (get_or l.groups i g).files j f).sections k s) (each_known l laid i g m j f n k s o)) (λ i x m. place_of_sorted l (get_or (sorted_inputs l) i x) (sorted_known l laid i x m) (sorted_loaded l i x m));
+  places = rooms_stand l (λ i g m j f n k s o. place_of_known l (get_or (get_or l.groups i g).files j f) (get_or (get_or (get_or l.groups i g).files j f).sections k s) (each_known l laid i g m j f n k s o) (each_tabled l laid i g m j f n k s o)) (λ i x m. place_of_sorted l (get_or (sorted_inputs l) i x) (sorted_known l laid i x m) (sorted_loaded l i x m));
   first = laid.shares.files;
   some = laid.counts.some_group;
   stood = stood;

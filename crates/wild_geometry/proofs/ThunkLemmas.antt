@@ -4,7 +4,7 @@ use Rattle.std.specs.Prelude.{unwrap_or}
 use Rattle.std.specs.List.{list_any}
 use Rattle.std.proofs.lemmas.Bool.{cases_Bool, and_parts, eqb-true, ne_eqb, ltb-true}
 use Rattle.std.proofs.lemmas.Option.{get_or_from_slice_get, slice_get_within, slice_get-get_or, same_Some}
-use Rattle.std.proofs.lemmas.List.Elements.{All-nil, All-cons, All-weaker}
+use Rattle.std.proofs.lemmas.List.Elements.{All-nil, All-cons, All-head, All-tail, All-weaker}
 use Rattle.wild_words.specs.Overlay.{Piece, Apart}
 use Rattle.wild_words.proofs.Basics.{implied}
 use Rattle.wild_words.proofs.ListLemmas.{AllPairs-nil, All-flat_map, AllPairs-flat_map, All-from_flat_map, holds_at, Found-from_list_any}
@@ -15,11 +15,13 @@ use Rattle.wild_types.specs.declared.file.File.{File}
 use Rattle.wild_types.specs.declared.file.Group.{Group}
 use Rattle.wild_types.specs.declared.layout.Thunk.{Thunk}
 use Rattle.wild_types.specs.declared.layout.Layout.{Layout}
+use Rattle.wild_types.specs.Kinds.{is_partial_link}
 use Rattle.wild_types.specs.FileThunks.{thunk_size, block_of, thunks_of}
 use Rattle.wild_types.specs.Lookups.{is_filled, image_size, is_allocated_section, takes_file_bytes}
 use Rattle.wild_types.specs.FilePlaces.{given}
 use Rattle.wild_clauses.specs.Contents.{is_raw, holds_thunks, section_misplaced}
 use Rattle.wild_clauses.specs.Indexes.{part_index_fits}
+use Rattle.wild_clauses.specs.Partial.{has_no_thunks}
 use Rattle.wild_clauses.specs.Places.{part_lies}
 use Rattle.wild_clauses.specs.Thunks.{is_used, has_thunks, misplaced_from, misplaced_in, owns, is_owned, block_lost, machine_takes}
 use Rattle.wild_layout.specs.Thunks.{thunk_bytes}
@@ -149,8 +151,8 @@ thunk_in_image l t st = owner_ends l (EndsBy-image l) l.primary_part t.address t
 
 -- ---- thunks of a layout that is laid out
 
-thunk_lies : (l : Layout) → Laid l → (t : Thunk) → ThunkStood l t → ThunkLies l t
-thunk_lies l h t st =
+thunk_lies : (l : Layout) → Laid l → is_partial_link l.kind ≡ false → (t : Thunk) → ThunkStood l t → ThunkLies l t
+thunk_lies l h kind t st =
     let p = st.part in
     let from = st.room.from in
     let to = st.room.to in
@@ -162,7 +164,7 @@ thunk_lies l h t st =
       stands = (p, st.room);
       ends = thunk_in_image l t st;
       carried = λ k lt. (
-          let c = byte_of_part l h p lies o (t.address - p.address + k) (omega arith) in
+          let c = byte_of_part l h kind p lies o (t.address - p.address + k) (omega arith) in
           let a = c.1.from in
           let b = c.1.to in
           let d = c.1.distance in
@@ -170,8 +172,20 @@ thunk_lies l h t st =
           );
     }
 
+-- a relocatable object has no thunks
+none_used : (bs : List (List Thunk)) → All (λ (b : List Thunk). (length b == 0) ≡ true) bs → list_any is_used bs ≡ false
+none_used [] h = refl
+none_used (b ∷ bs) h = (let here = All-head (λ (x : List Thunk). (length x == 0) ≡ true) b bs h in let rest = none_used bs (All-tail (λ (x : List Thunk). (length x == 0) ≡ true) b bs h) in rw (here, rest) refl)
+
+none_in_partial : (l : Layout) → Laid l → is_partial_link l.kind ≡ true → has_thunks l ≡ false
+none_in_partial l h partial = none_used l.thunk_blocks (λ i b m. implied (is_partial_link l.kind) (length (get_or l.thunk_blocks i b) == 0) (h.partial.thunks i b m) partial)
+
 pub thunks_lie : (l : Layout) → Laid l → ThunksStand l → All (λ (g : Group). All (λ (f : File). All (ThunkLies l) (thunks_of l f)) g.files) l.groups
-thunks_lie l h st = λ i g m. All-from_flat_map (ThunkLies l) (thunks_of l) (get_or l.groups i g).files (All-from_flat_map (ThunkLies l) (thunks_in l) l.groups (All-weaker (ThunkStood l) (ThunkLies l) (thunk_lies l h) (all_thunks l) st.stood) i g m)
+thunks_lie l h st =
+    elim (cases_Bool (is_partial_link l.kind)) [
+      | inl partial ↦ (λ i g m j f n. subst (λ (ts : List Thunk). All (ThunkLies l) ts) (sym (no_thunks l (none_in_partial l h partial) (get_or (get_or l.groups i g).files j f))) (All-nil (ThunkLies l)))
+      | inr kind ↦ (λ i g m. All-from_flat_map (ThunkLies l) (thunks_of l) (get_or l.groups i g).files (All-from_flat_map (ThunkLies l) (thunks_in l) l.groups (All-weaker (ThunkStood l) (ThunkLies l) (thunk_lies l h kind) (all_thunks l) st.stood) i g m))
+    ]
 
 -- ---- blocks
 

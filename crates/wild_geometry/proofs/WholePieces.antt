@@ -1,7 +1,8 @@
 -- What stands once in the image stands where its part does.
-use Rattle.std.proofs.Common.{◌≡◌, ℕ, ◌+◌, ◌<◌, ◌≤◌, inl, inr, ◌==◌, false, List, length, get_or, Contains, refl, ap, ◌∙◌, arith, subst}
+use Rattle.std.proofs.Common.{◌≡◌, ℕ, ◌+◌, ◌<◌, ◌≤◌, inl, inr, ◌==◌, true, false, List, length, get_or, Contains, refl, ap, ◌∙◌, arith, subst}
 use Rattle.std.proofs.lemmas.Bool.{cases_Bool, eqb-true, eqb-false}
 use Rattle.std.proofs.lemmas.List.Elements.{Contains-append_left}
+use Rattle.wild_words.proofs.Basics.{implied}
 use Rattle.wild_words.proofs.ListLemmas.{ItemAt-within}
 use Rattle.wild_records.specs.FileHeader.{file_header_size}
 use Rattle.wild_types.specs.declared.part.Part.{Part}
@@ -9,9 +10,10 @@ use Rattle.wild_types.specs.declared.part.Role.{Role}
 use Rattle.wild_types.specs.declared.part.Role.TheVariants as role
 use Rattle.wild_types.specs.declared.file.Group.{Group}
 use Rattle.wild_types.specs.declared.layout.Layout.{Layout}
+use Rattle.wild_types.specs.Kinds.{is_partial_link}
 use Rattle.wild_types.specs.Lookups.{image_size}
 use Rattle.wild_types.specs.Parts.{has_role}
-use Rattle.wild_headers.specs.Headers.{offset_of_role}
+use Rattle.wild_headers.specs.Headers.{offset_of_role, program_header_bytes}
 use Rattle.wild_layout.specs.Content.{whole_bytes, content}
 use Rattle.wild_layout.specs.Image.{some_piece, given_before, table_piece, table_pieces, owned_pieces, group_pieces, pieces}
 use Rattle.wild_layout.specs.TablePlaces.{IsPiece, HasTables}
@@ -58,13 +60,25 @@ IsPiece-from_part l h r at s is raw empty once g = by s.listed.0 s.listed.1 s.li
             let P : ℕ → List ℕ → Type 0 = λ n bs. Contains (pieces l) (record { at = n; bytes = bs }) in
             subst (λ (bs : List ℕ). P at bs) first (subst (λ (n : ℕ). P n (content_at l i s.item 0 g)) place all)
 
+-- the program headers of an output that is loaded
+headers_stand : (l : Layout) → Laid l → is_partial_link l.kind ≡ false → file_header_size ≤ image_size l → Group → IsPiece l file_header_size (program_header_bytes l)
+headers_stand l h kind low g =
+    let p = StandsAt-from_test role.ProgramHeaders file_header_size 0 l.parts (h.roles.program_headers kind) in
+    IsPiece-from_part l h role.ProgramHeaders file_header_size p (role_place-2 p.item.role p.has) (rw p.has refl) (λ e. low) (record { own = λ x. refl; slots = λ x. refl; header = refl; block = λ x. refl; stays = λ at f. refl }) g
+
+-- a relocatable object has none
+no_headers : (l : Layout) → Laid l → is_partial_link l.kind ≡ true → file_header_size ≤ image_size l → IsPiece l file_header_size (program_header_bytes l)
+no_headers l h kind low =
+    let none = eqb-true (length l.segments) 0 (implied (is_partial_link l.kind) (length l.segments == 0) h.partial.segments kind) in
+    let long = length-whole_bytes l role.ProgramHeaders in
+    record { within = omega arith; listed = λ some. absurd (omega arith) }
+
 pub HasTables-from_laid : (l : Layout) → Laid l → HasTables l
 HasTables-from_laid l h = by (ItemAt-within l.groups 0 h.counts.some_group).item
   where
     by : Group → HasTables l
     by g =
         let f = StandsAt-from_test role.FileHeader 0 0 l.parts h.roles.file_header in
-        let p = StandsAt-from_test role.ProgramHeaders file_header_size 0 l.parts h.roles.program_headers in
         let s = StandsAt-from_missing role.SectionHeaders l.parts h.roles.section_headers in
         let header_length = length-whole_bytes l role.FileHeader in
         let sections_length = length-whole_bytes l role.SectionHeaders in
@@ -73,6 +87,6 @@ HasTables-from_laid l h = by (ItemAt-within l.groups 0 h.counts.some_group).item
         let within = header.within in
         record {
           file_header = header;
-          program_headers = IsPiece-from_part l h role.ProgramHeaders file_header_size p (role_place-2 p.item.role p.has) (rw p.has refl) (λ e. omega arith) (record { own = λ x. refl; slots = λ x. refl; header = refl; block = λ x. refl; stays = λ at f. refl }) g;
+          program_headers = elim (cases_Bool (is_partial_link l.kind)) [ inl k ↦ no_headers l h k (omega arith) | inr k ↦ headers_stand l h k (omega arith) g ];
           section_headers = IsPiece-from_part l h role.SectionHeaders (offset_of_role role.SectionHeaders l.parts) s (role_place-3 s.item.role s.has) (rw s.has refl) (λ e. absurd (omega arith)) (record { own = λ x. refl; slots = λ x. refl; header = refl; block = λ x. refl; stays = λ at f. refl }) g;
         }

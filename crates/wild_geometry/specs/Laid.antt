@@ -3,7 +3,7 @@
 --   IsOf l f owner s   the file has the section, whose branches go by the block of thunks of its owner
 --   IsLaid l s         the section is one of those of the layout
 --   IsKeptLaid l s     it has data, and is loaded
---   KeptIsLaid         an item that the layout keeps is that of such a section
+--   KeptIsLaid         an item that the layout keeps is that of such a section, but in a relocatable object
 --   frame_home l s     where such a section stands in the file: frames in their part
 use Rattle.std.specs.Prelude.{◌≡◌, ℕ, true, false, if◌then◌else◌, Contains, slice_get}
 use Rattle.wild_types.specs.declared.part.Part.{Part}
@@ -14,6 +14,7 @@ use Rattle.wild_types.specs.declared.file.Group.{Group}
 use Rattle.wild_types.specs.declared.layout.Layout.{Layout}
 use Rattle.wild_types.specs.Item.{Item, item_of}
 use Rattle.wild_types.specs.FileRoles.{is_epilogue}
+use Rattle.wild_types.specs.Kinds.{is_partial_link}
 use Rattle.wild_types.specs.Lookups.{is_read, is_frame, allocated}
 use Rattle.wild_types.specs.Parts.{part_with}
 use Rattle.wild_laid.specs.Turned.{as_turned}
@@ -42,14 +43,14 @@ pub record IsKeptLaid (l : Layout) (s : InputSection) : Type 0 where
   pub reads : is_read s ≡ true
   pub room : is_frame s.slot ≡ false → allocated s.flags ≡ true
 
--- an item that the layout keeps is that of such a section
+-- an item that the layout keeps is that of such a section, but in a relocatable object, whose sections stand without relocations
 pub record IsLaidItem (l : Layout) (item : Item) : Type 0 where
   pub section : InputSection
   pub kept : IsKeptLaid l section
   pub is : item ≡ item_of l kept.input.owner section
 
 abbrev pub KeptIsLaid : Type 0
-KeptIsLaid = (l : Layout) (item : Item) → IsLaidOut l → IsKept l item → IsLaidItem l item
+KeptIsLaid = (l : Layout) (item : Item) → is_partial_link l.kind ≡ false → IsLaidOut l → IsKept l item → IsLaidItem l item
 
 -- where a section stands in the file: frames in their part
 abbrev pub file_place : Layout → InputSection → ℕ

@@ -29,6 +29,7 @@ use Rattle.wild_types.specs.declared.section.Segment.{Segment}
 use Rattle.wild_types.specs.declared.layout.Layout.{Layout}
 use Rattle.wild_headers.specs.declared.section_headers.Told.{Told}
 use Rattle.wild_needs.specs.EntryPoint.{entry_point}
+use Rattle.wild_types.specs.Kinds.{is_partial_link}
 use Rattle.wild_types.specs.Lookups.{bit}
 use Rattle.wild_types.specs.Parts.{has_role}
 use Rattle.wild_needs.specs.Versions.{need_count}
@@ -77,6 +78,10 @@ or_escape n escape = if nat_lt n shn_loreserve then n else escape
 abbrev pub or_none : ℕ → ℕ
 or_none n = if nat_lt n shn_loreserve then 0 else n
 
+-- of a relocatable object no program header is told (gABI, "ELF Header": e_phoff, e_phentsize)
+abbrev pub or_partial : OutputKind → ℕ → ℕ
+or_partial kind n = if is_partial_link kind then 0 else n
+
 unfoldable pub file_header : Layout → FileHeader
 file_header l = record {
   magic = elfmag;
@@ -89,11 +94,11 @@ file_header l = record {
   machine = machine_number l.machine;
   version = ev_current;
   entry = entry_address l;
-  program_offset = file_header_size;
+  program_offset = or_partial l.kind file_header_size;
   section_offset = offset_of_role role.SectionHeaders l.parts;
   flags = 0;
   header_size = file_header_size;
-  program_entry_size = program_header_size;
+  program_entry_size = or_partial l.kind program_header_size;
   program_count = length l.segments;
   section_entry_size = section_header_size;
   section_count = or_escape (length l.sections) shn_undef;
@@ -157,13 +162,14 @@ abbrev pub info_at : List Told → ℕ → ℕ → ℕ
 info_at [] i given = given
 info_at (t ∷ ts) i given = if i == t.section then t.info else info_at ts i given
 
--- the header of another section, whose name begins at that offset of the names
-unfoldable pub section_header : ℕ → ℕ → Section → SectionHeader
-section_header info name s = record {
+-- the header of another section, whose name begins at that offset of the names; in a relocatable object no section has an address (gABI,
+-- "Section Header", sh_addr)
+unfoldable pub section_header : OutputKind → ℕ → ℕ → Section → SectionHeader
+section_header kind info name s = record {
   name = name;
   kind = s.kind;
   flags = uncompressed s.flags;
-  address = s.address;
+  address = or_partial kind s.address;
   offset = s.offset;
   size = s.size;
   link = s.link;
@@ -173,14 +179,14 @@ section_header info name s = record {
 }
 
 -- the headers of the sections from number i and a name offset on
-abbrev pub headers_from : List Told → ℕ → ℕ → List Section → List SectionHeader
-headers_from told i name [] = []
-headers_from told i name (s ∷ ss) = section_header (info_at told i s.info) name s ∷ headers_from told (i + 1) (name + length s.name + 1) ss
+abbrev pub headers_from : OutputKind → List Told → ℕ → ℕ → List Section → List SectionHeader
+headers_from kind told i name [] = []
+headers_from kind told i name (s ∷ ss) = section_header kind (info_at told i s.info) name s ∷ headers_from kind told (i + 1) (name + length s.name + 1) ss
 
 -- all section headers
 abbrev pub section_headers_of : Layout → List Section → List SectionHeader
 section_headers_of l [] = []
-section_headers_of l (s ∷ ss) = null_header l ∷ headers_from (told_of l) 1 (length s.name + 1) ss
+section_headers_of l (s ∷ ss) = null_header l ∷ headers_from l.kind (told_of l) 1 (length s.name + 1) ss
 
 abbrev pub file_header_bytes : Layout → List ℕ
 file_header_bytes l = spell (file_header_fields (file_header l))

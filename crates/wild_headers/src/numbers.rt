@@ -1,12 +1,12 @@
 //! What the headers tell of the sections, by its place in them.
 ghost use Rattle.std.specs.Prelude.{◌≡◌, ◌%◌, ◌^◌};
-ghost use Rattle.wild_headers.specs.Headers.{offset_of_role, section_of_role, size_of_role, or_escape, or_none};
+ghost use Rattle.wild_headers.specs.Headers.{offset_of_role, section_of_role, size_of_role, or_escape, or_none, or_partial};
 ghost use Rattle.wild_types.specs.Parts.{has_role};
 ghost use Rattle.wild_needs.specs.Versions.{has_needs, need_count};
 ghost use Rattle.wild_types.specs.declared.part.Role.TheVariants.{SectionHeaders};
 
 use wild_records::abi::section::{SHN_LORESERVE, SHN_UNDEF};
-use wild_types::{File, Layout, Part, Role, SectionIndex, has_role};
+use wild_types::{File, Layout, OutputKind, Part, Role, SectionIndex, has_role};
 
 /// A number of sections, or an index of one, as the file header has it.
 pub(crate) fn or_escape(n: usize, escape: u16) -> u16
@@ -24,6 +24,13 @@ pub(crate) fn or_none(n: usize) -> usize
     ensures { result ≡ or_none n }
 {
     if n < SHN_LORESERVE as usize { 0 } else { n }
+}
+
+/// What a header tells, which is 0 in a relocatable object.
+pub(crate) fn or_partial(kind: OutputKind, n: u64) -> u64
+    ensures { result ≡ or_partial kind n }
+{
+    if kind.is_partial_link() { 0 } else { n }
 }
 
 fn has_section_headers(part: &Part) -> bool

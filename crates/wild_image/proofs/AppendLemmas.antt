@@ -1,5 +1,5 @@
 -- Laws of bytes that are taken from the front of others.
-use Rattle.std.proofs.Common.{◌≡◌, ℕ, ◌+◌, ◌<◌, ◌≤◌, Bool, true, false, not, ◌&&◌, refl, List, [], ◌++◌, length, take, drop, get_or, sym, ap, ◌∙◌, arith, subst}
+use Rattle.std.proofs.Common.{◌≡◌, ℕ, ◌+◌, ◌<◌, ◌≤◌, Bool, true, false, inl, inr, if◌then◌else◌, [], ◌∷◌, refl, List, ◌++◌, length, take, drop, get_or, sym, ap, ◌∙◌, arith, subst}
 use Rattle.std.specs.Prelude.{All, Some, slice_get}
 use Rattle.std.specs.List.{flat_map}
 use Rattle.std.proofs.lemmas.List.{append_assoc, get_or_default, drop_more, drop_at, take_at, length-append, append-nil, drop_all}
@@ -12,17 +12,18 @@ use Rattle.wild_types.specs.declared.file.File.{File}
 use Rattle.wild_types.specs.declared.file.Group.{Group}
 use Rattle.wild_types.specs.declared.layout.Thunk.{Thunk}
 use Rattle.wild_types.specs.declared.layout.Layout.{Layout}
-use Rattle.wild_types.specs.Lookups.{is_loaded, has_relocations, is_read, is_filled}
+use Rattle.wild_types.specs.Lookups.{has_range, is_filled, image_size}
+use Rattle.wild_types.specs.declared.layout.SortedSection.{SortedSection}
+use Rattle.wild_laid.specs.Turned.{as_turned}
+use Rattle.wild_laid.specs.Laid.{as_loaded, unread, sorted_input}
 use Rattle.wild_layout.specs.Sites.{section_bytes}
 use Rattle.wild_layout.specs.Thunks.{thunk_bytes}
 use Rattle.wild_layout.specs.Image.{offset_in, section_piece, thunk_offset, thunk_piece}
-use Rattle.wild_layout.specs.SectionPlaces.{SectionLies}
-use Rattle.std.proofs.lemmas.Bool.{and_parts}
-use Rattle.wild_geometry.proofs.SiteLemmas.{length-section_bytes}
-use Rattle.wild_types.specs.declared.input.Slot.{Slot}
-use Rattle.wild_types.specs.declared.input.Slot.TheVariants as slot
-use Rattle.wild_image.specs.Pieces.{section_owned}
-use Rattle.wild_image.specs.Append.{BeginsWith, GoesOn}
+use Rattle.std.proofs.lemmas.Bool.{cases_Bool}
+use Rattle.wild_image.specs.Pieces.{standing, has_room, ranged_room, place_in, section_owned, ranged_owned, sorted_owned, in_part, owned_in, ranged_in, sorted_in}
+use Rattle.wild_image.specs.Owners.{ranged_piece, sorted_pieces}
+use Rattle.wild_image.specs.Append.{BeginsWith, GoesOn, RangedLies, SortedLies}
+use Rattle.wild_image.proofs.StandingLemmas.{piece_at, StandsFor, ranged_stands, ranged_none, sorted_stands, one_input, one_owned, one_piece, one_in, one_lies}
 
 -- what is left behind the first i items, whatever stands behind them all
 abbrev pub StandsBehind : {X : Type 0} → (X → List ℕ) → List X → List ℕ → List ℕ → ℕ → Type 0
@@ -74,32 +75,116 @@ cut_off own bytes n long begins = record {
   back = λ rest e. ap (drop n) e ∙ drop_at own rest n long;
 }
 
-loaded_read : (k : Slot) (b : Bool) → is_loaded k ≡ true → b ≡ false → (has_relocations k && not b) ≡ true
-loaded_read slot.Loaded b e f = rw f refl
-loaded_read slot.Discard b e f = cc
-loaded_read slot.Sorted b e f = cc
-loaded_read slot.Debug b e f = cc
-loaded_read slot.Frame b e f = cc
-loaded_read slot.Merge b e f = cc
-loaded_read slot.Rela b e f = cc
-loaded_read slot.Group b e f = cc
+-- ---- a section of the plan
 
-lies_size : (l : Layout) (s : InputSection) → SectionLies l s → is_filled l s ≡ true → (f : File) → length (section_bytes l f s) ≡ s.size
-lies_size l s h filled f = length-section_bytes l f s (λ n. h.bytes (loaded_read s.slot s.nobits ((and_parts (is_loaded s.slot) _ filled).0) n)) h.fields
+-- section s of the plan owns these bytes, in that piece, and so many of them in each part
+pub record Takes (l : Layout) (s : InputSection) (owns : Bool) (own : List ℕ) (ps : List Piece) (inside : ℕ → List ℕ) : Type 0 where
+  pub long : owns ≡ true → length own ≡ s.size
+  pub none : owns ≡ false → own ≡ []
+  pub ends : owns ≡ true → place_in l s + s.size ≤ image_size l
+  pub there : owns ≡ true → s.part < length l.parts
+  pub piece : ps ≡ (if owns then piece_at (place_in l s) own else [])
+  pub part : (k : ℕ) → inside k ≡ (if owns then in_part k s.part own else [])
 
--- a section that owns bytes has as many as its size
-pub length_owned : (l : Layout) (f : File) (s : InputSection) → SectionLies l s → is_filled l s ≡ true → length (section_owned l f s) ≡ s.size
-length_owned l f s h filled = rw filled (lies_size l s h filled f)
+takes_none : (l : Layout) (s : InputSection) → Takes l s false [] [] (λ k. [])
+takes_none l s = record {
+  long = λ e. cc;
+  none = λ e. refl;
+  ends = λ e. cc;
+  there = λ e. cc;
+  piece = refl;
+  part = λ k. refl;
+}
 
--- the bytes of the section, put
-pub section_appended : (l : Layout) (f : File) (s : InputSection) (at : ℕ) (own out next : List ℕ) → is_filled l s ≡ true → at ≡ offset_in (slice_get l.parts s.part) s.address → own ≡ section_owned l f s → next ≡ place at own out → next ≡ overlay (section_piece l f s) out
-section_appended l f s at own out next filled is bytes e =
-    let same : own ≡ section_bytes l f s = rw filled at bytes in
-    e ∙ rw filled (ap (λ (n : ℕ). place n own out) is ∙ ap (λ (r : List ℕ). place (offset_in (slice_get l.parts s.part) s.address) r out) same)
+-- by the section that stands for it
+pub takes_for : (l : Layout) (f : File) (s t : InputSection) (owns : Bool) → StandsFor l s t owns → Takes l s owns (section_owned l f t) (section_piece l f t) (λ k. owned_in l f k t)
+takes_for l f s t owns h = by owns (sym h.filled)
+  where
+    place_is : place_in l t ≡ place_in l s
+    place_is = ap (λ (n : ℕ). offset_in (slice_get l.parts n) t.address) h.part ∙ ap (λ (n : ℕ). offset_in (slice_get l.parts s.part) n) h.address
 
--- a section that owns nothing takes nothing
-pub section_stays : (l : Layout) (f : File) (s : InputSection) (bytes : List ℕ) → is_filled l s ≡ false → GoesOn (section_owned l f s) bytes bytes
-section_stays l f s bytes none = λ rest e. rw none at e
+    by : (b : Bool) → is_filled l t ≡ b → Takes l s b (section_owned l f t) (section_piece l f t) (λ k. owned_in l f k t)
+    by true filled = record {
+      long = λ e. rw filled (h.lies.long filled f ∙ h.size);
+      none = λ e. cc;
+      ends = λ e. (let n = (h.lies.owner filled).ends in let p = place_is in let z = h.size in omega (arith, n, p, z));
+      there = λ e. (let n = h.lies.part in let p = h.part in omega (arith, n, p));
+      piece = rw filled (ap (λ (n : ℕ). piece_at n (section_bytes l f t)) place_is);
+      part = λ k. rw filled (ap (λ (n : ℕ). in_part k n (section_bytes l f t)) h.part);
+    }
+    by false filled = record {
+      long = λ e. cc;
+      none = λ e. rw filled refl;
+      ends = λ e. cc;
+      there = λ e. cc;
+      piece = rw filled refl;
+      part = λ k. rw filled refl;
+    }
+
+-- of a section of a file
+pub takes_ranged : (l : Layout) (f : File) (s : InputSection) → RangedLies l f s → Takes l s (ranged_room l s) (ranged_owned l f s) (ranged_piece l f s) (λ k. ranged_in l f k s)
+takes_ranged l f s lies =
+    elim (cases_Bool (has_range s.slot)) [
+      | inl t ↦ rw t (takes_for l f s (standing l f s) (ranged_room l s) (ranged_stands l f s lies t))
+      | inr n ↦ (let e = ranged_none l s n in rw (n, e) (takes_none l s))
+    ]
+
+-- of one that is named among the sorted ones
+pub takes_sorted : (l : Layout) (x : SortedSection) (f : File) (s : InputSection) → sorted_input l x ≡ one_input l f s ∷ [] → SortedLies l x → Takes l s (has_room l s) (sorted_owned l x) (sorted_pieces l x) (λ k. sorted_in l k x)
+takes_sorted l x f s is lies =
+    let t = as_turned (as_loaded (unread l s)) in
+    let h = takes_for l f s t (has_room l s) (sorted_stands l s (one_lies l x f s is lies)) in
+    record {
+      long = λ e. ap length (one_owned l x f s is) ∙ h.long e;
+      none = λ e. one_owned l x f s is ∙ h.none e;
+      ends = h.ends;
+      there = h.there;
+      piece = one_piece l x f s is ∙ h.piece ∙ ap (λ (bs : List ℕ). if has_room l s then piece_at (place_in l s) bs else []) (sym (one_owned l x f s is));
+      part = λ k. one_in l k x f s is ∙ h.part k ∙ ap (λ (bs : List ℕ). if has_room l s then in_part k s.part bs else []) (sym (one_owned l x f s is));
+    }
+
+-- what is taken of bytes that begin with its own: they are put where the piece is, those of its part, and behind them stand the others
+pub record Taken (l : Layout) (s : InputSection) (owns : Bool) (own bytes : List ℕ) (ps : List Piece) (inside : ℕ → List ℕ) : Type 0 where
+  pub within : owns ≡ true → s.size ≤ length bytes
+  pub ends : owns ≡ true → place_in l s + s.size ≤ image_size l
+  pub there : owns ≡ true → s.part < length l.parts
+  pub put : (out : List ℕ) → (if owns then place (place_in l s) (take s.size bytes) out else out) ≡ overlay ps out
+  pub rest : GoesOn own bytes (if owns then drop s.size bytes else bytes)
+  pub part : (k : ℕ) → (if owns then in_part k s.part (take s.size bytes) else []) ≡ inside k
+
+pub taken : (l : Layout) (s : InputSection) (owns : Bool) (own bytes : List ℕ) (ps : List Piece) (inside : ℕ → List ℕ) → Takes l s owns own ps inside → BeginsWith own bytes → Taken l s owns own bytes ps inside
+taken l s true own bytes ps inside h begins =
+    let cut = cut_off own bytes s.size (h.long refl) begins in
+    record {
+      within = λ e. cut.within;
+      ends = h.ends;
+      there = h.there;
+      put = λ out. ap (λ (bs : List ℕ). place (place_in l s) bs out) cut.front ∙ sym (ap (λ (qs : List Piece). overlay qs out) h.piece);
+      rest = cut.back;
+      part = λ k. ap (in_part k s.part) cut.front ∙ sym (h.part k);
+    }
+taken l s false own bytes ps inside h begins = record {
+  within = λ e. cc;
+  ends = h.ends;
+  there = h.there;
+  put = λ out. sym (ap (λ (qs : List Piece). overlay qs out) h.piece);
+  rest = λ rest e. e ∙ ap (λ (bs : List ℕ). bs ++ rest) (h.none refl);
+  part = λ k. sym (h.part k);
+}
+
+-- of a section of a file
+pub ranged_taken : (l : Layout) (f : File) (s : InputSection) (owns : Bool) (bytes : List ℕ) → RangedLies l f s → owns ≡ ranged_room l s → BeginsWith (ranged_owned l f s) bytes
+    → Taken l s owns (ranged_owned l f s) bytes (ranged_piece l f s) (λ k. ranged_in l f k s)
+ranged_taken l f s owns bytes lies is begins =
+    subst (λ (b : Bool). Taken l s b (ranged_owned l f s) bytes (ranged_piece l f s) (λ k. ranged_in l f k s)) (sym is)
+    (taken l s (ranged_room l s) (ranged_owned l f s) bytes (ranged_piece l f s) (λ k. ranged_in l f k s) (takes_ranged l f s lies) begins)
+
+-- of one that is named among the sorted ones
+pub sorted_taken : (l : Layout) (x : SortedSection) (f : File) (s : InputSection) (owns : Bool) (bytes : List ℕ) → sorted_input l x ≡ one_input l f s ∷ [] → SortedLies l x → owns ≡ has_room l s → BeginsWith (sorted_owned l x) bytes
+    → Taken l s owns (sorted_owned l x) bytes (sorted_pieces l x) (λ k. sorted_in l k x)
+sorted_taken l x f s owns bytes found lies is begins =
+    subst (λ (b : Bool). Taken l s b (sorted_owned l x) bytes (sorted_pieces l x) (λ k. sorted_in l k x)) (sym is)
+    (taken l s (has_room l s) (sorted_owned l x) bytes (sorted_pieces l x) (λ k. sorted_in l k x) (takes_sorted l x f s found lies) begins)
 
 -- the bytes of the thunk, put
 pub thunk_appended : (l : Layout) (t : Thunk) (at : ℕ) (own out next : List ℕ) → at ≡ thunk_offset l t → own ≡ thunk_bytes l t → next ≡ place at own out → next ≡ overlay (thunk_piece l t) out
@@ -122,6 +207,10 @@ both_end xs ys bytes between rest first second = λ after e. second after (first
 -- bytes that are all of some items begin with those
 pub begins_all : (own bytes : List ℕ) → bytes ≡ own → BeginsWith own bytes
 begins_all own bytes is = ([], is ∙ sym (append-nil own))
+
+-- what holds of each item, of one that a loop read
+pub lies_read : {X : Type 0} (P : X → Type 0) (xs : List X) (i : ℕ) (x : X) → i < length xs → x ≡ get_or xs i x → All P xs → P x
+lies_read P xs i x low read all = subst P (sym read) (all i x low)
 
 -- ---- the same of an item that a loop copied
 

@@ -9,6 +9,7 @@ use Rattle.wild_types.specs.declared.part.Part.{Part}
 use Rattle.wild_types.specs.declared.input.InputSection.{InputSection}
 use Rattle.wild_types.specs.declared.file.Group.{Group}
 use Rattle.wild_types.specs.declared.layout.Layout.{Layout}
+use Rattle.wild_types.specs.Kinds.{is_partial_link}
 use Rattle.wild_types.specs.Lists.{total}
 use Rattle.wild_types.specs.Lookups.{is_counted, section_of, section_of_part}
 use Rattle.wild_clauses.specs.Places.{relocation_count}
@@ -35,12 +36,19 @@ section_below l h part = by l h (slice_get l.parts part) part refl
 abbrev IsBelow : ℕ → ℕ × ℕ → Type 0
 IsBelow n p = p.0 < n
 
-group_below : (l : Layout) → IsLaidOut l → (g : Group) → All (IsBelow (length l.sections)) (group_pairs l g)
-group_below l h g =
+files_below : (l : Layout) → IsLaidOut l → (g : Group) → All (IsBelow (length l.sections)) (flat_map (file_pairs l) g.files)
+files_below l h g =
     All-flat_map (IsBelow (length l.sections)) (file_pairs l) g.files (λ i d m.
     All-flat_map (IsBelow (length l.sections)) (section_pairs l) (get_or g.files i d).sections (λ j e n.
     All-optional (IsBelow (length l.sections)) (is_counted (get_or (get_or g.files i d).sections j e)) (section_of l (get_or (get_or g.files i d).sections j e).part, length (get_or (get_or g.files i d).sections j e).relocations) (λ r.
     section_below l h (get_or (get_or g.files i d).sections j e).part)))
+
+group_below : (l : Layout) → IsLaidOut l → (g : Group) → All (IsBelow (length l.sections)) (group_pairs l g)
+group_below l h g = by (is_partial_link l.kind)
+  where
+    by : (b : Bool) → All (IsBelow (length l.sections)) (if b then [] else flat_map (file_pairs l) g.files)
+    by true = All-nil (IsBelow (length l.sections))
+    by false = files_below l h g
 
 pub pairs_below : (l : Layout) → IsLaidOut l → (bs : List Batch) (i : ℕ) → All (λ p. p.0 < length l.sections) (pairs_at l bs i)
 unfolding pairs_at
@@ -77,7 +85,23 @@ section_counted l k s = by (is_counted s) k (section_of l s.part) (length s.relo
     by false k at n = refl
 
 group_sum : (l : Layout) (k : ℕ) (g : Group) → counted_in k (group_pairs l g) ≡ group_counted l k g
-group_sum l k g = counted-flat_map k (file_pairs l) (file_counted l k) (λ f. counted-flat_map k (section_pairs l) (counted l k) (section_counted l k) f.sections) g.files
+group_sum l k g = by (is_partial_link l.kind)
+  where
+    by : (b : Bool) → counted_in k (if b then [] else flat_map (file_pairs l) g.files) ≡ (if b then 0 else total (file_counted l k) g.files)
+    by true = refl
+    by false = counted-flat_map k (file_pairs l) (file_counted l k) (λ f. counted-flat_map k (section_pairs l) (counted l k) (section_counted l k) f.sections) g.files
+
+total-zeros : {X : Type 0} (xs : List X) → total (λ (x : X). 0) xs ≡ 0
+total-zeros [] = refl
+total-zeros (x ∷ xs) = let e = total-zeros xs in omega (arith, e)
+
+-- of all groups, as they are counted
+groups_sum : (l : Layout) (k : ℕ) (gs : List Group) → total (group_counted l k) gs ≡ (if is_partial_link l.kind then 0 else total (λ (g : Group). total (file_counted l k) g.files) gs)
+groups_sum l k gs = by (is_partial_link l.kind)
+  where
+    by : (b : Bool) → total (λ (g : Group). if b then 0 else total (file_counted l k) g.files) gs ≡ (if b then 0 else total (λ (g : Group). total (file_counted l k) g.files) gs)
+    by true = total-zeros gs
+    by false = refl
 
 between_is : {X : Type 0} (t : X → ℕ) (h : ℕ → ℕ) (xs : List X) (a : ℕ) → ((j n : ℕ) (x : X) → n ≡ a + j → slice_get xs j ≡ Some x → h n ≡ t x) → between h a (length xs) ≡ total t xs
 between_is t h [] a e = refl
@@ -98,12 +122,13 @@ unfolding pairs_at
 sum_is l bs k h =
     between_is (batch_counted l k) (λ i. counted_in k (pairs_at l bs i)) bs 0 (λ j n b m at. found l bs k j n b m at)
     ∙ sym (total_joined (group_counted l k) 0 l.groups bs (cut_of l.groups bs h))
+    ∙ groups_sum l k l.groups
   where
     found : (l : Layout) (bs : List Batch) (k j n : ℕ) (b : Batch) → n ≡ 0 + j → slice_get bs j ≡ Some b → counted_in k (pairs_of l (slice_get bs n)) ≡ batch_counted l k b
     found l bs k j n b m at = let e : n ≡ j = omega arith in rw (e, at) (batch_sum l k b)
 
 pub sums_fit : (l : Layout) (bs : List Batch) → AreBatches l.groups bs → relocation_count l < 2 ^ 64 → (k : ℕ) → sum_of (pairs_at l bs) (length bs) k < 2 ^ 64
-sums_fit l bs h few k = let e = sum_is l bs k h in let m = total_le (group_counted l k) group_relocations (group_counted-le l k) l.groups in omega (arith, e, m, few)
+sums_fit l bs h few k = let e = sum_is l bs k h in let n = groups_sum l k l.groups in let m = total_le (group_counted l k) group_relocations (group_counted-le l k) l.groups in omega (arith, e, m, n, few)
 
 -- the totals are the counts
 pub totals_are : (l : Layout) (bs : List Batch) (totals : List ℕ) → AreBatches l.groups bs → AreTotals (pairs_at l bs) (length bs) (length l.sections) totals → totals ≡ counts l

@@ -9,6 +9,8 @@ pub mod AppendLemmas
 pub mod GatherLemmas
 pub mod BatchLemmas
 pub mod PlainLemmas
+pub mod KindLemmas
+pub mod MadeLemmas
 pub mod StandingLemmas
 pub mod FrontLemmas
 pub mod StoodLemmas

@@ -16,23 +16,9 @@ use Rattle.wild_types.specs.declared.layout.Layout.{Layout}
 use Rattle.wild_types.specs.Lookups.{is_filled}
 use Rattle.wild_layout.specs.Sites.{section_bytes}
 use Rattle.wild_layout.specs.Content.{content}
-use Rattle.wild_image.specs.Pieces.{role_of, group_given, in_part, owned_in, group_owned, group_part, group_parts}
+use Rattle.wild_image.specs.Pieces.{role_of, group_given, in_part, group_owned, group_part, group_parts}
 
--- bytes behind those of one part
-pub part_extended : (l : Layout) (f : File) (s : InputSection) (parts : List (List ℕ)) (d new : List ℕ) → is_filled l s ≡ true → s.part < length parts → new ≡ get_or parts s.part d ++ section_bytes l f s
-    → (k : ℕ) → k < length parts → get_or (set parts s.part new) k [] ≡ get_or parts k [] ++ owned_in l f k s
-part_extended l f s parts d new filled inside is k low =
-    elim (cases_eq k s.part) [
-      | inl same ↦
-          (let t = eq-eqb s.part s.part refl in
-          let here : get_or parts s.part d ≡ get_or parts s.part [] = get_or_default parts s.part d [] inside in
-          rw (same, filled, t) (get_or-set_same parts s.part new [] inside ∙ is ∙ ap (λ (xs : List ℕ). xs ++ section_bytes l f s) here))
-      | inr other ↦
-          (let t = ne_eqb s.part k (λ e. other (sym e)) in
-          rw (filled, t) (get_or-set_other parts s.part k new [] other ∙ sym (append-nil (get_or parts k []))))
-    ]
-
--- the same, of bytes that stand there or nowhere
+-- bytes behind those of one part, which stand there or nowhere
 pub part_taken : (part : ℕ) (bytes : List ℕ) (parts : List (List ℕ)) (d new : List ℕ) → part < length parts → new ≡ get_or parts part d ++ bytes
     → (k : ℕ) → k < length parts → get_or (set parts part new) k [] ≡ get_or parts k [] ++ (if part == k then bytes else [])
 part_taken part bytes parts d new inside is k low =

@@ -1,6 +1,6 @@
 -- Laws of sections that stand in the output, beside those of the plan.
-use Rattle.std.proofs.Common.{◌≡◌, ℕ, zero, suc, ◌^◌, ◌<◌, ◌≤◌, ◌+◌, ◌==◌, inl, inr, Bool, true, false, not, ◌&&◌, ◌||◌, if◌then◌else◌, List, [], ◌∷◌, ◌++◌, map, length, All, refl, sym, ap, ◌∙◌, subst, get_or, arith}
-use Rattle.std.specs.Prelude.{Contains, Option, Some, None, option_to_list, slice_get}
+use Rattle.std.proofs.Common.{◌≡◌, ℕ, zero, suc, ◌^◌, ◌<◌, ◌≤◌, ◌+◌, ◌==◌, inl, inr, Bool, true, false, not, ◌&&◌, ◌||◌, if◌then◌else◌, List, [], ◌∷◌, ◌++◌, map, length, All, Ok, refl, sym, ap, ◌∙◌, subst, get_or, arith}
+use Rattle.std.specs.Prelude.{Contains, replicate, Option, Some, None, option_to_list, slice_get}
 use Rattle.std.specs.List.{flat_map}
 use Rattle.std.proofs.lemmas.Bool.{cases_Bool, cases_lt}
 use Rattle.std.proofs.lemmas.List.{append-nil}
@@ -15,88 +15,203 @@ use Rattle.wild_types.specs.declared.file.Group.{Group}
 use Rattle.wild_types.specs.declared.layout.SortedSection.{SortedSection}
 use Rattle.wild_types.specs.declared.layout.Layout.{Layout}
 use Rattle.wild_types.specs.FileRoles.{is_prelude, is_epilogue}
-use Rattle.wild_types.specs.Lookups.{is_loaded, is_filled, is_read, section_of, takes_file_bytes}
-use Rattle.wild_laid.specs.Turned.{turned_bytes, as_turned}
+use Rattle.wild_types.specs.Kinds.{is_partial_link}
+use Rattle.wild_types.specs.Lookups.{has_range, has_counted, has_fields, is_rela, is_filled, section_of, takes_file_bytes}
+use Rattle.wild_laid.specs.Turned.{turned, as_turned}
 use Rattle.wild_laid.specs.FrameInputs.{frames_of, kept_size}
-use Rattle.wild_laid.specs.Laid.{Input, as_loaded, framed, sorted_by, sorted_in_file, sorted_in_group, files_at, laid_by, laid_section, laid_sections, laid_file, laid_from, laid_files, behind, file_frames, sorted_input, sorted_inputs, sorted_sections, of_last_file, processed}
-use Rattle.wild_layout.specs.Sites.{section_bytes}
-use Rattle.wild_layout.specs.Image.{merged_bytes, section_piece, section_pieces, sorted_piece, file_pieces, owned_pieces, of_first_file, once_pieces, thunk_pieces}
-use Rattle.wild_layout.specs.SectionPlaces.{SectionLies}
+use Rattle.wild_laid.specs.Laid.{Input, as_loaded, without_relocations, unread, framed, sorted_by, sorted_in_file, sorted_in_group, files_at, laid_by, laid_section, laid_sections, laid_file, laid_from, laid_files, behind, file_frames, sorted_input, sorted_inputs, sorted_sections, of_last_file, processed}
+use Rattle.wild_layout.specs.Sites.{bytes_by, section_bytes}
+use Rattle.wild_layout.specs.Image.{offset_in, merged_bytes, section_piece, section_pieces, sorted_piece, file_pieces, owned_pieces, of_first_file, once_pieces, thunk_pieces}
+use Rattle.wild_layout.specs.SectionPlaces.{SectionLies, IsWord}
 use Rattle.wild_layout.specs.Geometry.{IsLaidOut}
-use Rattle.wild_image.specs.Pieces.{standing, has_room, section_owned, input_owned, sorted_owned, owned_in, input_in, sorted_in}
-use Rattle.wild_image.specs.Owners.{loaded_piece, loaded_pieces, sorted_pieces, all_sorted_pieces, ends_pieces, standing_pieces}
-use Rattle.wild_image.specs.Append.{MergedLies, LoadedLies, InputLies, SortedLies, FileLies, EachFileLies, IsTurned, InputStands, SortedStands, FileStands, StandFrom, GroupStands, EachStands}
+use Rattle.wild_clauses.specs.WellFormed.{first_clause}
+use Rattle.wild_image.specs.Pieces.{standing, has_room, room_by, ranged_room, section_owned, input_owned, sorted_owned, owned_in, input_in, sorted_in}
+use Rattle.wild_image.specs.Owners.{ranged_piece, ranged_pieces, sorted_pieces, all_sorted_pieces, ends_pieces, standing_pieces}
+use Rattle.wild_image.specs.Append.{MergedLies, RangedLies, InputLies, SortedLies, FileLies, EachFileLies, IsTurned, IsOfKind, InputStands, SortedStands, FileStands, StandFrom, GroupStands, EachStands}
+use Rattle.wild_image.proofs.KindLemmas.{OfKind, each_of_kind}
 
 -- ---- one section
 
--- a section that is loaded or sorted, as it stands
-pub standing_is : (s : InputSection) → as_turned (as_loaded s) ≡ standing s
-unfolding as_turned
-standing_is s = elim (cases_Bool s.reversed) [ inl t ↦ rw t refl | inr f ↦ rw f refl ]
+-- section t stands for section s of the plan, at its place, with as many bytes
+pub record StandsFor (l : Layout) (s t : InputSection) (owns : Bool) : Type 0 where
+  pub lies : SectionLies l t
+  pub part : t.part ≡ s.part
+  pub address : t.address ≡ s.address
+  pub size : t.size ≡ s.size
+  pub filled : owns ≡ is_filled l t
+
+-- whether a section owns bytes, by what that hangs on
+abbrev filled_by : Slot → Bool → (size part count : ℕ) → Layout → Bool
+filled_by k nobits size part count l =
+    has_range k
+    && (if nobits then has_counted k && (not (size == 0) && takes_file_bytes l (section_of l part))
+    else if is_rela k then not (size == 0)
+    else not (count == 0))
 
 and_true : (b : Bool) → b ≡ (b && true)
 and_true true = refl
 and_true false = refl
 
 -- it owns bytes where it has a size, and file bytes are taken for it
-pub filled_standing : (l : Layout) (s : InputSection) → SectionLies l (standing s) → has_room l s ≡ is_filled l (standing s)
-filled_standing l s lies =
-    elim (cases_Bool s.nobits) [
-      | inl t ↦ rw t refl
-      | inr f ↦
-          (let e : length (if s.reversed then turned_bytes s.bytes else s.bytes) ≡ s.size = lies.bytes (rw f refl) in
-          rw (f, e) (sym (and_true (not (s.size == 0)))))
-    ]
+room_is : (l : Layout) (k : Slot) (nobits : Bool) (size part count : ℕ) → has_range k ≡ true → has_counted k ≡ true → is_rela k ≡ false → (nobits ≡ false → count ≡ size)
+    → (not (size == 0) && (not nobits || takes_file_bytes l (section_of l part))) ≡ filled_by k nobits size part count l
+room_is l k true size part count range counted rela h = rw (range, counted) refl
+room_is l k false size part count range counted rela h = let e = h refl in rw (range, rela, e) (sym (and_true (not (size == 0))))
 
-loaded_by : (s : InputSection) → s.slot ≡ slot.Loaded → as_loaded s ≡ s
-loaded_by s e = ap (λ (k : Slot). record s { slot = k }) (sym e)
+-- so of a loaded one, and of one that debuggers read
+abbrev IsOwn : Slot → Type 0
+IsOwn k = (has_range k ≡ true) × (has_counted k ≡ true) × (is_rela k ≡ false) × (has_fields k ≡ true)
 
--- a loaded section of a file
-pub laid_loaded : (l : Layout) (f : File) (at : ℕ) (s : InputSection) → s.slot ≡ slot.Loaded → laid_section l f at s ≡ standing s
+own_stands : (l : Layout) (s t : InputSection) (k : Slot) → SectionLies l t → t.slot ≡ k → IsOwn k → t.part ≡ s.part → t.address ≡ s.address → t.size ≡ s.size → t.nobits ≡ s.nobits → StandsFor l s t (has_room l s)
+own_stands l s t k lies is own part address size nobits = record {
+  lies = lies;
+  part = part;
+  address = address;
+  size = size;
+  filled = room_is l k s.nobits s.size s.part (length t.bytes) own.0 own.1 own.2 (λ n. whole (nobits ∙ n) ∙ size)
+      ∙ sym (ap (λ (x : Slot). filled_by x s.nobits s.size s.part (length t.bytes) l) is)
+      ∙ sym (ap (λ (b : Bool). filled_by t.slot b s.size s.part (length t.bytes) l) nobits)
+      ∙ sym (ap (λ (n : ℕ). filled_by t.slot t.nobits n s.part (length t.bytes) l) size)
+      ∙ sym (ap (λ (n : ℕ). filled_by t.slot t.nobits t.size n (length t.bytes) l) part);
+}
+  where
+    whole : t.nobits ≡ false → length t.bytes ≡ t.size
+    whole n = let f = ap has_fields is ∙ own.3 in lies.bytes (rw (f, n) refl)
+
+turned_stands : (l : Layout) (s t : InputSection) → SectionLies l (as_turned t) → IsOwn t.slot → t.part ≡ s.part → t.address ≡ s.address → t.size ≡ s.size → t.nobits ≡ s.nobits → StandsFor l s (as_turned t) (has_room l s)
+unfolding as_turned
+turned_stands l s t lies own part address size nobits = by t.reversed lies
+  where
+    by : (b : Bool) → SectionLies l (if b then turned t else t) → StandsFor l s (if b then turned t else t) (has_room l s)
+    by true h = own_stands l s (turned t) t.slot h refl own part address size nobits
+    by false h = own_stands l s t t.slot h refl own part address size nobits
+
+pub unread_by : (l : Layout) (s : InputSection) (P : InputSection → Type 0) → P (without_relocations s) → P s → P (unread l s)
+unread_by l s P a b = by (is_partial_link l.kind)
+  where
+    by : (partial : Bool) → P (if partial then without_relocations s else s)
+    by true = a
+    by false = b
+
+-- a section, in whatever slot, that is at the same place
+record IsSame (s t : InputSection) : Type 0 where
+  slot : t.slot ≡ s.slot
+  part : t.part ≡ s.part
+  address : t.address ≡ s.address
+  size : t.size ≡ s.size
+  nobits : t.nobits ≡ s.nobits
+
+same : (s : InputSection) → IsSame s s
+same s = record { slot = refl; part = refl; address = refl; size = refl; nobits = refl }
+
+unread_same : (l : Layout) (s : InputSection) → IsSame s (unread l s)
+unread_same l s = unread_by l s (IsSame s) (record { slot = refl; part = refl; address = refl; size = refl; nobits = refl }) (same s)
+
+-- a sorted section, as it stands
+pub sorted_stands : (l : Layout) (s : InputSection) → SectionLies l (as_turned (as_loaded (unread l s))) → StandsFor l s (as_turned (as_loaded (unread l s))) (has_room l s)
+sorted_stands l s lies =
+    let e = unread_same l s in
+    turned_stands l s (as_loaded (unread l s)) lies (refl, refl, refl, refl) e.part e.address e.size e.nobits
+
+own_kinds : (k : Slot) (x : Slot) → x ≡ k → IsOwn k → IsOwn x
+own_kinds k x e own = subst IsOwn (sym e) own
+
+nothing_there : (nobits : Bool) (b : Bool) → (not nobits && b) ≡ (if nobits then false else b)
+nothing_there true b = refl
+nothing_there false b = refl
+
+by_range : (l : Layout) (f : File) (s : InputSection) (k : Slot) → s.slot ≡ k → has_range k ≡ true → SectionLies l (laid_by k l f 0 s) → StandsFor l s (laid_by k l f 0 s) (room_by k l s)
+by_range l f s slot.Loaded is h lies =
+    let e = unread_same l s in
+    turned_stands l s (unread l s) lies (own_kinds slot.Loaded (unread l s).slot (e.slot ∙ is) (refl, refl, refl, refl)) e.part e.address e.size e.nobits
+by_range l f s slot.Debug is h lies = turned_stands l s s lies (own_kinds slot.Debug s.slot is (refl, refl, refl, refl)) refl refl refl refl
+by_range l f s slot.Rela is h lies = record { lies = lies; part = refl; address = refl; size = refl; filled = nothing_there s.nobits (not (s.size == 0)) }
+by_range l f s slot.Group is h lies = record {
+  lies = lies;
+  part = refl;
+  address = refl;
+  size = refl;
+  filled = nothing_there s.nobits (not (length s.bytes == 0)) ∙ sym (ap (λ (x : Slot). filled_by x s.nobits s.size s.part (length s.bytes) l) is);
+}
+by_range l f s other is h lies = cc
+
+-- a section that stands in its part's range, as it stands
+pub ranged_stands : (l : Layout) (f : File) (s : InputSection) → RangedLies l f s → has_range s.slot ≡ true → StandsFor l s (standing l f s) (ranged_room l s)
 unfolding laid_section
-laid_loaded l f at s e = ap (λ (k : Slot). laid_by k l f at s) e ∙ ap as_turned (sym (loaded_by s e)) ∙ standing_is s
+ranged_stands l f s lies h = by_range l f s s.slot refl h (lies h)
 
-abbrev pub OfLoaded : {X : Type 0} → (InputSection → List X) → InputSection → List X
-OfLoaded G s = if is_loaded s.slot then G (standing s) else []
+no_range : (k : Slot) (l : Layout) (s : InputSection) → has_range k ≡ false → room_by k l s ≡ false
+no_range slot.Discard l s h = refl
+no_range slot.Sorted l s h = refl
+no_range slot.Frame l s h = refl
+no_range slot.Merge l s h = refl
+no_range other l s h = cc
 
--- what is nothing of a section that is not loaded
-abbrev pub IsOfLoaded : {X : Type 0} → (InputSection → List X) → Type 0
-IsOfLoaded G = (s : InputSection) → is_loaded s.slot ≡ false → G s ≡ []
+-- one that stands in no range owns nothing there
+pub ranged_none : (l : Layout) (s : InputSection) → has_range s.slot ≡ false → ranged_room l s ≡ false
+ranged_none l s h = no_range s.slot l s h
 
-slot_by : {X : Type 0} (G : InputSection → List X) (l : Layout) (f : File) (at : ℕ) (s : InputSection) (k : Slot) → s.slot ≡ k → IsOfLoaded G → G (laid_by k l f at s) ≡ (if is_loaded k then G (standing s) else [])
-slot_by G l f at s slot.Loaded e none = ap G (ap as_turned (sym (loaded_by s e)) ∙ standing_is s)
+-- ---- what sections of files give
+
+abbrev pub OfRanged : {X : Type 0} → (InputSection → List X) → Layout → File → InputSection → List X
+OfRanged G l f s = if has_range s.slot then G (standing l f s) else []
+
+-- what is nothing of a section that stands in no range
+abbrev pub IsOfRanged : {X : Type 0} → (InputSection → List X) → Type 0
+IsOfRanged G = (s : InputSection) → has_range s.slot ≡ false → G s ≡ []
+
+slot_by : {X : Type 0} (G : InputSection → List X) (l : Layout) (f : File) (at : ℕ) (s : InputSection) (k : Slot) → s.slot ≡ k → IsOfRanged G → G (laid_by k l f at s) ≡ (if has_range k then G (laid_by k l f 0 s) else [])
+slot_by G l f at s slot.Loaded e none = refl
+slot_by G l f at s slot.Debug e none = refl
+slot_by G l f at s slot.Rela e none = refl
+slot_by G l f at s slot.Group e none = refl
 slot_by G l f at s slot.Frame e none = none (framed l f at s) refl
 slot_by G l f at s slot.Discard e none = none s (rw e refl)
 slot_by G l f at s slot.Sorted e none = none s (rw e refl)
-slot_by G l f at s slot.Debug e none = none s (rw e refl)
 slot_by G l f at s slot.Merge e none = none s (rw e refl)
-slot_by G l f at s slot.Rela e none = none s (rw e refl)
-slot_by G l f at s slot.Group e none = none s (rw e refl)
 
-of_section : {X : Type 0} (G : InputSection → List X) (l : Layout) (f : File) (at : ℕ) (s : InputSection) → IsOfLoaded G → G (laid_section l f at s) ≡ OfLoaded G s
+of_section : {X : Type 0} (G : InputSection → List X) (l : Layout) (f : File) (at : ℕ) (s : InputSection) → IsOfRanged G → G (laid_section l f at s) ≡ OfRanged G l f s
 unfolding laid_section
 of_section G l f at s none = slot_by G l f at s s.slot refl none
 
-pub of_sections : {X : Type 0} (G : InputSection → List X) (l : Layout) (f : File) (at : ℕ) (ss : List InputSection) → IsOfLoaded G → flat_map G (laid_sections l f at ss) ≡ flat_map (OfLoaded G) ss
+pub of_sections : {X : Type 0} (G : InputSection → List X) (l : Layout) (f : File) (at : ℕ) (ss : List InputSection) → IsOfRanged G → flat_map G (laid_sections l f at ss) ≡ flat_map (OfRanged G l f) ss
 of_sections G l f at [] none = refl
 of_sections {X} G l f at (s ∷ ss) none =
     ap (λ (xs : List X). xs ++ flat_map G (laid_sections l f (behind at (kept_size l f s)) ss)) (of_section G l f at s none)
-    ∙ ap (λ (xs : List X). OfLoaded G s ++ xs) (of_sections G l f (behind at (kept_size l f s)) ss none)
+    ∙ ap (λ (xs : List X). OfRanged G l f s ++ xs) (of_sections G l f (behind at (kept_size l f s)) ss none)
 
 -- ---- pieces
 
-not_filled : (l : Layout) (s : InputSection) → is_loaded s.slot ≡ false → is_filled l s ≡ false
+not_filled : (l : Layout) (s : InputSection) → has_range s.slot ≡ false → is_filled l s ≡ false
 not_filled l s e = rw e refl
 
-pub no_owned : (l : Layout) (f : File) → IsOfLoaded (section_owned l f)
+pub no_owned : (l : Layout) (f : File) → IsOfRanged (section_owned l f)
 no_owned l f s e = let n = not_filled l s e in rw n refl
 
-no_piece : (l : Layout) (f : File) → IsOfLoaded (section_piece l f)
+no_piece : (l : Layout) (f : File) → IsOfRanged (section_piece l f)
 no_piece l f s e = let n = not_filled l s e in rw n refl
 
-pieces_of_file : (l : Layout) (at : ℕ) (f : File) → section_pieces l (laid_file l at f) ≡ loaded_pieces l f
+abbrev pub piece_at : ℕ → List ℕ → List Piece
+piece_at at bs = record { at = at; bytes = bs } ∷ []
+
+-- the bytes of a section are no others where those of its file stand elsewhere
+same_bytes : (l : Layout) (at : ℕ) (f : File) (s : InputSection) → section_bytes l (laid_file l at f) s ≡ section_bytes l f s
 unfolding section_bytes
-pieces_of_file l at f = of_sections (section_piece l f) l f at f.sections (no_piece l f)
+same_bytes l at f s = ap (λ (bs : List ℕ). if s.nobits then replicate s.size 0 else bs) (by s.slot)
+  where
+    by : (k : Slot) → bytes_by k l (laid_file l at f) s ≡ bytes_by k l f s
+    by slot.Debug = refl
+    by slot.Rela = refl
+    by slot.Group = refl
+    by other = refl
+
+same_piece : (l : Layout) (at : ℕ) (f : File) (s : InputSection) → section_piece l (laid_file l at f) s ≡ section_piece l f s
+same_piece l at f s = ap (λ (bs : List ℕ). if is_filled l s then piece_at (offset_in (slice_get l.parts s.part) s.address) bs else []) (same_bytes l at f s)
+
+pieces_of_file : (l : Layout) (at : ℕ) (f : File) → section_pieces l (laid_file l at f) ≡ ranged_pieces l f
+pieces_of_file l at f =
+    flat_map-same (section_piece l (laid_file l at f)) (section_piece l f) (laid_sections l f at f.sections) (same_piece l at f)
+    ∙ of_sections (section_piece l f) l f at f.sections (no_piece l f)
 
 abbrev last_pieces : Layout → File → List Piece → List Piece
 last_pieces l f ps = of_last_file f ps ++ (of_first_file f (once_pieces l) ++ thunk_pieces l f)
@@ -108,8 +223,8 @@ ends_joined (x ∷ a) b c = ap (λ (ps : List Piece). x ∷ ps) (ends_joined a b
 pieces_of : (l : Layout) (at : ℕ) (f : File) → file_pieces l (laid_file l at f) ≡ standing_pieces l f
 pieces_of l at f =
     ap (λ (ps : List Piece). ps ++ last_pieces l f (flat_map (sorted_piece l) (sorted_inputs l))) (pieces_of_file l at f)
-    ∙ ap (λ (ps : List Piece). loaded_pieces l f ++ last_pieces l f ps) (flat_map-flat_map (sorted_piece l) (sorted_input l) l.sorted)
-    ∙ ap (λ (ps : List Piece). loaded_pieces l f ++ ps) (ends_joined (of_last_file f (all_sorted_pieces l)) (of_first_file f (once_pieces l)) (thunk_pieces l f))
+    ∙ ap (λ (ps : List Piece). ranged_pieces l f ++ last_pieces l f ps) (flat_map-flat_map (sorted_piece l) (sorted_input l) l.sorted)
+    ∙ ap (λ (ps : List Piece). ranged_pieces l f ++ ps) (ends_joined (of_last_file f (all_sorted_pieces l)) (of_first_file f (once_pieces l)) (thunk_pieces l f))
 
 pieces_from : (l : Layout) (at : ℕ) (fs : List File) → flat_map (file_pieces l) (laid_from l at fs) ≡ flat_map (standing_pieces l) fs
 pieces_from l at [] = refl
@@ -124,24 +239,22 @@ pieces_of_group l g = pieces_from l _ g.files
 
 -- ---- where they lie
 
-loaded_lies : (l : Layout) (f : File) (at : ℕ) (s : InputSection) → SectionLies l (laid_section l f at s) → LoadedLies l s
-loaded_lies l f at s h = λ e. subst (SectionLies l) (laid_loaded l f at s (is_loaded_slot s.slot e)) h
+ranged_lies : (l : Layout) (f : File) (at : ℕ) (s : InputSection) → SectionLies l (laid_section l f at s) → RangedLies l f s
+unfolding laid_section
+ranged_lies l f at s h = λ e. subst (SectionLies l) (anywhere s.slot e) h
   where
-    is_loaded_slot : (k : Slot) → is_loaded k ≡ true → k ≡ slot.Loaded
-    is_loaded_slot slot.Loaded e = refl
-    is_loaded_slot slot.Discard e = cc
-    is_loaded_slot slot.Sorted e = cc
-    is_loaded_slot slot.Debug e = cc
-    is_loaded_slot slot.Frame e = cc
-    is_loaded_slot slot.Merge e = cc
-    is_loaded_slot slot.Rela e = cc
-    is_loaded_slot slot.Group e = cc
+    anywhere : (k : Slot) → has_range k ≡ true → laid_by k l f at s ≡ laid_by k l f 0 s
+    anywhere slot.Loaded e = refl
+    anywhere slot.Debug e = refl
+    anywhere slot.Rela e = refl
+    anywhere slot.Group e = refl
+    anywhere other e = cc
 
-sections_lie : (l : Layout) (f : File) (at : ℕ) (ss : List InputSection) → All (SectionLies l) (laid_sections l f at ss) → All (LoadedLies l) ss
-sections_lie l f at [] h = All-nil (LoadedLies l)
+sections_lie : (l : Layout) (f : File) (at : ℕ) (ss : List InputSection) → All (SectionLies l) (laid_sections l f at ss) → All (RangedLies l f) ss
+sections_lie l f at [] h = All-nil (RangedLies l f)
 sections_lie l f at (s ∷ ss) h =
-    All-cons (LoadedLies l) s ss
-    (loaded_lies l f at s (All-head (SectionLies l) (laid_section l f at s) (laid_sections l f (behind at (kept_size l f s)) ss) h))
+    All-cons (RangedLies l f) s ss
+    (ranged_lies l f at s (All-head (SectionLies l) (laid_section l f at s) (laid_sections l f (behind at (kept_size l f s)) ss) h))
     (sections_lie l f (behind at (kept_size l f s)) ss (All-tail (SectionLies l) (laid_section l f at s) (laid_sections l f (behind at (kept_size l f s)) ss) h))
 
 from_map : {X Y : Type 0} (P : Y → Type 0) (h : X → Y) (xs : List X) → All P (map h xs) → All (λ x. P (h x)) xs
@@ -180,7 +293,7 @@ unfolding laid_files
 told_of_group l P g t h = told_from l P _ g.files t h
 
 pub record SectionsLie (l : Layout) (f : File) : Type 0 where
-  pub sections : All (LoadedLies l) f.sections
+  pub sections : All (RangedLies l f) f.sections
   pub sorted : is_epilogue f.role ≡ true → All (SortedLies l) l.sorted
 
 -- in a layout that is laid out all that each file has lies in its parts
@@ -208,27 +321,25 @@ each_file_lies l laid = λ i g m.
 
 -- ---- a sorted section
 
+abbrev pub one_input : Layout → File → InputSection → Input
+one_input l f s = record { file = f; section = as_loaded (unread l s) }
+
 -- the bytes of a section that was found among the sorted ones
-pub one_owned : (l : Layout) (x : SortedSection) (f : File) (s : InputSection) → sorted_input l x ≡ record { file = f; section = as_loaded s } ∷ [] → sorted_owned l x ≡ section_owned l f (standing s)
-one_owned l x f s e = ap (flat_map (input_owned l)) e ∙ append-nil (section_owned l f (as_turned (as_loaded s))) ∙ ap (section_owned l f) (standing_is s)
+pub one_owned : (l : Layout) (x : SortedSection) (f : File) (s : InputSection) → sorted_input l x ≡ one_input l f s ∷ [] → sorted_owned l x ≡ section_owned l f (as_turned (as_loaded (unread l s)))
+one_owned l x f s e = ap (flat_map (input_owned l)) e ∙ append-nil (section_owned l f (as_turned (as_loaded (unread l s))))
 
-pub one_piece : (l : Layout) (x : SortedSection) (f : File) (s : InputSection) → sorted_input l x ≡ record { file = f; section = as_loaded s } ∷ [] → sorted_pieces l x ≡ section_piece l f (standing s)
-one_piece l x f s e = ap (flat_map (sorted_piece l)) e ∙ append-nil (section_piece l f (as_turned (as_loaded s))) ∙ ap (section_piece l f) (standing_is s)
+pub one_piece : (l : Layout) (x : SortedSection) (f : File) (s : InputSection) → sorted_input l x ≡ one_input l f s ∷ [] → sorted_pieces l x ≡ section_piece l f (as_turned (as_loaded (unread l s)))
+one_piece l x f s e = ap (flat_map (sorted_piece l)) e ∙ append-nil (section_piece l f (as_turned (as_loaded (unread l s))))
 
-pub one_in : (l : Layout) (k : ℕ) (x : SortedSection) (f : File) (s : InputSection) → sorted_input l x ≡ record { file = f; section = as_loaded s } ∷ [] → sorted_in l k x ≡ owned_in l f k (standing s)
-one_in l k x f s e = ap (flat_map (input_in l k)) e ∙ append-nil (owned_in l f k (as_turned (as_loaded s))) ∙ ap (owned_in l f k) (standing_is s)
+pub one_in : (l : Layout) (k : ℕ) (x : SortedSection) (f : File) (s : InputSection) → sorted_input l x ≡ one_input l f s ∷ [] → sorted_in l k x ≡ owned_in l f k (as_turned (as_loaded (unread l s)))
+one_in l k x f s e = ap (flat_map (input_in l k)) e ∙ append-nil (owned_in l f k (as_turned (as_loaded (unread l s))))
 
-pub one_turned : (l : Layout) (x : SortedSection) (f : File) (s : InputSection) → sorted_input l x ≡ record { file = f; section = as_loaded s } ∷ [] → SortedLies l x → SectionLies l (as_turned (as_loaded s))
-one_turned l x f s e h =
-    let i : Input = record { file = f; section = as_loaded s } in
-    All-head (InputLies l) i [] (subst (All (InputLies l)) e h)
-
-pub one_lies : (l : Layout) (x : SortedSection) (f : File) (s : InputSection) → sorted_input l x ≡ record { file = f; section = as_loaded s } ∷ [] → SortedLies l x → SectionLies l (standing s)
-one_lies l x f s e h = subst (SectionLies l) (standing_is s) (one_turned l x f s e h)
+pub one_lies : (l : Layout) (x : SortedSection) (f : File) (s : InputSection) → sorted_input l x ≡ one_input l f s ∷ [] → SortedLies l x → SectionLies l (as_turned (as_loaded (unread l s)))
+one_lies l x f s e h = All-head (InputLies l) (one_input l f s) [] (subst (All (InputLies l)) e h)
 
 -- ---- as the sections stand
 
-at_section : (l : Layout) (f : File) (o : Option InputSection) → All (IsTurned l) (option_to_list o) → All (λ (x : Input). IsTurned l x.section) (sorted_in_file f o)
+at_section : (l : Layout) (f : File) (o : Option InputSection) → All (IsTurned l) (option_to_list o) → All (λ (x : Input). IsTurned l x.section) (sorted_in_file l f o)
 at_section l f None h = All-nil (λ (x : Input). IsTurned l x.section)
 at_section l f (Some s) h = by s.slot refl
   where
@@ -240,8 +351,13 @@ at_section l f (Some s) h = by s.slot refl
         let words = own (rw e counted) reversed in
         record { whole = words.whole; bytes = words.bytes; fields = words.fields })
 
-    by : (k : Slot) → s.slot ≡ k → All (λ (x : Input). IsTurned l x.section) (sorted_by f k s)
-    by slot.Sorted e = All-cons (λ (x : Input). IsTurned l x.section) (record { file = f; section = as_loaded s }) [] (loaded e) (All-nil (λ (x : Input). IsTurned l x.section))
+    left : s.slot ≡ slot.Sorted → IsTurned l (as_loaded (without_relocations s))
+    left e = λ counted reversed. (
+        let words = own (rw e counted) reversed in
+        record { whole = words.whole; bytes = words.bytes; fields = All-nil (IsWord l.machine s.size) })
+
+    by : (k : Slot) → s.slot ≡ k → All (λ (x : Input). IsTurned l x.section) (sorted_by l f k s)
+    by slot.Sorted e = All-cons (λ (x : Input). IsTurned l x.section) (one_input l f s) [] (unread_by l s (λ (t : InputSection). IsTurned l (as_loaded t)) (left e) (loaded e)) (All-nil (λ (x : Input). IsTurned l x.section))
     by slot.Discard e = All-nil (λ (x : Input). IsTurned l x.section)
     by slot.Loaded e = All-nil (λ (x : Input). IsTurned l x.section)
     by slot.Debug e = All-nil (λ (x : Input). IsTurned l x.section)
@@ -255,7 +371,7 @@ found_in P [] i h = All-nil P
 found_in P (x ∷ xs) zero h = All-cons P x [] (All-head P x xs h) (All-nil P)
 found_in P (x ∷ xs) (suc i) h = found_in P xs i (All-tail P x xs h)
 
-at_file : (l : Layout) (o : Option File) (k : ℕ) → All (λ (f : File). All (IsTurned l) f.sections) (option_to_list o) → All (λ (x : Input). IsTurned l x.section) (sorted_in_group o k)
+at_file : (l : Layout) (o : Option File) (k : ℕ) → All (λ (f : File). All (IsTurned l) f.sections) (option_to_list o) → All (λ (x : Input). IsTurned l x.section) (sorted_in_group l o k)
 at_file l None k h = All-nil (λ (x : Input). IsTurned l x.section)
 at_file l (Some f) k h = at_section l f (slice_get f.sections k) (found_in (IsTurned l) f.sections k (All-head (λ (f : File). All (IsTurned l) f.sections) f [] h))
 
@@ -276,19 +392,19 @@ both_stand l xs a b = λ k d low. record { lies = a k d low; turned = b k d low 
 sorted_stand : (l : Layout) → IsLaidOut l → All (SortedLies l) l.sorted → All (SortedStands l) l.sorted
 sorted_stand l laid h = λ k d low. both_stand l (sorted_input l (get_or l.sorted k d)) (h k d low) (sorted_turned l laid (get_or l.sorted k d))
 
-stand_from : (l : Layout) (at : ℕ) (fs : List File) → IsLaidOut l → All (Processed l) (laid_from l at fs) → All (λ (f : File). All (IsTurned l) f.sections) fs → StandFrom l at fs
-stand_from l at [] laid h t = tt
-stand_from l at (f ∷ fs) laid h t =
+stand_from : (l : Layout) (at : ℕ) (fs : List File) → IsLaidOut l → All (Processed l) (laid_from l at fs) → All (λ (f : File). All (IsTurned l) f.sections) fs → OfKind l fs → StandFrom l at fs
+stand_from l at [] laid h t k = tt
+stand_from l at (f ∷ fs) laid h t k =
     let rest = laid_from l (behind at (file_frames l f)) fs in
     let own = All-head (Processed l) (laid_file l at f) rest h in (
-      record { lies = own_lie l at f own; turned = All-head (λ (f : File). All (IsTurned l) f.sections) f fs t; sorted = λ e. sorted_stand l laid (last_lie l at f own e) },
-      stand_from l (behind at (file_frames l f)) fs laid (All-tail (Processed l) (laid_file l at f) rest h) (All-tail (λ (f : File). All (IsTurned l) f.sections) f fs t),
+      record { lies = own_lie l at f own; turned = All-head (λ (f : File). All (IsTurned l) f.sections) f fs t; kinds = All-head (λ (f : File). All (IsOfKind l) f.sections) f fs k; sorted = λ e. sorted_stand l laid (last_lie l at f own e) },
+      stand_from l (behind at (file_frames l f)) fs laid (All-tail (Processed l) (laid_file l at f) rest h) (All-tail (λ (f : File). All (IsTurned l) f.sections) f fs t) (All-tail (λ (f : File). All (IsOfKind l) f.sections) f fs k),
     )
 
-group_stands : (l : Layout) (g : Group) → IsLaidOut l → All (Processed l) (laid_files l g) → All (λ (f : File). All (IsTurned l) f.sections) g.files → GroupStands l g
+group_stands : (l : Layout) (g : Group) → IsLaidOut l → All (Processed l) (laid_files l g) → All (λ (f : File). All (IsTurned l) f.sections) g.files → OfKind l g.files → GroupStands l g
 unfolding laid_files GroupStands
-group_stands l g laid h t = stand_from l _ g.files laid h t
+group_stands l g laid h t k = stand_from l _ g.files laid h t k
 
 -- in a layout that is laid out the sections of each group lie where they stand
-pub each_stands : (l : Layout) → IsLaidOut l → EachStands l
-each_stands l laid = λ i g m. group_stands l (get_or l.groups i g) laid (laid.inputs i g m) (laid.turned i g m)
+pub each_stands : (l : Layout) → first_clause l ≡ Ok tt → IsLaidOut l → EachStands l
+each_stands l clauses laid = λ i g m. group_stands l (get_or l.groups i g) laid (laid.inputs i g m) (laid.turned i g m) (each_of_kind l clauses i g m)

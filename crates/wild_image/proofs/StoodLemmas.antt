@@ -17,30 +17,33 @@ use Rattle.wild_types.specs.declared.layout.Layout.{Layout}
 use Rattle.wild_types.specs.Faults.{Refuses}
 use Rattle.wild_types.specs.FileRoles.{is_prelude}
 use Rattle.wild_types.specs.Item.{item_of, block_for}
-use Rattle.wild_types.specs.Lookups.{has_relocations, is_read, is_frame, is_loaded, is_filled}
+use Rattle.wild_types.specs.declared.input.InputRelocation.{InputRelocation}
+use Rattle.wild_types.specs.Kinds.{is_partial_link}
+use Rattle.wild_types.specs.Lookups.{has_relocations, has_range, is_read, is_written, is_frame, is_debug, is_rela, is_filled}
 use Rattle.wild_frames.specs.declared.entry.BadFrame.{BadFrame}
 use Rattle.wild_frames.specs.Faults.{frame_errors}
 use Rattle.wild_laid.specs.Turned.{as_turned, turned}
 use Rattle.wild_laid.specs.FrameInputs.{frames_of, kept_size}
-use Rattle.wild_laid.specs.Laid.{Input, as_loaded, origins_of, laid_by, laid_section, laid_sections, laid_file, laid_from, laid_files, behind, file_frames, frames_at, sorted_input, of_last_file}
+use Rattle.wild_laid.specs.Laid.{Input, as_loaded, without_relocations, unread, tabled, origins_of, laid_by, laid_section, laid_sections, laid_file, laid_from, laid_files, behind, file_frames, frames_at, sorted_input, of_last_file}
 use Rattle.wild_laid.specs.Stood.{Stood, stood_section, stood_sorted, frame_faults}
 use Rattle.wild_layout.specs.Sites.{section_bytes, MovesApart}
+use Rattle.wild_layout.proofs.PartialLemmas.{section_bytes_zeros}
 use Rattle.wild_layout.specs.Content.{frame_bytes_of, frames_bytes, end_of_frames}
-use Rattle.wild_layout.specs.Faults.{item_errors, frame_refusal, bad_frames, section_errors, sections_errors, sorted_errors, sorted_errors_of, file_errors, files_errors, group_errors, first_errors, entry_errors, thunk_errors, at_file}
+use Rattle.wild_layout.specs.Faults.{item_errors, debug_errors, frame_refusal, bad_frames, stood_errors_by, section_errors, sections_errors, sorted_errors, sorted_errors_of, file_errors, files_errors, group_errors, first_errors, entry_errors, thunk_errors, at_file}
 use Rattle.wild_layout.specs.SearchTable.{search_table, search_table_faults}
 use Rattle.wild_layout.specs.SectionPlaces.{SectionLies}
 use Rattle.wild_layout.specs.Thunks.{file_thunks}
-use Rattle.wild_layout.proofs.MovedSites.{laid_moves, turned_or_stays}
+use Rattle.wild_layout.proofs.MovedSites.{laid_moves, turned_or_stays, debug_count}
 use Rattle.wild_sections.proofs.FaultLemmas.{Refuses-front}
-use Rattle.wild_sections.proofs.PieceLemmas.{section_zeros}
 use Rattle.wild_words.proofs.ListLemmas.{nil_parts}
 use Rattle.wild_contents.specs.declared.search_table.SearchTable.{SearchTable}
 use Rattle.wild_contents.specs.SearchTable.{IsSearchTable, IsTableFor, FaultIsFirst}
 use Rattle.wild_contents.specs.Laid.{HasSearchTable, HaveSearchTable, group_frames}
-use Rattle.wild_image.specs.Pieces.{section_owned, loaded_owned, file_sections, ends_bytes, file_bytes}
-use Rattle.wild_image.specs.Append.{IsTurned, InputStands, SortedStands, FileStands, StandFrom}
-use Rattle.wild_image.specs.Stood.{stood_faults, StoodApart, IsWhole, zeros_of, first_of, IsMade, errors_behind, bytes_behind}
-use Rattle.wild_image.proofs.StandingLemmas.{of_sections, no_owned}
+use Rattle.wild_image.specs.Pieces.{section_owned, file_sections, ends_bytes, file_bytes}
+use Rattle.wild_image.specs.Append.{IsTurned, IsOfKind, InputStands, SortedStands, FileStands, StandFrom}
+use Rattle.wild_image.specs.Stood.{written_faults, stood_faults, StoodApart, HasOrigins, IsWhole, zeros_of, first_of, IsMade, errors_behind, bytes_behind}
+use Rattle.wild_image.proofs.MadeLemmas.{debug_slot}
+use Rattle.wild_image.proofs.StandingLemmas.{of_sections, no_owned, unread_by, one_input}
 
 -- ---- one section
 
@@ -51,46 +54,87 @@ refusals l group file f section s false = refl
 -- the faults of a section of a file are those of the section as it stands
 pub section_stood : (l : Layout) (group file : ℕ) (f : File) (at section : ℕ) (s : InputSection) → stood_faults l group file section f (stood_section l f at s) ≡ section_errors l group file f at section s
 unfolding stood_faults section_errors
-section_stood l group file f at section s =
-    ap (λ (ending : List Error). if is_read (laid_section l f at s) then item_errors l group file section (item_of l f (laid_section l f at s)) (origins_of l f s) ending else []) (refusals l group file f section s (is_frame s.slot))
+section_stood l group file f at section s = by (is_debug (laid_section l f at s).slot)
+  where
+    by : (b : Bool) → (if is_written (laid_section l f at s) then written_faults b l group file section f (stood_section l f at s) else []) ≡ (if is_written (laid_section l f at s) then stood_errors_by b l group file f section s (laid_section l f at s) else [])
+    by true = refl
+    by false =
+        ap (λ (ending : List Error). if is_written (laid_section l f at s) then item_errors l group file section (item_of l f (laid_section l f at s)) (origins_of l f s) ending else []) (refusals l group file f section s (is_frame s.slot))
 
-turned_whole : (b : Bool) (s : InputSection) → s.slot ≡ slot.Loaded → IsWhole (if b then turned s else s)
-turned_whole true s e = λ h. cc (rw e at h)
-turned_whole false s e = λ h. cc (rw e at h)
+turned_slot : (s : InputSection) → (as_turned s).slot ≡ s.slot
+unfolding as_turned
+turned_slot s = by s.reversed
+  where
+    by : (b : Bool) → (if b then turned s else s).slot ≡ s.slot
+    by true = refl
+    by false = refl
+
+unread_slot : (l : Layout) (s : InputSection) → (unread l s).slot ≡ s.slot
+unread_slot l s = unread_by l s (λ (t : InputSection). t.slot ≡ s.slot) refl refl
+
+slot_is : (l : Layout) (f : File) (at : ℕ) (s : InputSection) (k : Slot) → s.slot ≡ k → (laid_by k l f at s).slot ≡ k
+slot_is l f at s slot.Loaded e = turned_slot (unread l s) ∙ unread_slot l s ∙ e
+slot_is l f at s slot.Debug e = turned_slot s ∙ e
+slot_is l f at s slot.Frame e = refl
+slot_is l f at s slot.Rela e = refl
+slot_is l f at s other e = e
+
+-- a section stands in its own slot
+pub laid_slot : (l : Layout) (f : File) (at : ℕ) (s : InputSection) → (laid_section l f at s).slot ≡ s.slot
+unfolding laid_section
+laid_slot l f at s = slot_is l f at s s.slot refl
+
+whole_unless : (s : InputSection) (k : Slot) → s.slot ≡ k → is_frame k ≡ false → IsWhole s
+whole_unless s k e none = λ h. cc (rw (e, none) at h)
 
 whole_by : (l : Layout) (f : File) (at : ℕ) (s : InputSection) (k : Slot) → s.slot ≡ k → IsWhole (laid_by k l f at s)
-unfolding as_turned
-whole_by l f at s slot.Loaded e = turned_whole s.reversed s e
 whole_by l f at s slot.Frame e = λ h. refl
-whole_by l f at s slot.Discard e = λ h. cc (rw e at h)
-whole_by l f at s slot.Sorted e = λ h. cc (rw e at h)
-whole_by l f at s slot.Debug e = λ h. cc (rw e at h)
-whole_by l f at s slot.Merge e = λ h. cc (rw e at h)
-whole_by l f at s slot.Rela e = λ h. cc (rw e at h)
-whole_by l f at s slot.Group e = λ h. cc (rw e at h)
+whole_by l f at s slot.Loaded e = whole_unless (laid_by slot.Loaded l f at s) slot.Loaded (slot_is l f at s slot.Loaded e) refl
+whole_by l f at s slot.Debug e = whole_unless (laid_by slot.Debug l f at s) slot.Debug (slot_is l f at s slot.Debug e) refl
+whole_by l f at s slot.Rela e = whole_unless (tabled f s) slot.Rela refl refl
+whole_by l f at s slot.Discard e = whole_unless s slot.Discard e refl
+whole_by l f at s slot.Sorted e = whole_unless s slot.Sorted e refl
+whole_by l f at s slot.Merge e = whole_unless s slot.Merge e refl
+whole_by l f at s slot.Group e = whole_unless s slot.Group e refl
 
 -- frames that stand have data
 pub laid_whole : (l : Layout) (f : File) (at : ℕ) (s : InputSection) → IsWhole (laid_section l f at s)
 unfolding laid_section
 laid_whole l f at s = whole_by l f at s s.slot refl
 
-pub sorted_whole : (s : InputSection) → IsWhole (as_turned (as_loaded s))
-unfolding as_turned
-sorted_whole s = turned_whole s.reversed (as_loaded s) refl
+sorted_slot : (l : Layout) (s : InputSection) → (as_turned (as_loaded (unread l s))).slot ≡ slot.Loaded
+sorted_slot l s = turned_slot (as_loaded (unread l s))
 
-not_loaded : (k : Slot) → is_frame k ≡ true → is_loaded k ≡ false
-not_loaded slot.Frame e = refl
-not_loaded slot.Discard e = cc
-not_loaded slot.Loaded e = cc
-not_loaded slot.Sorted e = cc
-not_loaded slot.Debug e = cc
-not_loaded slot.Merge e = cc
-not_loaded slot.Rela e = cc
-not_loaded slot.Group e = cc
+pub sorted_whole : (l : Layout) (s : InputSection) → IsWhole (as_turned (as_loaded (unread l s)))
+sorted_whole l s = whole_unless (as_turned (as_loaded (unread l s))) slot.Loaded (sorted_slot l s) refl
+
+-- a section is of its kind of output as it stands
+pub laid_kind : (l : Layout) (f : File) (at : ℕ) (s : InputSection) → IsOfKind l s → IsOfKind l (laid_section l f at s)
+laid_kind l f at s h =
+    let e = laid_slot l f at s in
+    record { table = λ t. h.table (sym (ap is_rela e) ∙ t); debug = λ t. h.debug (sym (ap is_debug e) ∙ t) }
+
+pub sorted_kind : (l : Layout) (s : InputSection) → IsOfKind l (as_turned (as_loaded (unread l s)))
+sorted_kind l s =
+    let e = sorted_slot l s in
+    record { table = λ t. cc (rw e at t); debug = λ t. cc (rw e at t) }
+
+-- what debuggers read has as many relocations as the input has
+pub laid_origins : (l : Layout) (f : File) (at : ℕ) (s : InputSection) → IsOfKind l s → HasOrigins (stood_section l f at s)
+laid_origins l f at s h = λ t.
+    let d : is_debug s.slot ≡ true = sym (ap is_debug (laid_slot l f at s)) ∙ t in
+    debug_count l f at s (h.debug d) (debug_slot s.slot d)
+
+pub sorted_origins : (l : Layout) (s : InputSection) → HasOrigins (stood_sorted l s)
+sorted_origins l s = λ t. let e = sorted_slot l s in cc (rw e at t)
+
+not_ranged : (k : Slot) → is_frame k ≡ true → has_range k ≡ false
+not_ranged slot.Frame e = refl
+not_ranged other e = cc
 
 -- frames own nothing of a raw part
 pub frames_own_none : (l : Layout) (f : File) (s : InputSection) → is_frame s.slot ≡ true → section_owned l f s ≡ []
-frames_own_none l f s e = let n = not_loaded s.slot e in rw n refl
+frames_own_none l f s e = let n = not_ranged s.slot e in rw n refl
 
 read_frame : (k : Slot) (b : Bool) → is_frame k ≡ true → b ≡ false → (has_relocations k && not b) ≡ true
 read_frame slot.Frame b e f = rw f refl
@@ -111,13 +155,9 @@ unread_no_frames l f s whole none =
       | inr n ↦ rw n refl
     ]
 
--- what is not read owns zeros
-pub zeros_owned : (l : Layout) (f : File) (s : InputSection) → is_read s ≡ false → zeros_of l s ≡ section_owned l f s
-zeros_owned l f s unread =
-    elim (cases_Bool (is_filled l s)) [
-      | inl t ↦ rw t (section_zeros l f s unread t)
-      | inr n ↦ rw n refl
-    ]
+-- what has no data owns zeros
+pub zeros_owned : (l : Layout) (f : File) (s : InputSection) → s.nobits ≡ true → zeros_of l s ≡ section_owned l f s
+zeros_owned l f s none = ap (λ (bs : List ℕ). if is_filled l s then bs else []) (sym (section_bytes_zeros l f s none))
 
 -- and adds no frames
 pub no_frames_added : (l : Layout) (f : File) (s : InputSection) (old : List ℕ) → IsWhole s → is_read s ≡ false → old ≡ old ++ frame_bytes_of l f s
@@ -135,32 +175,44 @@ read_counted : (b : Bool) (s : InputSection) → is_read (if b then turned (as_l
 read_counted true s h = not_true s.nobits h
 read_counted false s h = not_true s.nobits h
 
-pub sorted_apart : (l : Layout) (f : File) (s : InputSection) → IsTurned l (as_loaded s) → is_read (as_turned (as_loaded s)) ≡ true → StoodApart l f (stood_sorted s)
+pub sorted_apart : (l : Layout) (f : File) (s : InputSection) → IsTurned l (as_loaded (unread l s)) → is_read (as_turned (as_loaded (unread l s))) ≡ true → StoodApart l f (stood_sorted l s)
 unfolding as_turned
 sorted_apart l f s t read =
-    let counted = read_counted s.reversed s read in
-    turned_or_stays l (block_for l f (as_turned (as_loaded s))) (as_loaded s) (t (rw counted refl))
+    let x = as_loaded (unread l s) in
+    let counted = read_counted x.reversed x read in
+    turned_or_stays l (block_for l f (as_turned x)) x (t (rw counted refl))
 
 -- ---- sorted sections
 
--- the faults of one that was found
-pub sorted_stood : (l : Layout) (x : SortedSection) (f : File) (s : InputSection) → sorted_input l x ≡ record { file = f; section = as_loaded s } ∷ [] → stood_faults l x.group x.file x.section f (stood_sorted s) ≡ sorted_errors l x
-unfolding stood_faults
-sorted_stood l x f s e = sym (ap (flat_map (sorted_errors_of l x)) e ∙ append-nil (sorted_errors_of l x (record { file = f; section = as_loaded s })))
+unread_twice : (l : Layout) (s : InputSection) → (unread l s).relocations ≡ (unread l (as_loaded (unread l s))).relocations
+unread_twice l s = by (is_partial_link l.kind)
+  where
+    by : (b : Bool) → (if b then without_relocations s else s).relocations ≡ (if b then without_relocations (as_loaded (if b then without_relocations s else s)) else as_loaded (if b then without_relocations s else s)).relocations
+    by true = refl
+    by false = refl
 
-turned_no_frame : (b : Bool) (s : InputSection) → is_frame (if b then turned (as_loaded s) else as_loaded s).slot ≡ false
-turned_no_frame true s = refl
-turned_no_frame false s = refl
+found_errors : (l : Layout) (x : SortedSection) (f : File) (s : InputSection) → stood_faults l x.group x.file x.section f (stood_sorted l s) ≡ sorted_errors_of l x (one_input l f s)
+unfolding stood_faults
+found_errors l x f s = by (is_debug t.slot)
+  where
+    t : InputSection
+    t = as_turned (as_loaded (unread l s))
+
+    by : (b : Bool) → (if is_written t then written_faults b l x.group x.file x.section f (stood_sorted l s) else []) ≡ (if is_written t then stood_errors_by b l x.group x.file f x.section (as_loaded (unread l s)) t else [])
+    by true = ap (λ (rs : List InputRelocation). if is_written t then debug_errors l x.group x.file x.section t rs else []) (unread_twice l s)
+    by false = ap (λ (rs : List InputRelocation). if is_written t then item_errors l x.group x.file x.section (item_of l f t) rs [] else []) (unread_twice l s)
+
+-- the faults of one that was found
+pub sorted_stood : (l : Layout) (x : SortedSection) (f : File) (s : InputSection) → sorted_input l x ≡ one_input l f s ∷ [] → stood_faults l x.group x.file x.section f (stood_sorted l s) ≡ sorted_errors l x
+sorted_stood l x f s e = found_errors l x f s ∙ sym (ap (flat_map (sorted_errors_of l x)) e ∙ append-nil (sorted_errors_of l x (one_input l f s)))
 
 -- and no frames
-pub sorted_no_frames : (l : Layout) (f : File) (s : InputSection) → frame_bytes_of l f (as_turned (as_loaded s)) ≡ []
-unfolding frame_bytes_of as_turned
-sorted_no_frames l f s = let e = turned_no_frame s.reversed s in rw e refl
+pub sorted_no_frames : (l : Layout) (f : File) (s : InputSection) → frame_bytes_of l f (as_turned (as_loaded (unread l s))) ≡ []
+unfolding frame_bytes_of
+sorted_no_frames l f s = let e = sorted_slot l s in rw e refl
 
-pub one_stands : (l : Layout) (x : SortedSection) (f : File) (s : InputSection) → sorted_input l x ≡ record { file = f; section = as_loaded s } ∷ [] → SortedStands l x → InputStands l (record { file = f; section = as_loaded s })
-one_stands l x f s e h =
-    let i : Input = record { file = f; section = as_loaded s } in
-    All-head (InputStands l) i [] (subst (All (InputStands l)) e h)
+pub one_stands : (l : Layout) (x : SortedSection) (f : File) (s : InputSection) → sorted_input l x ≡ one_input l f s ∷ [] → SortedStands l x → InputStands l (one_input l f s)
+one_stands l x f s e h = All-head (InputStands l) (one_input l f s) [] (subst (All (InputStands l)) e h)
 
 -- ---- the walk over sections
 
@@ -209,14 +261,14 @@ given_done {Y} G l f ss i at now whole end before =
 
 -- ---- files
 
--- the bytes of a file's sections are those of the loaded ones
-pub owned_loaded : (l : Layout) (at : ℕ) (f : File) → flat_map (section_owned l f) (laid_sections l f at f.sections) ≡ file_sections l f
-owned_loaded l at f = of_sections (section_owned l f) l f at f.sections (no_owned l f)
+-- the bytes of a file's sections are those of the sections that stand in ranges
+pub owned_ranged : (l : Layout) (at : ℕ) (f : File) → flat_map (section_owned l f) (laid_sections l f at f.sections) ≡ file_sections l f
+owned_ranged l at f = of_sections (section_owned l f) l f at f.sections (no_owned l f)
 
 pub file_owned_by : (l : Layout) (at : ℕ) (f : File) (old one two : List ℕ) → one ≡ old ++ flat_map (section_owned l f) (laid_sections l f at f.sections) → two ≡ one ++ bytes_behind l f → two ≡ old ++ file_bytes l f
 unfolding bytes_behind
 file_owned_by l at f old one two a b =
-    b ∙ ap (λ (ys : List ℕ). ys ++ (ends_bytes l f ++ file_thunks l f)) (a ∙ ap (λ (ys : List ℕ). old ++ ys) (owned_loaded l at f)) ∙ append_assoc old (file_sections l f) (ends_bytes l f ++ file_thunks l f)
+    b ∙ ap (λ (ys : List ℕ). ys ++ (ends_bytes l f ++ file_thunks l f)) (a ∙ ap (λ (ys : List ℕ). old ++ ys) (owned_ranged l at f)) ∙ append_assoc old (file_sections l f) (ends_bytes l f ++ file_thunks l f)
 
 pub file_frames_by : (l : Layout) (at : ℕ) (f : File) (old one two : List ℕ) → one ≡ old ++ flat_map (frame_bytes_of l f) (laid_sections l f at f.sections) → two ≡ one ++ of_last_file f (end_of_frames l) → two ≡ old ++ frames_bytes l (laid_file l at f)
 unfolding frames_bytes frame_bytes_of

@@ -5,7 +5,7 @@
 --   GivesItsShares l g     a group gives to each table what it is given of it
 --   FileLies l f           all that a file has lies in its parts; EachFileLies l so does what all have
 --   GroupStands l g        so do the sections of a group's files, as they stand
-use Rattle.std.specs.Prelude.{◌≡◌, ℕ, ◌<◌, ◌≤◌, ◌^◌, true, List, [], ◌∷◌, ◌++◌, length, if◌then◌else◌, All, Some, slice_get, slice_index, slice_index_or}
+use Rattle.std.specs.Prelude.{◌≡◌, ℕ, ◌<◌, ◌≤◌, ◌^◌, true, false, List, [], ◌∷◌, ◌++◌, length, if◌then◌else◌, All, Some, slice_get, slice_index, slice_index_or}
 use Rattle.wild_types.specs.declared.part.Part.{Part}
 use Rattle.wild_types.specs.declared.part.Role.TheVariants.{Raw}
 use Rattle.wild_types.specs.declared.file.File.{File}
@@ -15,7 +15,8 @@ use Rattle.wild_types.specs.declared.input.InputSection.{InputSection}
 use Rattle.wild_types.specs.declared.layout.Merged.{Merged}
 use Rattle.wild_types.specs.declared.layout.SortedSection.{SortedSection}
 use Rattle.wild_types.specs.FileRoles.{is_prelude, is_epilogue}
-use Rattle.wild_types.specs.Lookups.{is_loaded, is_counted}
+use Rattle.wild_types.specs.Kinds.{is_partial_link}
+use Rattle.wild_types.specs.Lookups.{has_range, is_counted, is_rela, is_debug}
 use Rattle.wild_laid.specs.Turned.{as_turned}
 use Rattle.wild_laid.specs.Laid.{Input, laid_sections, behind, file_frames, frames_at, sorted_input}
 use Rattle.wild_types.specs.FilePlaces.{given}
@@ -49,9 +50,9 @@ EachPartLies l = (i : ℕ) (p : Part) → i < length l.parts → PartLies l i (s
 abbrev pub GivesItsShares : Layout → Group → Type 0
 GivesItsShares l g = (i : ℕ) (p : Part) → slice_get l.parts i ≡ Some p → length (content l p.role g) ≡ (if has_role Raw p then 0 else given i g)
 
--- a section lies where it stands, if it is a loaded one
-abbrev pub LoadedLies : Layout → InputSection → Type 0
-LoadedLies l s = is_loaded s.slot ≡ true → SectionLies l (standing s)
+-- a section of a file lies where it stands, if it stands in its part's range
+abbrev pub RangedLies : Layout → File → InputSection → Type 0
+RangedLies l f s = has_range s.slot ≡ true → SectionLies l (standing l f s)
 
 -- the sorted section that is named lies where it stands
 abbrev pub InputLies : Layout → Input → Type 0
@@ -71,7 +72,7 @@ pub record MergedLies (l : Layout) (m : Merged) : Type 0 where
 -- all that a file has lies in its parts: its input sections, the sorted ones where it is the last, what stands once where it is the first,
 -- and its thunks
 pub record FileLies (l : Layout) (f : File) : Type 0 where
-  pub sections : All (LoadedLies l) f.sections
+  pub sections : All (RangedLies l f) f.sections
   pub sorted : is_epilogue f.role ≡ true → All (SortedLies l) l.sorted
   pub merged : is_prelude f.role ≡ true → All (MergedLies l) l.merged
   pub identity : is_prelude f.role ≡ true → SomeLies l l.identity.part l.identity.bytes
@@ -86,6 +87,11 @@ EachFileLies l = All (λ (g : Group). All (FileLies l) g.files) l.groups
 abbrev pub IsTurned : Layout → InputSection → Type 0
 IsTurned l s = is_counted s ≡ true → s.reversed ≡ true → HasWords l.machine s
 
+-- tables of relocations are of relocatable objects alone, and what debuggers read of others
+pub record IsOfKind (l : Layout) (s : InputSection) : Type 0 where
+  pub table : is_rela s.slot ≡ true → is_partial_link l.kind ≡ true
+  pub debug : is_debug s.slot ≡ true → is_partial_link l.kind ≡ false
+
 -- a sorted section that was found lies where it stands
 pub record InputStands (l : Layout) (x : Input) : Type 0 where
   pub lies : InputLies l x
@@ -98,6 +104,7 @@ SortedStands l x = All (InputStands l) (sorted_input l x)
 pub record FileStands (l : Layout) (at : ℕ) (f : File) : Type 0 where
   pub lies : All (SectionLies l) (laid_sections l f at f.sections)
   pub turned : All (IsTurned l) f.sections
+  pub kinds : All (IsOfKind l) f.sections
   pub sorted : is_epilogue f.role ≡ true → All (SortedStands l) l.sorted
 
 -- those of some files, one behind the other

@@ -1,5 +1,5 @@
 -- What owns bytes of an image, as the code goes through it: file by file, the sections of the plan.
---   loaded_piece l f s    a loaded section, as it stands, with its offset; loaded_pieces l f those of a file
+--   ranged_piece l f s    a section that stands in its part's range, as it stands, with its offset; ranged_pieces l f those of a file
 --   sorted_pieces l x     a section that is named among the sorted ones; all_sorted_pieces l all of those
 --   ends_pieces l f       what only the last or the first file has
 --   standing_pieces l f   all that a file has
@@ -11,17 +11,17 @@ use Rattle.wild_types.specs.declared.file.File.{File}
 use Rattle.wild_types.specs.declared.layout.Merged.{Merged}
 use Rattle.wild_types.specs.declared.layout.SortedSection.{SortedSection}
 use Rattle.wild_types.specs.declared.layout.Layout.{Layout}
-use Rattle.wild_types.specs.Lookups.{is_loaded}
+use Rattle.wild_types.specs.Lookups.{has_range}
 use Rattle.wild_laid.specs.Laid.{sorted_input, of_last_file}
 use Rattle.wild_layout.specs.Image.{section_piece, sorted_piece, merged_bytes, front_piece, once_pieces, of_first_file, thunk_pieces}
 use Rattle.wild_image.specs.Pieces.{standing}
 
--- a loaded section, as it stands
-abbrev pub loaded_piece : Layout → File → InputSection → List Piece
-loaded_piece l f s = if is_loaded s.slot then section_piece l f (standing s) else []
+-- a section that stands in its part's range
+abbrev pub ranged_piece : Layout → File → InputSection → List Piece
+ranged_piece l f s = if has_range s.slot then section_piece l f (standing l f s) else []
 
-abbrev pub loaded_pieces : Layout → File → List Piece
-loaded_pieces l f = flat_map (loaded_piece l f) f.sections
+abbrev pub ranged_pieces : Layout → File → List Piece
+ranged_pieces l f = flat_map (ranged_piece l f) f.sections
 
 -- a section that is named among the sorted ones
 abbrev pub sorted_pieces : Layout → SortedSection → List Piece
@@ -40,4 +40,4 @@ ends_pieces l f = of_last_file f (all_sorted_pieces l) ++ of_first_file f (once_
 
 -- all that a file has
 abbrev pub standing_pieces : Layout → File → List Piece
-standing_pieces l f = loaded_pieces l f ++ (ends_pieces l f ++ thunk_pieces l f)
+standing_pieces l f = ranged_pieces l f ++ (ends_pieces l f ++ thunk_pieces l f)

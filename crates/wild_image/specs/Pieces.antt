@@ -1,6 +1,6 @@
 -- What a group has of each part, and what it counts.
 --   group_given l part g  what a group gives to a part: the content of the part's role
---   standing s            a loaded section, or a sorted one, as it stands in the output
+--   standing l f s        a section of file f that stands in its part's range, as it stands in the output
 --   file_sections l f     the bytes of a file's input sections that own some, one behind the other; sorted_bytes l x those of a sorted
 --                         section; once_bytes l the strings that were merged, and the output's identity
 --   group_tables l g      what a group gives to the tables, part by part
@@ -13,6 +13,7 @@ use Rattle.std.specs.List.{flat_map, range_with_len}
 use Rattle.wild_types.specs.declared.part.Part.{Part}
 use Rattle.wild_types.specs.declared.part.Role.{Role}
 use Rattle.wild_types.specs.declared.part.Role.TheVariants as role
+use Rattle.wild_types.specs.declared.input.Slot.{Slot}
 use Rattle.wild_types.specs.declared.input.Slot.TheVariants as slot
 use Rattle.wild_types.specs.declared.input.InputSection.{InputSection}
 use Rattle.wild_types.specs.declared.file.File.{File}
@@ -22,12 +23,13 @@ use Rattle.wild_types.specs.declared.layout.Merged.{Merged}
 use Rattle.wild_types.specs.declared.layout.SortedSection.{SortedSection}
 use Rattle.wild_types.specs.declared.layout.Layout.{Layout}
 use Rattle.wild_types.specs.FileThunks.{thunks_of}
-use Rattle.wild_types.specs.Lookups.{section_of, is_loaded, is_filled, is_counted, takes_file_bytes}
-use Rattle.wild_laid.specs.Turned.{turned_bytes, turned_offset, as_turned}
-use Rattle.wild_laid.specs.Laid.{Input, sorted_input, of_last_file}
+use Rattle.wild_types.specs.Kinds.{is_partial_link}
+use Rattle.wild_types.specs.Lookups.{section_of, has_range, is_filled, is_counted, takes_file_bytes}
+use Rattle.wild_laid.specs.Turned.{as_turned}
+use Rattle.wild_laid.specs.Laid.{Input, laid_section, sorted_input, of_last_file}
 use Rattle.wild_layout.specs.Sites.{section_bytes}
 use Rattle.wild_layout.specs.Content.{content}
-use Rattle.wild_layout.specs.Image.{merged_bytes, of_first_file}
+use Rattle.wild_layout.specs.Image.{offset_in, merged_bytes, of_first_file}
 use Rattle.wild_layout.specs.Thunks.{thunk_bytes, file_thunks}
 
 -- the role of a part; raw where there is none
@@ -41,39 +43,39 @@ group_given l part g = content l (role_of (slice_get l.parts part)) g
 
 -- ---- bytes of files, one behind the other
 
--- a loaded section, or a sorted one, as it stands
-abbrev pub standing : InputSection → InputSection
-standing s = record {
-  slot = slot.Loaded;
-  name = if s.reversed then [] else s.name;
-  part = s.part;
-  address = s.address;
-  size = s.size;
-  flags = s.flags;
-  nobits = s.nobits;
-  reversed = false;
-  singleton = if s.reversed then None else s.singleton;
-  target = if s.reversed then 0 else s.target;
-  members = if s.reversed then [] else s.members;
-  bytes = if s.reversed then turned_bytes s.bytes else s.bytes;
-  strings = if s.reversed then [] else s.strings;
-  relocations = if s.reversed then map (turned_offset s.size) s.relocations else s.relocations;
-}
+-- a section of a file that stands in its part's range, as it stands: frames alone stand at an address of their own
+abbrev pub standing : Layout → File → InputSection → InputSection
+standing l f s = laid_section l f 0 s
 
 -- there are bytes of a section of that size
 abbrev pub has_room : Layout → InputSection → Bool
 has_room l s = not (s.size == 0) && (not s.nobits || takes_file_bytes l (section_of l s.part))
 
+-- a section that stands in its part's range owns bytes
+abbrev pub room_by : Slot → Layout → InputSection → Bool
+room_by slot.Loaded l s = has_room l s
+room_by slot.Debug l s = has_room l s
+room_by slot.Rela l s = not s.nobits && not (s.size == 0)
+room_by slot.Group l s = not s.nobits && not (length s.bytes == 0)
+room_by other l s = false
+
+abbrev pub ranged_room : Layout → InputSection → Bool
+ranged_room l s = room_by s.slot l s
+
+-- where a section begins in the file
+abbrev pub place_in : Layout → InputSection → ℕ
+place_in l s = offset_in (slice_get l.parts s.part) s.address
+
 -- the bytes of an input section of a file, as it stands, that owns some
 abbrev pub section_owned : Layout → File → InputSection → List ℕ
 section_owned l f s = if is_filled l s then section_bytes l f s else []
 
--- of a section of the plan, which stands where it is loaded
-abbrev pub loaded_owned : Layout → File → InputSection → List ℕ
-loaded_owned l f s = if is_loaded s.slot then section_owned l f (standing s) else []
+-- of a section of the plan, which stands in its part's range
+abbrev pub ranged_owned : Layout → File → InputSection → List ℕ
+ranged_owned l f s = if has_range s.slot then section_owned l f (standing l f s) else []
 
 abbrev pub file_sections : Layout → File → List ℕ
-file_sections l f = flat_map (loaded_owned l f) f.sections
+file_sections l f = flat_map (ranged_owned l f) f.sections
 
 -- of a section that is named among the sorted ones
 abbrev pub input_owned : Layout → Input → List ℕ
@@ -113,13 +115,13 @@ in_part part k bs = if k == part then bs else []
 
 -- the bytes of an input section of a file, where it owns some of that part
 abbrev pub owned_in : Layout → File → ℕ → InputSection → List ℕ
-owned_in l f part s = if is_filled l s && s.part == part then section_bytes l f s else []
+owned_in l f part s = if is_filled l s then in_part part s.part (section_bytes l f s) else []
 
-abbrev pub loaded_in : Layout → File → ℕ → InputSection → List ℕ
-loaded_in l f part s = if is_loaded s.slot then owned_in l f part (standing s) else []
+abbrev pub ranged_in : Layout → File → ℕ → InputSection → List ℕ
+ranged_in l f part s = if has_range s.slot then owned_in l f part (standing l f s) else []
 
 abbrev pub sections_owned : Layout → ℕ → File → List ℕ
-sections_owned l part f = flat_map (loaded_in l f part) f.sections
+sections_owned l part f = flat_map (ranged_in l f part) f.sections
 
 abbrev pub input_in : Layout → ℕ → Input → List ℕ
 input_in l part x = owned_in l x.file part (as_turned x.section)
@@ -171,5 +173,6 @@ section_pairs l s = if is_counted s then (section_of l s.part, length s.relocati
 abbrev pub file_pairs : Layout → File → List (ℕ × ℕ)
 file_pairs l f = flat_map (section_pairs l) f.sections
 
+-- of a relocatable object none is read
 abbrev pub group_pairs : Layout → Group → List (ℕ × ℕ)
-group_pairs l g = flat_map (file_pairs l) g.files
+group_pairs l g = if is_partial_link l.kind then [] else flat_map (file_pairs l) g.files

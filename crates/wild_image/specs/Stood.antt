@@ -1,11 +1,13 @@
 -- What is said of sections as they stand, as the code has them.
 --   stood_faults l g f i file x   the faults of a section of a file, as it stands
 --   StoodApart l f x              its sites are apart exactly where those of the input are
+--   HasOrigins x                  it has as many relocations as the input has, where debuggers read it
+--   IsMadeOf l s                  it owns bytes that are made of it
 --   IsWhole s                     one of frames has data
 --   zeros_of l s                  as many zeros as a section has bytes, where it owns some
 --   IsMade l t                    the search table of frames was made, or its first fault was met
 --   errors_behind l g f file      the faults of a file behind those of its sections; bytes_behind l f its bytes behind theirs
-use Rattle.std.specs.Prelude.{◌≡◌, ℕ, true, false, if◌then◌else◌, List, [], ◌∷◌, ◌++◌, map, replicate, Option, Some, None}
+use Rattle.std.specs.Prelude.{◌≡◌, ℕ, Bool, true, false, if◌then◌else◌, List, [], ◌∷◌, ◌++◌, map, length, replicate, Option, Some, None}
 use Rattle.std.specs.List.{flat_map}
 use Rattle.wild_types.specs.declared.fault.Fault.{Fault}
 use Rattle.wild_types.specs.declared.fault.Error.{Error}
@@ -13,24 +15,39 @@ use Rattle.wild_types.specs.declared.input.InputSection.{InputSection}
 use Rattle.wild_types.specs.declared.file.File.{File}
 use Rattle.wild_types.specs.declared.layout.Layout.{Layout}
 use Rattle.wild_types.specs.Item.{item_of}
-use Rattle.wild_types.specs.Lookups.{is_read, is_frame, is_filled}
+use Rattle.wild_types.specs.Lookups.{is_read, is_written, is_frame, is_debug, is_filled}
 use Rattle.wild_laid.specs.Laid.{of_last_file}
 use Rattle.wild_laid.specs.Stood.{Stood}
-use Rattle.wild_layout.specs.Faults.{item_errors, frame_refusal, sorted_errors, entry_errors, thunk_errors, first_errors}
+use Rattle.wild_layout.specs.Faults.{item_errors, debug_errors, frame_refusal, sorted_errors, entry_errors, thunk_errors, first_errors}
 use Rattle.wild_layout.specs.Sites.{MovesApart}
 use Rattle.wild_layout.specs.SearchTable.{search_table, search_table_faults}
 use Rattle.wild_layout.specs.Thunks.{file_thunks}
 use Rattle.wild_contents.specs.declared.search_table.SearchTable.{SearchTable}
 use Rattle.wild_image.specs.Pieces.{ends_bytes}
 
+-- the faults of a section of a file whose relocations are written, as it stands
+abbrev pub written_faults : Bool → Layout → ℕ → ℕ → ℕ → File → Stood → List Error
+written_faults true l group file section f x = debug_errors l group file section x.section x.origins
+written_faults false l group file section f x = item_errors l group file section (item_of l f x.section) x.origins (map (frame_refusal group file section) x.faults)
+
 -- the faults of a section of a file, as it stands
 unfoldable pub stood_faults : Layout → ℕ → ℕ → ℕ → File → Stood → List Error
-stood_faults l group file section f x =
-    if is_read x.section then item_errors l group file section (item_of l f x.section) x.origins (map (frame_refusal group file section) x.faults) else []
+stood_faults l group file section f x = if is_written x.section then written_faults (is_debug x.section.slot) l group file section f x else []
 
 -- its sites are apart exactly where those of the input are
 abbrev pub StoodApart : Layout → File → Stood → Type 0
 StoodApart l f x = MovesApart l (item_of l f x.section) x.origins
+
+-- it has as many relocations as the input has, where debuggers read it
+abbrev pub HasOrigins : Stood → Type 0
+HasOrigins x = is_debug x.section.slot ≡ true → length x.origins ≡ length x.section.relocations
+
+-- a section that owns bytes which are made of it: a table of relocations, or a group
+pub record IsMadeOf (l : Layout) (s : InputSection) : Type 0 where
+  pub filled : is_filled l s ≡ true
+  pub whole : s.nobits ≡ false
+  pub unread : is_read s ≡ false
+  pub other : is_debug s.slot ≡ false
 
 -- one of frames has data
 abbrev pub IsWhole : InputSection → Type 0

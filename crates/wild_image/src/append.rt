@@ -1,6 +1,7 @@
 //! Putting what the groups have into the image.
-ghost use Rattle.std.specs.Prelude.{◌≡◌, ◌+◌, ◌<◌, ◌≤◌, ◌^◌, ℕ, true, Some, if◌then◌else◌, length, replicate, slice_get, OnOk, All};
+ghost use Rattle.std.specs.Prelude.{◌≡◌, ◌+◌, ◌<◌, ◌≤◌, ◌^◌, ℕ, true, Some, if◌then◌else◌, length, take, drop, replicate, slice_get, OnOk, All};
 ghost use Rattle.std.specs.List.{flat_map};
+ghost use Rattle.wild_words.specs.Words.{place};
 ghost use Rattle.wild_words.specs.Overlay.{overlay};
 ghost use Rattle.wild_types.specs.declared.file.File.{File};
 ghost use Rattle.wild_types.specs.declared.file.Group.{Group};
@@ -8,18 +9,18 @@ ghost use Rattle.wild_types.specs.declared.part.Role.TheVariants.{Raw};
 ghost use Rattle.wild_types.specs.FileRoles.{is_prelude, is_epilogue};
 ghost use Rattle.wild_types.specs.Faults.{Answers};
 ghost use Rattle.wild_laid.specs.Laid.{of_last_file};
-ghost use Rattle.wild_types.specs.Lookups.{is_filled, image_size};
+ghost use Rattle.wild_types.specs.Lookups.{image_size};
 ghost use Rattle.wild_types.specs.Parts.{has_role};
 ghost use Rattle.wild_types.specs.FilePlaces.{given};
 ghost use Rattle.wild_types.specs.FileThunks.{thunks_of};
 ghost use Rattle.wild_layout.specs.Content.{content};
-ghost use Rattle.wild_layout.specs.Image.{section_piece, merged_bytes, front_piece, once_pieces, thunk_piece, thunk_pieces, of_first_file, given_before, table_piece, table_pieces};
-ghost use Rattle.wild_layout.specs.SectionPlaces.{SectionLies, FrontLies};
+ghost use Rattle.wild_layout.specs.Image.{merged_bytes, front_piece, once_pieces, thunk_piece, thunk_pieces, of_first_file, given_before, table_piece, table_pieces};
+ghost use Rattle.wild_layout.specs.SectionPlaces.{FrontLies};
 ghost use Rattle.wild_layout.specs.ThunkPlaces.{ThunkLies};
 ghost use Rattle.wild_layout.specs.Thunks.{thunk_bytes, file_thunks};
-ghost use Rattle.wild_image.specs.Pieces.{standing, section_owned, loaded_owned, file_sections, sorted_owned, all_sorted, once_bytes, ends_bytes, file_bytes, group_tables, group_files};
-ghost use Rattle.wild_image.specs.Owners.{loaded_piece, loaded_pieces, sorted_pieces, all_sorted_pieces, merged_piece, ends_pieces, standing_pieces};
-ghost use Rattle.wild_image.specs.Append.{BeginsWith, GoesOn, HasStarts, EachPartLies, LoadedLies, SortedLies, SomeLies, MergedLies, FileLies, EachFileLies};
+ghost use Rattle.wild_image.specs.Pieces.{has_room, ranged_room, place_in, file_sections, sorted_owned, all_sorted, once_bytes, ends_bytes, file_bytes, group_tables, group_files};
+ghost use Rattle.wild_image.specs.Owners.{ranged_pieces, sorted_pieces, all_sorted_pieces, merged_piece, ends_pieces, standing_pieces};
+ghost use Rattle.wild_image.specs.Append.{BeginsWith, GoesOn, HasStarts, EachPartLies, RangedLies, SortedLies, SomeLies, MergedLies, FileLies, EachFileLies};
 ghost use Rattle.wild_image.specs.Batches.{AreBatches, IsWithin, GivesBatch, HasBatch, batch_errors, batch_pieces};
 ghost use Rattle.wild_image.specs.declared.job.Outcome.{Outcome};
 
@@ -30,34 +31,45 @@ use crate::marks::strings_size;
 use wild_laid::sorted_input;
 use wild_sections::offset_of;
 use wild_types::{
-    Error, File, Group, InputSection, Layout, Merged, Part, Role, SortedSection, THUNK_SIZE, Thunk,
+    Error, File, Group, InputSection, Layout, Merged, Part, Role, Slot, SortedSection, THUNK_SIZE,
+    Thunk,
 };
 use wild_words::put;
 
-/// Whether a section that is loaded or sorted owns bytes of the image, as it stands.
-#[tactic(auto, using(crate::proofs::StandingLemmas::filled_standing))]
+/// Whether a section that is loaded, sorted or read by debuggers owns bytes of the image, as it stands.
 pub(crate) fn owns_room(layout: &Layout, section: &InputSection) -> bool
-    requires { SectionLies layout.now (standing section.now) }
-    ensures { result ≡ is_filled layout.now (standing section.now) }
+    ensures { result ≡ has_room layout.now section.now }
 {
     section.size != 0
         && (!section.nobits || layout.takes_file_bytes(layout.section_of(section.part)))
 }
 
-/// Puts the bytes of a section that is loaded or sorted, the first of these, into the image, and tells what stands behind them.
-fn append_standing<'b>(
+/// Whether a section does that stands in its part's range.
+pub(crate) fn owns_range(layout: &Layout, section: &InputSection) -> bool
+    ensures { result ≡ ranged_room layout.now section.now }
+{
+    match section.slot {
+        Slot::Loaded | Slot::Debug => owns_room(layout, section),
+        Slot::Rela => !section.nobits && section.size != 0,
+        Slot::Group => !section.nobits && section.bytes.len() != 0,
+        _ => false,
+    }
+}
+
+/// Puts the bytes of a section, the first of these, into the image, where it owns some, and tells what stands behind them.
+fn append_own<'b>(
     layout: &Layout,
     section: &InputSection,
+    owns: bool,
     bytes: &'b [u8],
     out: &mut [u8],
 ) -> &'b [u8]
-    requires lies { SectionLies layout.now (standing section.now) }
-    requires room { length out.old ≡ image_size layout.now }
-    requires own { (f : File) × BeginsWith (section_owned layout.now f (standing section.now)) bytes.now }
-    ensures image { (f : File) → BeginsWith (section_owned layout.now f (standing section.now)) bytes.now → out.new ≡ overlay (section_piece layout.now f (standing section.now)) out.old }
-    ensures rest { (f : File) → BeginsWith (section_owned layout.now f (standing section.now)) bytes.now → GoesOn (section_owned layout.now f (standing section.now)) bytes.now result.now }
+    requires own { owns ≡ true → section.now.size ≤ length bytes.now }
+    requires ends { owns ≡ true → place_in layout.now section.now + section.now.size ≤ length out.old }
+    ensures image { out.new ≡ (if owns then place (place_in layout.now section.now) (take section.now.size bytes.now) out.old else out.old) }
+    ensures rest { result.now ≡ (if owns then drop section.now.size bytes.now else bytes.now) }
 {
-    if !owns_room(layout, section) {
+    if !owns {
         return bytes;
     }
     let start = offset_of(layout.parts.as_slice(), section.part, section.address) as usize;
@@ -66,36 +78,17 @@ fn append_standing<'b>(
     rest
 }
 
-/// Puts the bytes of a section, the first of these, into the image, where it is a loaded one, and tells what stands behind them.
-fn append_section<'b>(
-    layout: &Layout,
-    section: &InputSection,
-    bytes: &'b [u8],
-    out: &mut [u8],
-) -> &'b [u8]
-    requires lies { LoadedLies layout.now section.now }
-    requires room { length out.old ≡ image_size layout.now }
-    requires own { (f : File) × BeginsWith (loaded_owned layout.now f section.now) bytes.now }
-    ensures image { (f : File) → BeginsWith (loaded_owned layout.now f section.now) bytes.now → out.new ≡ overlay (loaded_piece layout.now f section.now) out.old }
-    ensures rest { (f : File) → BeginsWith (loaded_owned layout.now f section.now) bytes.now → GoesOn (loaded_owned layout.now f section.now) bytes.now result.now }
-{
-    if section.slot.is_loaded() {
-        return append_standing(layout, section, bytes, out);
-    }
-    bytes
-}
-
 /// Puts the bytes of the sections of a file into the image, and tells what stands behind them.
 fn append_sections<'b>(layout: &Layout, file: &File, bytes: &'b [u8], out: &mut [u8]) -> &'b [u8]
-    requires lies { All (LoadedLies layout.now) file.now.sections }
+    requires lies { All (RangedLies layout.now file.now) file.now.sections }
     requires room { length out.old ≡ image_size layout.now }
     requires own { BeginsWith (file_sections layout.now file.now) bytes.now }
-    ensures image { out.new ≡ overlay (loaded_pieces layout.now file.now) out.old }
+    ensures image { out.new ≡ overlay (ranged_pieces layout.now file.now) out.old }
     ensures rest { GoesOn (file_sections layout.now file.now) bytes.now result.now }
 {
     let mut rest = bytes;
     for section in file.sections.as_slice() {
-        rest = append_section(layout, section, rest, out);
+        rest = append_own(layout, section, owns_range(layout, section), rest, out);
     }
     rest
 }
@@ -114,7 +107,10 @@ fn append_sorted_section<'b>(
     ensures rest { GoesOn (sorted_owned layout.now entry.now) bytes.now result.now }
 {
     match sorted_input(layout, *entry) {
-        Some(input) => append_standing(layout, input.section, bytes, out),
+        Some(input) => {
+            let owns = owns_room(layout, input.section);
+            append_own(layout, input.section, owns, bytes, out)
+        }
         None => bytes,
     }
 }

@@ -4,7 +4,9 @@ ghost use Rattle.std.specs.Prelude.{◌≡◌, ◌+◌, ◌<◌, ◌^◌, ◌++�
 ghost use Rattle.std.specs.List.{flat_map};
 ghost use Rattle.wild_types.specs.FileRoles.{is_epilogue};
 ghost use Rattle.wild_types.specs.Faults.{Answers};
-ghost use Rattle.wild_types.specs.Lookups.{is_filled, is_read, is_frame};
+ghost use Rattle.wild_types.specs.declared.file.File.{File};
+ghost use Rattle.wild_types.specs.Lookups.{is_filled, is_read, is_frame, is_debug, is_rela};
+ghost use Rattle.wild_layout.specs.Sites.{section_bytes};
 ghost use Rattle.wild_laid.specs.FrameInputs.{kept_size};
 ghost use Rattle.wild_laid.specs.Laid.{laid_section, laid_sections, laid_file, file_frames, frames_at, behind, of_last_file};
 ghost use Rattle.wild_layout.specs.Faults.{section_errors, sections_errors, sorted_errors, first_errors, file_errors, files_errors, group_errors};
@@ -14,9 +16,9 @@ ghost use Rattle.wild_layout.specs.SectionPlaces.{SectionLies};
 ghost use Rattle.wild_contents.specs.Given.{NeedsFit};
 ghost use Rattle.wild_contents.specs.Laid.{group_frames, HaveSearchTable};
 ghost use Rattle.wild_contents.specs.SearchTable.{IsTableFor, IsSearchTable};
-ghost use Rattle.wild_image.specs.Append.{GivesItsShares, IsTurned, SortedStands, FileStands, GroupStands};
+ghost use Rattle.wild_image.specs.Append.{GivesItsShares, IsTurned, IsOfKind, SortedStands, FileStands, GroupStands};
 ghost use Rattle.wild_image.specs.Pieces.{section_owned, sorted_owned, all_sorted, once_bytes, file_bytes, group_files, group_tables};
-ghost use Rattle.wild_image.specs.Stood.{stood_faults, StoodApart, IsWhole, zeros_of, errors_behind, bytes_behind};
+ghost use Rattle.wild_image.specs.Stood.{stood_faults, StoodApart, HasOrigins, IsMadeOf, IsWhole, zeros_of, errors_behind, bytes_behind};
 ghost use Rattle.wild_image.specs.Batches.{HasBatch, batch_errors};
 
 use crate::append::table_size;
@@ -29,7 +31,9 @@ use wild_contents::{
 use wild_laid::{LaidSection, frames_at, lay, lay_sorted, sorted_input};
 use wild_relax::Arch;
 use wild_sections::{InputPlace, Origin, Resolved, write_data};
-use wild_types::{Error, File, Group, InputSection, Layout, Part, Role, SortedSection, has_role};
+use wild_types::{
+    Error, File, Group, InputSection, Layout, Part, Role, Slot, SortedSection, has_role,
+};
 use wild_words::Bytes;
 
 /// What groups have of an image.
@@ -174,6 +178,79 @@ fn add_read<A: Arch>(
     check_data(alloc, resolved, place, file, laid)
 }
 
+/// Adds the bytes of a section with data that debuggers read, as it stands, to those of the file's sections, or answers its first fault.
+#[tactic(auto, using(crate::proofs::MadeLemmas::debug_answers, crate::proofs::MadeLemmas::debug_added))]
+fn add_debug<A: Arch>(
+    resolved: &Resolved<A>,
+    place: InputPlace,
+    laid: &LaidSection<'_>,
+    bytes: &mut PartBytes,
+) -> Result<(), Error>
+    requires debug { is_debug laid.now.section.slot ≡ true }
+    requires whole { laid.now.section.nobits ≡ false }
+    requires origins { HasOrigins laid.now }
+    requires lies { SectionLies resolved.now.layout.now laid.now.section }
+    ensures faults { (f : File) → Answers result (stood_faults resolved.now.layout.now place.group place.file place.section f laid.now) }
+    ensures bytes { OnOk result ((f : File) → bytes.new ≡ bytes.old ++ section_owned resolved.now.layout.now f laid.now.section) }
+{
+    bytes.add_debug(resolved, &origin_of(place, laid), laid.section())
+}
+
+/// Whether a section is a table of relocations.
+fn is_rela(slot: Slot) -> bool
+    ensures { result ≡ is_rela slot }
+{
+    matches!(slot, Slot::Rela)
+}
+
+/// Adds what is made of a table of relocations or of a group, which owns bytes, as it stands.
+#[tactic(auto, using(crate::proofs::MadeLemmas::rela_size, crate::proofs::MadeLemmas::group_size, crate::proofs::MadeLemmas::rela_added, crate::proofs::MadeLemmas::group_added))]
+fn add_made<A: Arch>(
+    alloc: Global,
+    resolved: &Resolved<A>,
+    section: &InputSection,
+    bytes: &mut PartBytes,
+) -> Result<(), AllocError>
+    requires made { IsMadeOf resolved.now.layout.now section.now }
+    requires kind { IsOfKind resolved.now.layout.now section.now }
+    requires long { (f : File) × (length (section_bytes resolved.now.layout.now f section.now) ≡ section.now.size) }
+    ensures { OnOk result ((f : File) → bytes.new ≡ bytes.old ++ section_owned resolved.now.layout.now f section.now) }
+{
+    if is_rela(section.slot) {
+        bytes.add_rela(alloc, resolved, section)
+    } else {
+        bytes.add_group(alloc, section)
+    }
+}
+
+/// Adds the bytes of a section with data that is not loaded, as it stands, to those of the file's sections, or answers its first fault.
+#[tactic(auto, using(crate::proofs::MadeLemmas::no_faults, crate::proofs::MadeLemmas::nothing_added))]
+fn add_unread<A: Arch>(
+    alloc: Global,
+    resolved: &Resolved<A>,
+    place: InputPlace,
+    file: &File,
+    laid: &LaidSection<'_>,
+    bytes: &mut PartBytes,
+) -> Result<(), Error>
+    requires unread { is_read laid.now.section ≡ false }
+    requires whole { laid.now.section.nobits ≡ false }
+    requires kind { IsOfKind resolved.now.layout.now laid.now.section }
+    requires origins { HasOrigins laid.now }
+    requires lies { SectionLies resolved.now.layout.now laid.now.section }
+    ensures faults { Answers result (stood_faults resolved.now.layout.now place.group place.file place.section file.now laid.now) }
+    ensures bytes { OnOk result (bytes.new ≡ bytes.old ++ section_owned resolved.now.layout.now file.now laid.now.section) }
+{
+    let section = laid.section();
+    if section.slot.is_debug() {
+        return add_debug(resolved, place, laid, bytes);
+    }
+    if section.is_filled(resolved.layout) {
+        add_made(alloc, resolved, section, bytes)?;
+    }
+    Ok(())
+}
+
 /// Adds the bytes of a section of that file, as it stands, or answers its first fault.
 #[tactic(auto, using(crate::proofs::StoodLemmas::zeros_owned), unfolding(crate::specs::Stood::stood_faults))]
 fn add_stood<A: Arch>(
@@ -186,6 +263,8 @@ fn add_stood<A: Arch>(
 ) -> Result<(), Error>
     requires whole { IsWhole laid.now.section }
     requires moves { is_read laid.now.section ≡ true → StoodApart resolved.now.layout.now file.now laid.now }
+    requires kind { IsOfKind resolved.now.layout.now laid.now.section }
+    requires origins { HasOrigins laid.now }
     requires lies { SectionLies resolved.now.layout.now laid.now.section }
     ensures faults { Answers result (stood_faults resolved.now.layout.now place.group place.file place.section file.now laid.now) }
     ensures files { OnOk result (bytes.new.files ≡ bytes.old.files ++ section_owned resolved.now.layout.now file.now laid.now.section) }
@@ -196,8 +275,10 @@ fn add_stood<A: Arch>(
     if section.is_read() {
         return add_read(alloc, resolved, place, file, laid, bytes);
     }
-    add_zeros(alloc, resolved.layout, section, &mut bytes.files)?;
-    Ok(())
+    if section.nobits {
+        return Ok(add_zeros(alloc, resolved.layout, section, &mut bytes.files)?);
+    }
+    add_unread(alloc, resolved, place, file, laid, &mut bytes.files)
 }
 
 /// Adds the bytes of a section of that file, or answers its first fault, where the file's next frames stand at an address; tells
@@ -214,6 +295,7 @@ fn add_section<A: Arch>(
 ) -> Result<u64, Error>
     requires lies { SectionLies resolved.now.layout.now (laid_section resolved.now.layout.now file.now at section.now) }
     requires turned { IsTurned resolved.now.layout.now section.now }
+    requires kind { IsOfKind resolved.now.layout.now section.now }
     ensures faults { Answers result (section_errors resolved.now.layout.now place.group place.file file.now at place.section section.now) }
     ensures next { IfOk result (λ n. n ≡ behind at (kept_size resolved.now.layout.now file.now section.now)) }
     ensures files { OnOk result (bytes.new.files ≡ bytes.old.files ++ section_owned resolved.now.layout.now file.now (laid_section resolved.now.layout.now file.now at section.now)) }
@@ -238,6 +320,7 @@ fn add_file_sections<A: Arch>(
 ) -> Result<u64, Error>
     requires lies { All (SectionLies resolved.now.layout.now) (laid_sections resolved.now.layout.now file.now at file.now.sections) }
     requires turned { All (IsTurned resolved.now.layout.now) file.now.sections }
+    requires kinds { All (IsOfKind resolved.now.layout.now) file.now.sections }
     ensures faults { Answers result (sections_errors resolved.now.layout.now place.group place.file file.now at 0 file.now.sections) }
     ensures next { IfOk result (λ n. n ≡ behind at (file_frames resolved.now.layout.now file.now)) }
     ensures files { OnOk result (bytes.new.files ≡ bytes.old.files ++ flat_map (section_owned resolved.now.layout.now file.now) (laid_sections resolved.now.layout.now file.now at file.now.sections)) }
@@ -276,7 +359,7 @@ fn add_sorted_section<A: Arch>(
     };
     match sorted_input(resolved.layout, *entry) {
         Some(input) => {
-            let laid = lay_sorted(alloc, input.section)?;
+            let laid = lay_sorted(alloc, resolved.layout, input.section)?;
             add_stood(alloc, resolved, place, input.file, &laid, bytes)
         }
         None => Ok(()),

@@ -1,20 +1,20 @@
 //! All bytes of a group, cut into what it has of each part.
-ghost use Rattle.std.specs.Prelude.{◌≡◌, ◌<◌, ◌++◌, ℕ, true, [], length, map, All, IfOk, OnOk, slice_index_or};
+ghost use Rattle.std.specs.Prelude.{◌≡◌, ◌<◌, ◌≤◌, ◌++◌, ℕ, true, if◌then◌else◌, [], length, take, drop, map, All, IfOk, OnOk, slice_index_or};
 ghost use Rattle.wild_types.specs.declared.file.File.{File};
 ghost use Rattle.wild_types.specs.declared.part.Part.{Part};
 ghost use Rattle.wild_types.specs.FileThunks.{thunks_of};
 ghost use Rattle.wild_layout.specs.Content.{content};
-ghost use Rattle.wild_layout.specs.SectionPlaces.{SectionLies, FrontLies};
+ghost use Rattle.wild_layout.specs.SectionPlaces.{FrontLies};
 ghost use Rattle.wild_layout.specs.ThunkPlaces.{ThunkLies};
 ghost use Rattle.wild_layout.specs.Thunks.{thunk_bytes, file_thunks};
 ghost use Rattle.std.specs.List.{flat_map};
 ghost use Rattle.wild_types.specs.FileRoles.{is_prelude, is_epilogue};
 ghost use Rattle.wild_laid.specs.Laid.{of_last_file};
 ghost use Rattle.wild_layout.specs.Image.{merged_bytes, of_first_file};
-ghost use Rattle.wild_image.specs.Append.{BeginsWith, GoesOn, GivesItsShares, LoadedLies, SortedLies, SomeLies, MergedLies, FileLies};
-ghost use Rattle.wild_image.specs.Pieces.{standing, section_owned, loaded_owned, file_sections, sorted_owned, all_sorted, once_bytes, ends_bytes, file_bytes, group_tables, group_files, in_part, owned_in, loaded_in, sections_owned, sorted_in, all_sorted_in, merged_in, once_in, ends_in, thunk_in, thunks_in, file_owned, group_owned, group_parts};
+ghost use Rattle.wild_image.specs.Append.{BeginsWith, GoesOn, GivesItsShares, RangedLies, SortedLies, SomeLies, MergedLies, FileLies};
+ghost use Rattle.wild_image.specs.Pieces.{file_sections, sorted_owned, all_sorted, once_bytes, ends_bytes, file_bytes, group_tables, group_files, in_part, sections_owned, sorted_in, all_sorted_in, merged_in, once_in, ends_in, thunk_in, thunks_in, file_owned, group_owned, group_parts};
 
-use crate::append::{merged_size, owns_room, table_size};
+use crate::append::{merged_size, owns_range, owns_room, table_size};
 use crate::buffer::GroupBytes;
 use std::alloc::{AllocError, Global};
 use wild_contents::PartBytes;
@@ -46,44 +46,24 @@ fn cut_tables(
     Ok(())
 }
 
-/// Adds the bytes of a section that is loaded or sorted, the first of these, to those of its part, and tells what stands behind them.
-fn cut_standing<'b>(
-    layout: &Layout,
+/// Adds the bytes of a section, the first of these, to those of its part, where it owns some, and tells what stands behind them.
+fn cut_own<'b>(
     section: &InputSection,
+    owns: bool,
     bytes: &'b [u8],
     parts: &mut [PartBytes],
 ) -> Result<&'b [u8], AllocError>
-    requires lies { SectionLies layout.now (standing section.now) }
-    requires room { length parts.old ≡ length layout.now.parts }
-    requires own { (f : File) × BeginsWith (section_owned layout.now f (standing section.now)) bytes.now }
-    ensures owned { OnOk result ((f : File) → BeginsWith (section_owned layout.now f (standing section.now)) bytes.now → (k : ℕ) → k < length parts.old → slice_index_or parts.new k [] ≡ slice_index_or parts.old k [] ++ owned_in layout.now f k (standing section.now)) }
-    ensures rest { IfOk result (λ r. (f : File) → BeginsWith (section_owned layout.now f (standing section.now)) bytes.now → GoesOn (section_owned layout.now f (standing section.now)) bytes.now r.now) }
+    requires own { owns ≡ true → section.now.size ≤ length bytes.now }
+    requires part { owns ≡ true → section.now.part < length parts.old }
+    ensures owned { OnOk result ((k : ℕ) → k < length parts.old → slice_index_or parts.new k [] ≡ slice_index_or parts.old k [] ++ (if owns then in_part k section.now.part (take section.now.size bytes.now) else [])) }
+    ensures rest { IfOk result (λ r. r.now ≡ (if owns then drop section.now.size bytes.now else bytes.now)) }
 {
-    if !owns_room(layout, section) {
+    if !owns {
         return Ok(bytes);
     }
     let (own, rest) = bytes.split_at(section.size as usize);
     parts[section.part].extend(own)?;
     Ok(rest)
-}
-
-/// Adds the bytes of a section, the first of these, to those of its part, where it is a loaded one, and tells what stands behind them.
-fn cut_section<'b>(
-    layout: &Layout,
-    section: &InputSection,
-    bytes: &'b [u8],
-    parts: &mut [PartBytes],
-) -> Result<&'b [u8], AllocError>
-    requires lies { LoadedLies layout.now section.now }
-    requires room { length parts.old ≡ length layout.now.parts }
-    requires own { (f : File) × BeginsWith (loaded_owned layout.now f section.now) bytes.now }
-    ensures owned { OnOk result ((f : File) → BeginsWith (loaded_owned layout.now f section.now) bytes.now → (k : ℕ) → k < length parts.old → slice_index_or parts.new k [] ≡ slice_index_or parts.old k [] ++ loaded_in layout.now f k section.now) }
-    ensures rest { IfOk result (λ r. (f : File) → BeginsWith (loaded_owned layout.now f section.now) bytes.now → GoesOn (loaded_owned layout.now f section.now) bytes.now r.now) }
-{
-    if section.slot.is_loaded() {
-        return cut_standing(layout, section, bytes, parts);
-    }
-    Ok(bytes)
 }
 
 /// Adds the bytes of the sections of a file to those of their parts, and tells what stands behind them.
@@ -93,7 +73,7 @@ fn cut_sections<'b>(
     bytes: &'b [u8],
     parts: &mut [PartBytes],
 ) -> Result<&'b [u8], AllocError>
-    requires lies { All (LoadedLies layout.now) file.now.sections }
+    requires lies { All (RangedLies layout.now file.now) file.now.sections }
     requires room { length parts.old ≡ length layout.now.parts }
     requires own { BeginsWith (file_sections layout.now file.now) bytes.now }
     ensures owned { OnOk result ((k : ℕ) → k < length parts.old → slice_index_or parts.new k [] ≡ slice_index_or parts.old k [] ++ sections_owned layout.now k file.now) }
@@ -101,7 +81,7 @@ fn cut_sections<'b>(
 {
     let mut rest = bytes;
     for section in file.sections.as_slice() {
-        rest = cut_section(layout, section, rest, parts)?;
+        rest = cut_own(section, owns_range(layout, section), rest, parts)?;
     }
     Ok(rest)
 }
@@ -120,7 +100,10 @@ fn cut_sorted_section<'b>(
     ensures rest { IfOk result (λ r. GoesOn (sorted_owned layout.now entry.now) bytes.now r.now) }
 {
     match sorted_input(layout, *entry) {
-        Some(input) => cut_standing(layout, input.section, bytes, parts),
+        Some(input) => {
+            let owns = owns_room(layout, input.section);
+            cut_own(input.section, owns, bytes, parts)
+        }
         None => Ok(bytes),
     }
 }

@@ -57,6 +57,8 @@ impl<'a, A: Arch> Job<Outcome> for GroupJob<'a, A> {
 
     ghost counts_of = { λ j i. pairs_at j.resolved.layout.now j.batches.now i };
 
+    ghost ready = { λ _. Unit {0} };
+
     fn groups(&self) -> u32 {
         self.batches.len() as u32
     }

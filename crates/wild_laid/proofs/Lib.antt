@@ -7,3 +7,4 @@ pub mod SumLemmas
 pub mod WordLemmas
 pub mod KeepLemmas
 pub mod StoodLemmas
+pub mod TableLemmas

@@ -7,36 +7,41 @@ use Rattle.wild_types.specs.declared.input.InputSection.{InputSection}
 use Rattle.wild_types.specs.declared.file.File.{File}
 use Rattle.wild_types.specs.declared.file.Group.{Group}
 use Rattle.wild_types.specs.declared.layout.Layout.{Layout}
-use Rattle.wild_types.specs.Lookups.{is_frame}
+use Rattle.wild_types.specs.Kinds.{is_partial_link}
+use Rattle.wild_types.specs.Lookups.{is_frame, is_rela}
 use Rattle.wild_laid.specs.Turned.{as_turned}
 use Rattle.wild_laid.specs.FrameInputs.{kept_size}
 use Rattle.wild_laid.specs.Plain.{StandsAsItIs, StandAsTheyAre}
-use Rattle.wild_laid.specs.Laid.{laid_by, laid_section, laid_sections, laid_file, laid_from, laid_files, behind, file_frames, frames_at}
+use Rattle.wild_laid.specs.Laid.{laid_by, laid_section, laid_sections, laid_file, laid_from, laid_files, behind, file_frames, frames_at, unread}
 
 turned_plain : (s : InputSection) → s.reversed ≡ false → as_turned s ≡ s
 unfolding as_turned
 turned_plain s h = rw h refl
 
-by_slot : (k : Slot) (l : Layout) (f : File) (at : ℕ) (s : InputSection) → is_frame k ≡ false → s.reversed ≡ false → laid_by k l f at s ≡ s
-by_slot slot.Loaded l f at s h r = turned_plain s r
-by_slot slot.Frame l f at s h r = cc
-by_slot slot.Discard l f at s h r = refl
-by_slot slot.Sorted l f at s h r = refl
-by_slot slot.Debug l f at s h r = refl
-by_slot slot.Merge l f at s h r = refl
-by_slot slot.Rela l f at s h r = refl
-by_slot slot.Group l f at s h r = refl
+-- outside relocatable objects, relocations are read
+pub unread_linked : (l : Layout) (s : InputSection) → is_partial_link l.kind ≡ false → unread l s ≡ s
+unread_linked l s h = rw h refl
+
+by_slot : (k : Slot) (l : Layout) (f : File) (at : ℕ) (s : InputSection) → is_partial_link l.kind ≡ false → is_frame k ≡ false → is_rela k ≡ false → s.reversed ≡ false → laid_by k l f at s ≡ s
+by_slot slot.Loaded l f at s p h t r = ap as_turned (unread_linked l s p) ∙ turned_plain s r
+by_slot slot.Debug l f at s p h t r = turned_plain s r
+by_slot slot.Frame l f at s p h t r = cc
+by_slot slot.Rela l f at s p h t r = cc
+by_slot slot.Discard l f at s p h t r = refl
+by_slot slot.Sorted l f at s p h t r = refl
+by_slot slot.Merge l f at s p h t r = refl
+by_slot slot.Group l f at s p h t r = refl
 
 -- a section of which nothing moves stands as it is
-pub plain_section : (l : Layout) (f : File) (at : ℕ) (s : InputSection) → StandsAsItIs s → laid_section l f at s ≡ s
+pub plain_section : (l : Layout) (f : File) (at : ℕ) (s : InputSection) → is_partial_link l.kind ≡ false → StandsAsItIs s → laid_section l f at s ≡ s
 unfolding laid_section
-plain_section l f at s h = by_slot s.slot l f at s h.frame h.reversed
+plain_section l f at s p h = by_slot s.slot l f at s p h.frame h.table h.reversed
 
-pub plain_sections : (l : Layout) (f : File) (at : ℕ) (ss : List InputSection) → All StandsAsItIs ss → laid_sections l f at ss ≡ ss
-plain_sections l f at [] a = refl
-plain_sections l f at (s ∷ ss) a =
-    ap (λ (x : InputSection). x ∷ laid_sections l f (behind at (kept_size l f s)) ss) (plain_section l f at s (All-head StandsAsItIs s ss a))
-    ∙ ap (λ xs. s ∷ xs) (plain_sections l f (behind at (kept_size l f s)) ss (All-tail StandsAsItIs s ss a))
+pub plain_sections : (l : Layout) (f : File) (at : ℕ) (ss : List InputSection) → is_partial_link l.kind ≡ false → All StandsAsItIs ss → laid_sections l f at ss ≡ ss
+plain_sections l f at [] p a = refl
+plain_sections l f at (s ∷ ss) p a =
+    ap (λ (x : InputSection). x ∷ laid_sections l f (behind at (kept_size l f s)) ss) (plain_section l f at s p (All-head StandsAsItIs s ss a))
+    ∙ ap (λ xs. s ∷ xs) (plain_sections l f (behind at (kept_size l f s)) ss p (All-tail StandsAsItIs s ss a))
 
 abbrev with_sections : File → List InputSection → File
 with_sections f ss = record {
@@ -52,16 +57,16 @@ with_sections f ss = record {
 }
 
 -- and so does a file of such
-pub plain_laid : (l : Layout) (at : ℕ) (f : File) → StandAsTheyAre f → laid_file l at f ≡ f
-plain_laid l at f a = ap (with_sections f) (plain_sections l f at f.sections a)
+pub plain_laid : (l : Layout) (at : ℕ) (f : File) → is_partial_link l.kind ≡ false → StandAsTheyAre f → laid_file l at f ≡ f
+plain_laid l at f p a = ap (with_sections f) (plain_sections l f at f.sections p a)
 
-plain_from : (l : Layout) (at : ℕ) (fs : List File) → All StandAsTheyAre fs → laid_from l at fs ≡ fs
-plain_from l at [] a = refl
-plain_from l at (f ∷ fs) a =
-    ap (λ (x : File). x ∷ laid_from l (behind at (file_frames l f)) fs) (plain_laid l at f (All-head StandAsTheyAre f fs a))
-    ∙ ap (λ xs. f ∷ xs) (plain_from l (behind at (file_frames l f)) fs (All-tail StandAsTheyAre f fs a))
+plain_from : (l : Layout) (at : ℕ) (fs : List File) → is_partial_link l.kind ≡ false → All StandAsTheyAre fs → laid_from l at fs ≡ fs
+plain_from l at [] p a = refl
+plain_from l at (f ∷ fs) p a =
+    ap (λ (x : File). x ∷ laid_from l (behind at (file_frames l f)) fs) (plain_laid l at f p (All-head StandAsTheyAre f fs a))
+    ∙ ap (λ xs. f ∷ xs) (plain_from l (behind at (file_frames l f)) fs p (All-tail StandAsTheyAre f fs a))
 
 -- and the files of a group
-pub plain_files : (l : Layout) (g : Group) → All StandAsTheyAre g.files → laid_files l g ≡ g.files
+pub plain_files : (l : Layout) (g : Group) → is_partial_link l.kind ≡ false → All StandAsTheyAre g.files → laid_files l g ≡ g.files
 unfolding laid_files
-plain_files l g a = plain_from l (frames_at l g) g.files a
+plain_files l g p a = plain_from l (frames_at l g) g.files p a

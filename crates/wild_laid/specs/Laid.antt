@@ -3,13 +3,15 @@
 --   laid_relocations fs     the same at the entries' new places
 --   framed l f at s         a section of frames as it stands: its kept entries one behind the other, from an address on
 --   origins_of l f s        the relocations of a section as it stands, as the input has them
+--   unread l s              of a relocatable object, a section without its relocations, which stand in a table of their own
+--   tabled f s              a table of relocations: those of its target, at their places in the output
 --   laid_section l f at s   a section of file f as it stands
 --   laid_file l at f        a file with its sections so, whose frames begin at an address
 --   file_frames l f         how many bytes of frames a file keeps
 --   laid_files l g          the files of a group so: its frames stand one behind the other from where the group's begin
 --   sorted_inputs l         the sections that stand in the order of `sorted`, each with its file
 --   processed l f           the sections that a file's entries are made of: its own, and the last file's the sorted ones besides
-use Rattle.std.specs.Prelude.{ℕ, ◌+◌, ◌-◌, ◌%◌, ◌^◌, ◌&&◌, Bool, true, false, not, if◌then◌else◌, nat_le, nat_lt, List, [], ◌∷◌, ◌++◌, length, map, Option, Some, None, slice_get}
+use Rattle.std.specs.Prelude.{ℕ, ◌+◌, ◌-◌, ◌%◌, ◌^◌, ◌&&◌, Bool, true, false, not, if◌then◌else◌, nat_le, nat_lt, List, [], ◌∷◌, ◌++◌, length, map, Option, Some, None, is_some, slice_get}
 use Rattle.std.specs.List.{flat_map}
 use Rattle.wild_records.specs.Abi.Section.{shf_write, shf_execinstr}
 use Rattle.wild_types.specs.declared.part.Part.{Part}
@@ -23,6 +25,7 @@ use Rattle.wild_types.specs.declared.file.Group.{Group}
 use Rattle.wild_types.specs.declared.layout.SortedSection.{SortedSection}
 use Rattle.wild_types.specs.declared.layout.Layout.{Layout}
 use Rattle.wild_types.specs.FileRoles.{is_epilogue}
+use Rattle.wild_types.specs.Kinds.{is_partial_link}
 use Rattle.wild_types.specs.Lists.{total}
 use Rattle.wild_types.specs.Lookups.{writable, executable, is_frame}
 use Rattle.wild_types.specs.Parts.{part_with}
@@ -78,16 +81,79 @@ framed_with s at fs = record {
 abbrev pub framed : Layout → File → ℕ → InputSection → InputSection
 framed l f at s = framed_with s at (frames_of l f s)
 
+-- ---- relocatable objects
+
+-- the bytes of a section of a relocatable object are those of the input, whatever relocations it has: they stand in a table of their own
+-- (gABI, "Relocation")
+abbrev pub without_relocations : InputSection → InputSection
+without_relocations s = record {
+  slot = s.slot;
+  name = s.name;
+  part = s.part;
+  address = s.address;
+  size = s.size;
+  flags = s.flags;
+  nobits = s.nobits;
+  reversed = s.reversed;
+  singleton = s.singleton;
+  target = s.target;
+  members = s.members;
+  bytes = s.bytes;
+  strings = s.strings;
+  relocations = [];
+}
+
+abbrev pub unread : Layout → InputSection → InputSection
+unread l s = if is_partial_link l.kind then without_relocations s else s
+
+-- where the input section begins in its output section; a section that the object keeps by itself begins it
+abbrev pub base_of : InputSection → ℕ
+base_of s = if is_some s.singleton then 0 else s.address
+
+-- a relocation of a section that begins there in its output section (gABI, "Relocation": in a relocatable file r_offset is counted from
+-- the beginning of the section)
+abbrev pub counted_from : ℕ → InputRelocation → InputRelocation
+counted_from base r = record { offset = (base + r.offset) % 2 ^ 64; number = r.number; symbol = r.symbol; addend = r.addend; malformed = r.malformed }
+
+abbrev pub relocations_at : Option InputSection → List InputRelocation
+relocations_at None = []
+relocations_at (Some s) = map (counted_from (base_of s)) (as_turned s).relocations
+
+-- the relocations of the target of a table of relocations, in its file
+abbrev pub target_relocations : File → InputSection → List InputRelocation
+target_relocations f s = relocations_at (slice_get f.sections s.target)
+
+-- the table, with those
+abbrev pub tabled : File → InputSection → InputSection
+tabled f s = record {
+  slot = slot.Rela;
+  name = [];
+  part = s.part;
+  address = s.address;
+  size = s.size;
+  flags = s.flags;
+  nobits = s.nobits;
+  reversed = false;
+  singleton = None;
+  target = s.target;
+  members = [];
+  bytes = [];
+  strings = [];
+  relocations = target_relocations f s;
+}
+
 -- the relocations of a section as it stands, as the input has them
 abbrev pub origins_of : Layout → File → InputSection → List InputRelocation
-origins_of l f s = if is_frame s.slot then kept_relocations (frames_of l f s) else s.relocations
+origins_of l f s = if is_frame s.slot then kept_relocations (frames_of l f s) else (unread l s).relocations
 
 -- ---- files
 
 -- a section of file f as it stands, where the file's next frames stand at an address
 abbrev pub laid_by : Slot → Layout → File → ℕ → InputSection → InputSection
-laid_by slot.Loaded l f at s = as_turned s
+laid_by slot.Loaded l f at s = as_turned (unread l s)
+laid_by slot.Debug l f at s = as_turned s
 laid_by slot.Frame l f at s = framed l f at s
+laid_by slot.Rela l f at s = tabled f s
 laid_by other l f at s = s
 
 unfoldable pub laid_section : Layout → File → ℕ → InputSection → InputSection
@@ -165,17 +231,17 @@ as_loaded s = record {
   relocations = s.relocations;
 }
 
-abbrev pub sorted_by : File → Slot → InputSection → List Input
-sorted_by f slot.Sorted s = record { file = f; section = as_loaded s } ∷ []
-sorted_by f other s = []
+abbrev pub sorted_by : Layout → File → Slot → InputSection → List Input
+sorted_by l f slot.Sorted s = record { file = f; section = as_loaded (unread l s) } ∷ []
+sorted_by l f other s = []
 
-abbrev pub sorted_in_file : File → Option InputSection → List Input
-sorted_in_file f None = []
-sorted_in_file f (Some s) = sorted_by f s.slot s
+abbrev pub sorted_in_file : Layout → File → Option InputSection → List Input
+sorted_in_file l f None = []
+sorted_in_file l f (Some s) = sorted_by l f s.slot s
 
-abbrev pub sorted_in_group : Option File → ℕ → List Input
-sorted_in_group None k = []
-sorted_in_group (Some f) k = sorted_in_file f (slice_get f.sections k)
+abbrev pub sorted_in_group : Layout → Option File → ℕ → List Input
+sorted_in_group l None k = []
+sorted_in_group l (Some f) k = sorted_in_file l f (slice_get f.sections k)
 
 abbrev pub files_at : Option Group → List File
 files_at None = []
@@ -183,7 +249,7 @@ files_at (Some g) = g.files
 
 -- the section that is named, where it is a sorted one
 unfoldable pub sorted_input : Layout → SortedSection → List Input
-sorted_input l x = sorted_in_group (slice_get (files_at (slice_get l.groups x.group)) x.file) x.section
+sorted_input l x = sorted_in_group l (slice_get (files_at (slice_get l.groups x.group)) x.file) x.section
 
 -- the sorted sections in their order, each with its file
 abbrev pub sorted_inputs : Layout → List Input

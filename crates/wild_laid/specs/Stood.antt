@@ -1,7 +1,9 @@
 -- What the code knows of a section as it stands.
 --   stood_section l f at s   a section of file f with its relocations as the input has them, and the fault of its frames
---   stood_sorted s           the same of a sorted section
---   inputs r                 a sorted section with its file, as a loaded one
+--   stood_sorted l s         the same of a sorted section
+--   inputs l r               a sorted section with its file, as a loaded one
+--   copy_with k rs s         a section in another slot, with other relocations
+--   placed_at s r            a relocation of the target of a table, as the table has it
 --   StaysLow k r             a relocation of a kept entry has a place of 64 bits
 use Rattle.std.specs.List.{flat_map}
 use Rattle.std.specs.Prelude.{◌≡◌, ℕ, false, length, ◌+◌, ◌-◌, ◌<◌, ◌^◌, if◌then◌else◌, List, [], ◌∷◌, map, All, Option, Some, None}
@@ -9,6 +11,7 @@ use Rattle.wild_types.specs.declared.input.InputRelocation.{InputRelocation}
 use Rattle.wild_types.specs.declared.input.InputSection.{InputSection}
 use Rattle.wild_types.specs.declared.file.File.{File}
 use Rattle.wild_types.specs.declared.layout.Layout.{Layout}
+use Rattle.wild_types.specs.declared.input.Slot.{Slot}
 use Rattle.wild_types.specs.declared.input.Slot.TheVariants as slot
 use Rattle.wild_types.specs.Lookups.{is_frame}
 use Rattle.wild_frames.specs.declared.entry.BadFrame.{BadFrame}
@@ -18,9 +21,9 @@ use Rattle.wild_frames.specs.declared.entry.Found.TheVariants as finds
 use Rattle.wild_frames.specs.Frames.{Frames, found_bytes}
 use Rattle.wild_frames.specs.Faults.{frame_errors}
 use Rattle.wild_laid.specs.declared.sorted.SortedInput.{SortedInput}
-use Rattle.wild_laid.specs.Turned.{as_turned}
+use Rattle.wild_laid.specs.Turned.{as_turned, turned_offset}
 use Rattle.wild_laid.specs.FrameInputs.{frames_of}
-use Rattle.wild_laid.specs.Laid.{Input, as_loaded, entry_relocations, moved_by, frame_flags, framed, kept_relocations, laid_section, origins_of}
+use Rattle.wild_laid.specs.Laid.{Input, as_loaded, entry_relocations, moved_by, frame_flags, framed, kept_relocations, laid_section, origins_of, unread, base_of, counted_from}
 
 -- a section as it stands, its relocations as the input has them, and the fault that ends its frames
 pub record Stood : Type 0 where
@@ -39,21 +42,44 @@ stood_section l f at s = record { section = laid_section l f at s; origins = ori
 abbrev pub stood_frames : Layout → File → ℕ → InputSection → Stood
 stood_frames l f at s = record { section = framed l f at s; origins = kept_relocations (frames_of l f s); faults = frame_errors (frames_of l f s) }
 
--- one that is loaded
-abbrev pub stood_loaded : InputSection → Stood
-stood_loaded s = record { section = as_turned s; origins = s.relocations; faults = [] }
+-- one of no frames, that stands so
+abbrev pub stood_so : Layout → InputSection → InputSection → Stood
+stood_so l s x = record { section = x; origins = (unread l s).relocations; faults = [] }
 
--- one that stands as it is
-abbrev pub stood_plain : InputSection → Stood
-stood_plain s = record { section = s; origins = s.relocations; faults = [] }
+abbrev pub stood_sorted : Layout → InputSection → Stood
+stood_sorted l s = stood_so l s (as_turned (as_loaded (unread l s)))
 
-abbrev pub stood_sorted : InputSection → Stood
-stood_sorted s = record { section = as_turned (as_loaded s); origins = s.relocations; faults = [] }
+-- a section in another slot, with other relocations
+abbrev pub copy_with : Slot → List InputRelocation → InputSection → InputSection
+copy_with k rs s = record {
+  slot = k;
+  name = s.name;
+  part = s.part;
+  address = s.address;
+  size = s.size;
+  flags = s.flags;
+  nobits = s.nobits;
+  reversed = s.reversed;
+  singleton = s.singleton;
+  target = s.target;
+  members = s.members;
+  bytes = s.bytes;
+  strings = s.strings;
+  relocations = rs;
+}
+
+-- a relocation of a section at the place of its word, where that is another
+abbrev pub turned_in : InputSection → InputRelocation → InputRelocation
+turned_in s r = if s.reversed then turned_offset s.size r else r
+
+-- a relocation of the target of a table, as the table has it
+abbrev pub placed_at : InputSection → InputRelocation → InputRelocation
+placed_at s r = counted_from (base_of s) (turned_in s r)
 
 -- a sorted section that was found, as a loaded one
-abbrev pub inputs : Option SortedInput → List Input
-inputs None = []
-inputs (Some x) = record { file = x.file.now; section = as_loaded x.section.now } ∷ []
+abbrev pub inputs : Layout → Option SortedInput → List Input
+inputs l None = []
+inputs l (Some x) = record { file = x.file.now; section = as_loaded (unread l x.section.now) } ∷ []
 
 -- the new place of a relocation of a kept entry has 64 bits
 abbrev pub StaysLow : KeptEntry → InputRelocation → Type 0

@@ -5,12 +5,13 @@ ghost use Rattle.wild_frames.specs.Frames.{rest_of, start};
 ghost use Rattle.wild_frames.specs.Passes.{IsReady};
 ghost use Rattle.wild_laid.specs.Turned.{turned_offset, as_turned};
 ghost use Rattle.wild_laid.specs.FrameInputs.{frames_of};
-ghost use Rattle.wild_laid.specs.Laid.{moved_by, laid_relocations, laid_section};
-ghost use Rattle.wild_laid.specs.Stood.{StaysLow, StayLow, found_moved, found_laid};
+ghost use Rattle.wild_laid.specs.Laid.{moved_by, laid_relocations, laid_section, unread, target_relocations};
+ghost use Rattle.wild_laid.specs.Stood.{StaysLow, StayLow, found_moved, found_laid, placed_at};
 ghost use Rattle.wild_laid.specs.Runs.{Ran};
 
 use crate::frames::FileFrames;
 use crate::kept::moved_by;
+use crate::tables::{placed_at, target_of};
 use crate::words::turned_offset;
 use wild_frames::{Found, FrameSource, KeptEntry, Pass, goes_on};
 use wild_types::{File, InputRelocation, InputSection, Layout, Slot};
@@ -66,10 +67,10 @@ fn give_reversed<S: RelocationSink>(
     Ok(())
 }
 
-/// Gives the relocations of a section that is loaded or sorted, as it stands.
+/// Gives the relocations of a section that debuggers read, as it stands.
 #[inline(always)]
 #[tactic(auto, unfolding(crate::specs::Turned::as_turned))]
-pub fn give_turned<S: RelocationSink>(section: &InputSection, sink: &mut S) -> Result<(), S::Error>
+fn give_words<S: RelocationSink>(section: &InputSection, sink: &mut S) -> Result<(), S::Error>
     ensures { Ran S.goes S.refuses sink.old (as_turned section.now).relocations result sink.new }
 {
     let relocations = section.relocations.as_slice();
@@ -77,6 +78,54 @@ pub fn give_turned<S: RelocationSink>(section: &InputSection, sink: &mut S) -> R
         give_reversed(section.size, relocations, sink)
     } else {
         give_all(relocations, sink)
+    }
+}
+
+/// Gives the relocations of a section that is loaded or sorted, as it stands: in a relocatable object none.
+#[inline(always)]
+#[tactic(auto, using(crate::proofs::RunLemmas::runs, crate::proofs::TableLemmas::none_read))]
+pub fn give_turned<S: RelocationSink>(
+    layout: &Layout,
+    section: &InputSection,
+    sink: &mut S,
+) -> Result<(), S::Error>
+    ensures { Ran S.goes S.refuses sink.old (as_turned (unread layout.now section.now)).relocations result sink.new }
+{
+    if layout.kind.is_partial_link() {
+        Ok(())
+    } else {
+        give_words(section, sink)
+    }
+}
+
+/// Gives the relocations of the target of a table, as the table has them.
+#[inline(always)]
+#[tactic(auto, using(crate::proofs::RunLemmas::mapped_loops))]
+fn give_placed<S: RelocationSink>(
+    target: &InputSection,
+    relocations: &[InputRelocation],
+    sink: &mut S,
+) -> Result<(), S::Error>
+    ensures { Ran S.goes S.refuses sink.old (map (placed_at target.now) relocations.now) result sink.new }
+{
+    for relocation in relocations {
+        sink.take(placed_at(target, *relocation))?;
+    }
+    Ok(())
+}
+
+/// Gives those of a table of relocations.
+#[inline(always)]
+fn give_table<S: RelocationSink>(
+    file: &File,
+    section: &InputSection,
+    sink: &mut S,
+) -> Result<(), S::Error>
+    ensures { Ran S.goes S.refuses sink.old (target_relocations file.now section.now) result sink.new }
+{
+    match target_of(file, section) {
+        Some(target) => give_placed(target, target.relocations.as_slice(), sink),
+        None => Ok(()),
     }
 }
 
@@ -168,7 +217,9 @@ pub fn give_relocations<S: RelocationSink>(
             },
             sink,
         ),
-        Slot::Loaded => give_turned(section, sink),
+        Slot::Loaded => give_turned(layout, section, sink),
+        Slot::Debug => give_words(section, sink),
+        Slot::Rela => give_table(file, section, sink),
         _ => give_all(section.relocations.as_slice(), sink),
     }
 }

@@ -8,6 +8,7 @@ mod kept;
 mod laws;
 mod placed;
 mod sorted;
+mod tables;
 mod words;
 
 pub use counts::{all_fdes, fde_count, file_frames, frames_at, kept_size};

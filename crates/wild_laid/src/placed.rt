@@ -1,11 +1,12 @@
 //! Sections as they stand, in memory.
-ghost use Rattle.std.specs.Prelude.{◌≡◌, IfOk, option_to_list};
+ghost use Rattle.std.specs.Prelude.{◌≡◌, IfOk, option_to_list, unwrap_or};
 ghost use Rattle.wild_laid.specs.Turned.{as_turned};
-ghost use Rattle.wild_laid.specs.Laid.{as_loaded};
-ghost use Rattle.wild_laid.specs.Stood.{stood_section, stood_frames, stood_loaded, stood_plain, stood_sorted};
+ghost use Rattle.wild_laid.specs.Laid.{as_loaded, unread, tabled};
+ghost use Rattle.wild_laid.specs.Stood.{stood_section, stood_frames, stood_so, stood_sorted, copy_with};
 
 use crate::frames::FileFrames;
 use crate::kept::{framed, keep};
+use crate::tables::tabled;
 use crate::words::turned;
 use std::alloc::{AllocError, Global};
 use std::marker::Model;
@@ -84,63 +85,59 @@ fn lay_frames<'a>(
     })
 }
 
-/// A section that stands as it is.
-fn as_it_is(section: &InputSection) -> LaidSection<'_>
-    ensures { result ≡ stood_plain section.now }
+/// A section of no frames, by what stands of it where that is another. No relocations of a relocatable object are read.
+fn laid<'a>(
+    alloc: Global,
+    layout: &Layout,
+    section: &'a InputSection,
+    stands: Option<InputSection>,
+) -> LaidSection<'a>
+    ensures { result ≡ stood_so layout.now section.now (unwrap_or stands section.now) }
 {
+    let origins = if layout.kind.is_partial_link() {
+        Some(Items::new(alloc))
+    } else {
+        None
+    };
     LaidSection {
         input: section,
-        stands: None,
-        origins: None,
+        stands,
+        origins,
         fault: None,
     }
 }
 
 /// A section with its words in reverse order, where it is to have them so.
 #[tactic(auto, unfolding(crate::specs::Turned::as_turned))]
-fn lay_loaded(alloc: Global, section: &InputSection) -> Result<LaidSection<'_>, AllocError>
-    ensures { IfOk result (λ x. x ≡ stood_loaded section.now) }
-{
-    if !section.reversed {
-        return Ok(as_it_is(section));
-    }
-    let stands = turned(alloc, section)?;
-    Ok(LaidSection {
-        input: section,
-        stands: Some(stands),
-        origins: None,
-        fault: None,
-    })
-}
-
-/// A section of a file as it stands, where the file's next frames stand at an address. Memory for what moves: the kept bytes and
-/// relocations of frames, with the places of their CIEs, and the bytes and relocations of a reversed section. One pass over them.
-#[tactic(auto, unfolding(crate::specs::Laid::laid_section))]
-pub fn lay<'a>(
+fn lay_turned<'a>(
     alloc: Global,
     layout: &Layout,
-    file: &File,
-    at: u64,
     section: &'a InputSection,
 ) -> Result<LaidSection<'a>, AllocError>
-    ensures { IfOk result (λ x. x ≡ stood_section layout.now file.now at section.now) }
+    ensures { IfOk result (λ x. x ≡ stood_so layout.now section.now (as_turned section.now)) }
 {
-    match section.slot {
-        Slot::Frame => lay_frames(alloc, layout, file, at, section),
-        Slot::Loaded => lay_loaded(alloc, section),
-        _ => Ok(as_it_is(section)),
+    if !section.reversed {
+        return Ok(laid(alloc, layout, section, None));
     }
+    let stands = turned(alloc, section)?;
+    Ok(laid(alloc, layout, section, Some(stands)))
 }
 
-/// A sorted section as a loaded one.
-fn loaded(alloc: Global, section: &InputSection) -> Result<InputSection, AllocError>
-    ensures { IfOk result (λ s. s ≡ as_loaded section.now) }
+/// A copy of a section in another slot, with other relocations.
+fn copy_with(
+    alloc: Global,
+    slot: Slot,
+    relocations: Vec<InputRelocation>,
+    section: &InputSection,
+) -> Result<InputSection, AllocError>
+    ensures { IfOk result (λ s. s ≡ copy_with slot relocations.items section.now) }
 {
     let name = section.name.as_slice().to_vec(alloc)?;
+    let members = section.members.as_slice().to_vec(alloc)?;
     let bytes = section.bytes.as_slice().to_vec(alloc)?;
-    let relocations = section.relocations.as_slice().to_vec(alloc)?;
+    let strings = section.strings.as_slice().to_vec(alloc)?;
     Ok(InputSection {
-        slot: Slot::Loaded,
+        slot,
         name: Bytes::from_vec(name),
         part: section.part,
         address: section.address,
@@ -150,9 +147,9 @@ fn loaded(alloc: Global, section: &InputSection) -> Result<InputSection, AllocEr
         reversed: section.reversed,
         singleton: section.singleton,
         target: section.target,
-        members: Items::from_vec(section.members.as_slice().to_vec(alloc)?),
+        members: Items::from_vec(members),
         bytes: Bytes::from_vec(bytes),
-        strings: Items::from_vec(section.strings.as_slice().to_vec(alloc)?),
+        strings: Items::from_vec(strings),
         relocations: Items::from_vec(relocations),
     })
 }
@@ -169,16 +166,82 @@ fn as_turned(alloc: Global, section: InputSection) -> Result<InputSection, Alloc
     }
 }
 
-/// A sorted section as it stands.
-pub fn lay_sorted(alloc: Global, section: &InputSection) -> Result<LaidSection<'_>, AllocError>
-    ensures { IfOk result (λ x. x ≡ stood_sorted section.now) }
+/// A section that is loaded: in a relocatable object without its relocations, which stand in a table of their own.
+fn lay_loaded<'a>(
+    alloc: Global,
+    layout: &Layout,
+    section: &'a InputSection,
+) -> Result<LaidSection<'a>, AllocError>
+    ensures { IfOk result (λ x. x ≡ stood_so layout.now section.now (as_turned (unread layout.now section.now))) }
 {
-    let loaded = loaded(alloc, section)?;
+    if !layout.kind.is_partial_link() {
+        return lay_turned(alloc, layout, section);
+    }
+    let unread = copy_with(alloc, section.slot, Vec::new(alloc), section)?;
+    let stands = as_turned(alloc, unread)?;
+    Ok(laid(alloc, layout, section, Some(stands)))
+}
+
+/// A table of relocations, with those of its target.
+fn lay_table<'a>(
+    alloc: Global,
+    layout: &Layout,
+    file: &File,
+    section: &'a InputSection,
+) -> Result<LaidSection<'a>, AllocError>
+    ensures { IfOk result (λ x. x ≡ stood_so layout.now section.now (tabled file.now section.now)) }
+{
+    let stands = tabled(alloc, file, section)?;
+    Ok(laid(alloc, layout, section, Some(stands)))
+}
+
+/// A section of a file as it stands, where the file's next frames stand at an address. Memory for what moves: the kept bytes and
+/// relocations of frames, with the places of their CIEs, the bytes and relocations of a reversed section, the relocations of a table, and in
+/// a relocatable object the bytes of what is loaded. One pass over them.
+#[tactic(auto, unfolding(crate::specs::Laid::laid_section))]
+pub fn lay<'a>(
+    alloc: Global,
+    layout: &Layout,
+    file: &File,
+    at: u64,
+    section: &'a InputSection,
+) -> Result<LaidSection<'a>, AllocError>
+    ensures { IfOk result (λ x. x ≡ stood_section layout.now file.now at section.now) }
+{
+    match section.slot {
+        Slot::Frame => lay_frames(alloc, layout, file, at, section),
+        Slot::Loaded => lay_loaded(alloc, layout, section),
+        Slot::Debug => lay_turned(alloc, layout, section),
+        Slot::Rela => lay_table(alloc, layout, file, section),
+        _ => Ok(laid(alloc, layout, section, None)),
+    }
+}
+
+/// A sorted section as a loaded one.
+fn loaded(
+    alloc: Global,
+    layout: &Layout,
+    section: &InputSection,
+) -> Result<InputSection, AllocError>
+    ensures { IfOk result (λ s. s ≡ as_loaded (unread layout.now section.now)) }
+{
+    let relocations = if layout.kind.is_partial_link() {
+        Vec::new(alloc)
+    } else {
+        section.relocations.as_slice().to_vec(alloc)?
+    };
+    copy_with(alloc, Slot::Loaded, relocations, section)
+}
+
+/// A sorted section as it stands.
+pub fn lay_sorted<'a>(
+    alloc: Global,
+    layout: &Layout,
+    section: &'a InputSection,
+) -> Result<LaidSection<'a>, AllocError>
+    ensures { IfOk result (λ x. x ≡ stood_sorted layout.now section.now) }
+{
+    let loaded = loaded(alloc, layout, section)?;
     let stands = as_turned(alloc, loaded)?;
-    Ok(LaidSection {
-        input: section,
-        stands: Some(stands),
-        origins: None,
-        fault: None,
-    })
+    Ok(laid(alloc, layout, section, Some(stands)))
 }

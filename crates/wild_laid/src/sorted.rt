@@ -14,8 +14,8 @@ pub struct SortedInput<'a> {
 }
 
 /// The section at that place of a file, where it is a sorted one.
-fn sorted_in_file(file: &File, section: usize) -> Option<SortedInput<'_>>
-    ensures { inputs result ≡ sorted_in_group (Some file.now) section }
+fn sorted_in_file<'a>(layout: &Layout, file: &'a File, section: usize) -> Option<SortedInput<'a>>
+    ensures { inputs layout.now result ≡ sorted_in_group layout.now (Some file.now) section }
 {
     let found = file.sections.as_slice().get(section)?;
     match found.slot {
@@ -30,9 +30,9 @@ fn sorted_in_file(file: &File, section: usize) -> Option<SortedInput<'_>>
 /// The section that is named, where it is a sorted one.
 #[tactic(auto, unfolding(crate::specs::Laid::sorted_input))]
 pub fn sorted_input(layout: &Layout, entry: SortedSection) -> Option<SortedInput<'_>>
-    ensures { inputs result ≡ sorted_input layout.now entry }
+    ensures { inputs layout.now result ≡ sorted_input layout.now entry }
 {
     let group = layout.groups.as_slice().get(entry.group)?;
     let file = group.files.as_slice().get(entry.file)?;
-    sorted_in_file(file, entry.section)
+    sorted_in_file(layout, file, entry.section)
 }

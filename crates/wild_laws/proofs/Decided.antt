@@ -1,4 +1,7 @@
 -- In a layout without faults each section that is read is decided, as it stands.
+use Rattle.wild_geometry.proofs.ReadLemmas.{read_fields, read_written, read_plain}
+use Rattle.wild_laid.proofs.PlainLemmas.{unread_linked}
+use Rattle.wild_types.specs.Kinds.{is_partial_link}
 use Rattle.std.proofs.lemmas.Bool.{and_parts}
 use Rattle.std.proofs.Common.{◌≡◌, ℕ, zero, suc, ◌+◌, ◌<◌, Bool, true, false, List, [], ◌∷◌, length, get_or, refl, sym, ap, ◌∙◌, arith, subst}
 use Rattle.std.specs.Prelude.{Option, Some, None, Result, Ok, Err, All, Contains, slice_get, if◌then◌else◌}
@@ -14,14 +17,13 @@ use Rattle.wild_types.specs.declared.input.InputRelocation.{InputRelocation}
 use Rattle.wild_types.specs.declared.input.InputSection.{InputSection}
 use Rattle.wild_types.specs.declared.file.File.{File}
 use Rattle.wild_types.specs.declared.file.Group.{Group}
-use Rattle.wild_types.specs.declared.layout.SortedSection.{SortedSection}
 use Rattle.wild_types.specs.declared.layout.Layout.{Layout}
 use Rattle.wild_types.specs.Item.{Item, item_of, block_for}
 use Rattle.wild_types.specs.FileRoles.{is_epilogue}
 use Rattle.wild_types.specs.Lookups.{is_read, is_counted, is_frame}
 use Rattle.wild_laid.specs.Turned.{as_turned, turned}
-use Rattle.wild_laid.specs.FrameInputs.{kept_size}
-use Rattle.wild_laid.specs.Laid.{Input, laid_section, laid_sections, laid_file, laid_from, laid_files, file_frames, frames_at, behind, sorted_input, sorted_inputs, sorted_sections, of_last_file, processed, as_loaded, origins_of}
+use Rattle.wild_laid.specs.FrameInputs.{frames_of, kept_size}
+use Rattle.wild_laid.specs.Laid.{Input, laid_section, laid_sections, laid_file, laid_from, laid_files, file_frames, frames_at, behind, sorted_input, sorted_inputs, sorted_sections, of_last_file, processed, as_loaded, kept_relocations, origins_of, unread}
 use Rattle.wild_layout.specs.declared.decision.Decision.{Decision}
 use Rattle.wild_layout.specs.Decide.{decide}
 use Rattle.wild_layout.specs.Sites.{MovesApart}
@@ -31,7 +33,7 @@ use Rattle.wild_layout.specs.Geometry.{IsLaidOut}
 use Rattle.wild_layout.proofs.SiteLemmas.{sites_apart}
 use Rattle.wild_layout.proofs.MovedSites.{laid_moves, turned_or_stays}
 use Rattle.wild_layout.proofs.FaultLemmas.{no_overlap, sections_of_file, sorted_of_file, files_of_group}
-use Rattle.wild_geometry.specs.Laid.{IsOf, Own, Ordered, IsLaid}
+use Rattle.wild_geometry.specs.Laid.{IsOf, Own, Ordered}
 use Rattle.wild_geometry.specs.Loaded.{IsDecided}
 use Rattle.wild_geometry.proofs.FrameSizes.{IsLoadedInput, sorted_loaded}
 use Rattle.wild_geometry.proofs.StoodSections.{in_processed}
@@ -83,7 +85,7 @@ item_decided l g f k s origins ending lies moves h =
 -- a section that stands so is decided
 section_decided : (l : Layout) (g k i : ℕ) (f : File) (s t : InputSection) → is_read t ≡ true → SectionLies l t → MovesApart l (item_of l f t) (origins_of l f s) → stood_errors l g k f i s t ≡ [] → IsDecided l (item_of l f t)
 section_decided l g k i f s t reads lies moves h =
-    item_decided l g k i (item_of l f t) (origins_of l f s) (bad_frames l g k f i s) (subst (λ (n : ℕ). All (FieldLies l.machine n) t.relocations) (sym (lies.bytes reads)) lies.fields) moves (rw reads at h)
+    item_decided l g k i (item_of l f t) (origins_of l f s) (bad_frames l g k f i s) (subst (λ (n : ℕ). All (FieldLies l.machine n) t.relocations) (sym (lies.bytes (read_written t reads))) (lies.fields (read_fields t reads))) moves (rw (read_written t reads, read_plain t reads) at h)
 
 abbrev HasTheirWords : Layout → InputSection → Type 0
 HasTheirWords l s = is_counted s ≡ true → s.reversed ≡ true → HasWords l.machine s
@@ -118,27 +120,31 @@ turned_reads s e h = by_test s.reversed h
     by_test true h = rw e ((and_parts _ _ h).1)
     by_test false h = rw e ((and_parts _ _ h).1)
 
-as_loaded_words : (l : Layout) (s : InputSection) → s.slot ≡ slot.Sorted → HasTheirWords l s → HasTheirWords l (as_loaded s)
-as_loaded_words l s e h = λ counted reversed. (let w = h (rw e counted) reversed in record { whole = w.whole; bytes = w.bytes; fields = w.fields })
+as_loaded_words : (l : Layout) → is_partial_link l.kind ≡ false → (s : InputSection) → s.slot ≡ slot.Sorted → HasTheirWords l s → HasTheirWords l (as_loaded (unread l s))
+as_loaded_words l whole s e h = subst (λ (t : InputSection). HasTheirWords l (as_loaded t)) (sym (unread_linked l s whole)) (λ counted reversed. (let w = h (rw e counted) reversed in record { whole = w.whole; bytes = w.bytes; fields = w.fields }))
 
-sorted_decided : (l : Layout) → IsLaidOut l → flat_map (sorted_errors l) l.sorted ≡ [] → (x : Input) → Contains (sorted_inputs l) x → SectionLies l (as_turned x.section) → Decided l x.file (as_turned x.section)
-sorted_decided l laid none x c lies = λ reads.
+plain_origins : (b : Bool) (xs ys : List InputRelocation) → b ≡ false → (if b then xs else ys) ≡ ys
+plain_origins true xs ys h = cc
+plain_origins false xs ys h = refl
+
+sorted_decided : (l : Layout) → is_partial_link l.kind ≡ false → IsLaidOut l → flat_map (sorted_errors l) l.sorted ≡ [] → (x : Input) → Contains (sorted_inputs l) x → SectionLies l (as_turned x.section) → Decided l x.file (as_turned x.section)
+sorted_decided l whole laid none x c lies = λ reads.
     let y = Contains-from_flat_map (sorted_input l) l.sorted x c in
     let all = nothing_at (sorted_errors l) l.sorted y.0 y.1 none in
     let mine : stood_errors l y.0.group y.0.file x.file y.0.section x.section (as_turned x.section) ≡ [] = nothing_at (sorted_errors_of l y.0) (sorted_input l y.0) x y.2 all in
     let loaded = All-contains IsLoadedInput (sorted_inputs l) x (sorted_loaded l) c in
-    let words = All-contains (λ (z : Input). HasTheirWords l z.section) (sorted_inputs l) x (sorted_holds l (HasTheirWords l) (HasTheirWords l) laid.turned (as_loaded_words l)) c in
+    let words = All-contains (λ (z : Input). HasTheirWords l z.section) (sorted_inputs l) x (sorted_holds l (HasTheirWords l) (HasTheirWords l) laid.turned (as_loaded_words l whole)) c in
     let moves = turned_or_stays l (block_for l x.file (as_turned x.section)) x.section (λ r. words (turned_reads x.section loaded reads) r) in
     let origins : origins_of l x.file x.section ≡ x.section.relocations = no_frame x.section loaded in
     section_decided l y.0.group y.0.file y.0.section x.file x.section (as_turned x.section) reads lies (subst (λ (rs : List InputRelocation). MovesApart l (item_of l x.file (as_turned x.section)) rs) (sym origins) moves) mine
   where
     no_frame : (s : InputSection) → s.slot ≡ slot.Loaded → origins_of l x.file s ≡ s.relocations
-    no_frame s e = rw e refl
+    no_frame s e = plain_origins (is_frame s.slot) (kept_relocations (frames_of l x.file s)) (unread l s).relocations (ap is_frame e) ∙ ap (λ (t : InputSection). t.relocations) (unread_linked l s whole)
 
-file_decided : (l : Layout) (g at k : ℕ) (f : File) → IsLaidOut l → All (HasTheirWords l) f.sections → All (SectionLies l) (processed l (laid_file l at f)) → file_errors l g at k f ≡ [] → FileDecided l (laid_file l at f)
-file_decided l g at k f laid words lies none = record {
+file_decided : (l : Layout) (g at k : ℕ) (f : File) → is_partial_link l.kind ≡ false → IsLaidOut l → All (HasTheirWords l) f.sections → All (SectionLies l) (processed l (laid_file l at f)) → file_errors l g at k f ≡ [] → FileDecided l (laid_file l at f)
+file_decided l g at k f whole laid words lies none = record {
   own = sections_of l g k f at 0 f.sections words (All-append-left (SectionLies l) (laid_sections l f at f.sections) (of_last_file f (sorted_sections l)) lies) (sections_of_file l g at k f none);
-  last = λ last x c. sorted_decided l laid (all_sorted (is_epilogue f.role) last (sorted_of_file l g at k f none)) x c (lies_sorted last x c);
+  last = λ last x c. sorted_decided l whole laid (all_sorted (is_epilogue f.role) last (sorted_of_file l g at k f none)) x c (lies_sorted last x c);
 }
   where
     all_sorted : (b : Bool) → b ≡ true → (if b then flat_map (sorted_errors l) l.sorted else []) ≡ [] → flat_map (sorted_errors l) l.sorted ≡ []
@@ -148,27 +154,27 @@ file_decided l g at k f laid words lies none = record {
     lies_sorted : is_epilogue f.role ≡ true → (x : Input) → Contains (sorted_inputs l) x → SectionLies l (as_turned x.section)
     lies_sorted last x c = All-contains (SectionLies l) (processed l (laid_file l at f)) (as_turned x.section) lies (in_processed l (laid_file l at f) x.file (as_turned x.section) (Ordered last x c refl refl))
 
-files_decided : (l : Layout) (g at k : ℕ) (fs : List File) → IsLaidOut l → All (λ (f : File). All (HasTheirWords l) f.sections) fs → All (λ (f : File). All (SectionLies l) (processed l f)) (laid_from l at fs) → files_errors l g at k fs ≡ [] → All (FileDecided l) (laid_from l at fs)
-files_decided l g at k [] laid words lies none = All-nil (FileDecided l)
-files_decided l g at k (f ∷ fs) laid words lies none =
+files_decided : (l : Layout) (g at k : ℕ) (fs : List File) → is_partial_link l.kind ≡ false → IsLaidOut l → All (λ (f : File). All (HasTheirWords l) f.sections) fs → All (λ (f : File). All (SectionLies l) (processed l f)) (laid_from l at fs) → files_errors l g at k fs ≡ [] → All (FileDecided l) (laid_from l at fs)
+files_decided l g at k [] whole laid words lies none = All-nil (FileDecided l)
+files_decided l g at k (f ∷ fs) whole laid words lies none =
     let parts = nil_parts (file_errors l g at k f) (files_errors l g (behind at (file_frames l f)) (k + 1) fs) none in
     let h = laid_file l at f in
     let hs = laid_from l (behind at (file_frames l f)) fs in
     All-cons (FileDecided l) h hs
-    (file_decided l g at k f laid (All-head (λ (x : File). All (HasTheirWords l) x.sections) f fs words) (All-head (λ (x : File). All (SectionLies l) (processed l x)) h hs lies) parts.0)
-    (files_decided l g (behind at (file_frames l f)) (k + 1) fs laid (All-tail (λ (x : File). All (HasTheirWords l) x.sections) f fs words) (All-tail (λ (x : File). All (SectionLies l) (processed l x)) h hs lies) parts.1)
+    (file_decided l g at k f whole laid (All-head (λ (x : File). All (HasTheirWords l) x.sections) f fs words) (All-head (λ (x : File). All (SectionLies l) (processed l x)) h hs lies) parts.0)
+    (files_decided l g (behind at (file_frames l f)) (k + 1) fs whole laid (All-tail (λ (x : File). All (HasTheirWords l) x.sections) f fs words) (All-tail (λ (x : File). All (SectionLies l) (processed l x)) h hs lies) parts.1)
 
-group_decided : (l : Layout) (i : ℕ) (g : Group) → IsLaidOut l → All (λ (f : File). All (HasTheirWords l) f.sections) g.files → All (λ (f : File). All (SectionLies l) (processed l f)) (laid_files l g) → group_errors l i g ≡ [] → All (FileDecided l) (laid_files l g)
+group_decided : (l : Layout) (i : ℕ) (g : Group) → is_partial_link l.kind ≡ false → IsLaidOut l → All (λ (f : File). All (HasTheirWords l) f.sections) g.files → All (λ (f : File). All (SectionLies l) (processed l f)) (laid_files l g) → group_errors l i g ≡ [] → All (FileDecided l) (laid_files l g)
 unfolding laid_files
-group_decided l i g laid words lies none = files_decided l i (frames_at l g) 0 g.files laid words lies (files_of_group l i g none)
+group_decided l i g whole laid words lies none = files_decided l i (frames_at l g) 0 g.files whole laid words lies (files_of_group l i g none)
 
 -- each section that is read is decided, where no group has a fault
-pub sections_decided : (l : Layout) → IsLaidOut l → flat_map_from (group_errors l) 0 l.groups ≡ [] → EachDecided l
-sections_decided l laid none = λ s k reads.
+pub sections_decided : (l : Layout) → is_partial_link l.kind ≡ false → IsLaidOut l → flat_map_from (group_errors l) 0 l.groups ≡ [] → EachDecided l
+sections_decided l whole laid none = λ s k reads.
     let e = nothing_from (group_errors l) 0 l.groups k.group k.grouped none in
     let words = All-contains (λ (g : Group). All (λ (f : File). All (HasTheirWords l) f.sections) g.files) l.groups k.group laid.turned k.grouped in
     let lies = All-contains (λ (g : Group). All (λ (f : File). All (SectionLies l) (processed l f)) (laid_files l g)) l.groups k.group laid.inputs k.grouped in
-    let file = All-contains (FileDecided l) (laid_files l k.group) k.file (group_decided l e.0 k.group laid words lies e.1) k.filed in
+    let file = All-contains (FileDecided l) (laid_files l k.group) k.file (group_decided l e.0 k.group whole laid words lies e.1) k.filed in
     of_file l k.file k.owner s file k.listed reads
   where
     of_file : (l : Layout) (f owner : File) (s : InputSection) → FileDecided l f → IsOf l f owner s → is_read s ≡ true → IsDecided l (item_of l owner s)

@@ -9,7 +9,6 @@ use Rattle.wild_types.specs.declared.input.InputRelocation.{InputRelocation}
 use Rattle.wild_types.specs.declared.input.InputSection.{InputSection}
 use Rattle.wild_types.specs.declared.layout.Layout.{Layout}
 use Rattle.wild_reloc.specs.Formula.{Formula, StubDistance}
-use Rattle.wild_reloc.specs.FormulaX86_64.{x86_64_formula}
 use Rattle.wild_loader.specs.declared.memory.Memory.{Memory}
 use Rattle.wild_loader.specs.declared.world.World.{World}
 use Rattle.wild_loader.specs.declared.instruction.Deed.{Deed}
@@ -23,7 +22,7 @@ use Rattle.wild_meaning.specs.Reference.{ReferenceHolds, ItemHolds}
 use Rattle.wild_meaning.proofs.BitLemmas.{bit_alloc}
 use Rattle.wild_meaning.proofs.SymbolLemmas.{referent_stands}
 use Rattle.wild_laws.specs.FirstTypes.{IsLoadedSection, IsRelocated, IsBranch}
-use Rattle.wild_laws.specs.FirstPath.{BranchReaches, IsFollowed, HoldsByFields, HasValueOf, HasInstruction, DoesInstruction, MeaningGivesFields, IsBranchedTo}
+use Rattle.wild_laws.specs.FirstPath.{BranchReaches, IsFollowed, HoldsByForms, HoldsByFields, HasValueOf, HasInstruction, DoesInstruction, MeaningGivesForms, MeaningGivesFields, IsBranchedTo}
 use Rattle.wild_laws.proofs.Sequences.{direct}
 use Rattle.wild_meaning.proofs.PairLemmas.{counts_four}
 use Rattle.wild_laws.proofs.FirstCode.{first_byte, IsFirst, of_branch, of_address, IsCallOrJump, template_direct, is_branch, branch_template, old_length, DoesDeed, call_does, jump_does}
@@ -105,13 +104,12 @@ goes l w m s r k opcode deed does x branch d =
 
 -- ---- every type
 
-value_of : (l : Layout) (w : World) (m : Memory) (s : Item) (r : InputRelocation) (f : Formula) → l.machine ≡ machine.X86_64 → x86_64_formula r.number ≡ Some f → (HasInstruction l s r → ⊥) → ReferenceHolds l w m s r → HasValueOf l w m s r f
-value_of l w m s r f x is none (inl p) =
-    let known = subst (λ (k : Machine). formula_of k r.number ≡ Some p.formula) x p.known in
-    let both : Some p.formula ≡ Some f = sym known ∙ is in
+value_of : (l : Layout) (w : World) (m : Memory) (s : Item) (r : InputRelocation) (f : Formula) → formula_of l.machine r.number ≡ Some f → (HasInstruction l s r → ⊥) → ReferenceHolds l w m s r → HasValueOf l w m s r f
+value_of l w m s r f is none (inl p) =
+    let both : Some p.formula ≡ Some f = sym p.known ∙ is in
     let same : p.formula ≡ f = cc in
     subst (λ (g : Formula). HasValueOf l w m s r g) same (record { value = p.value; gives = p.gives; field = record { bytes = p.field.bytes; wide = p.field.wide; held = p.field.held; reads = p.field.reads } })
-value_of l w m s r f x is none (inr q) = absurd (none (record { start = q.start; instruction = q.instruction; first = q.first; template = q.template }))
+value_of l w m s r f is none (inr q) = absurd (none (record { start = q.start; instruction = q.instruction; first = q.first; template = q.template }))
 
 does_instruction : (l : Layout) (w : World) (m : Memory) (s : Item) (r : InputRelocation) → HasInstruction l s r → ReferenceHolds l w m s r → DoesInstruction l w m s r
 does_instruction l w m s r i (inl p) = record { of = i; does = p.does i.start i.instruction i.first i.template }
@@ -119,19 +117,31 @@ does_instruction l w m s r i (inr q) = record { of = record { start = q.start; i
 
 -- ---- the whole
 
+-- each reference that is asked holds
+each_holds : (l : Layout) (w : World) (m : Memory) (s : Item) (r : InputRelocation) → ItemHolds l w m s → IsRelocated s r → IsFollowed l w s r → ReferenceHolds l w m s r
+each_holds l w m s r all one follows = all.references r (record { listed = one.listed; refers = one.refers }) follows.0 follows.1
+
+item_forms : (l : Layout) (w : World) (m : Memory) (s : Item) → ItemHolds l w m s → HoldsByForms l w m s
+item_forms l w m s all = record {
+  fields = λ r f one follows is none. value_of l w m s r f is none (each_holds l w m s r all one follows);
+  instructions = λ r one follows i. does_instruction l w m s r i (each_holds l w m s r all one follows);
+}
+
 item_fields : (l : Layout) (w : World) (m : Memory) (s : Item) → l.machine ≡ machine.X86_64 → ItemHolds l w m s → HoldsByFields l w m s
 item_fields l w m s x all =
-    let holds : (r : InputRelocation) → IsRelocated s r → IsFollowed l w s r → ReferenceHolds l w m s r = λ r one follows. all.references r (record { listed = one.listed; refers = one.refers }) follows.0 follows.1 in
+    let holds : (r : InputRelocation) → IsRelocated s r → IsFollowed l w s r → ReferenceHolds l w m s r = λ r one follows. each_holds l w m s r all one follows in
     record {
       references = λ r one follows type none free. has_formula l w m s r x type (of_address l s r type free) none (holds r one follows);
       calls = λ r k one follows free branch. goes l w m s r k 0xe8 Call call_does x branch (call_does_it l w m s r k x (of_branch l s r k 0xe8 free branch) branch (holds r one follows));
       jumps = λ r k one follows free branch. goes l w m s r k 0xe9 Jump jump_does x branch (jump_does_it l w m s r k x (of_branch l s r k 0xe9 free branch) branch (holds r one follows));
       slot_calls = λ r k one follows free branch. slot_call_goes l w m s r k x free branch (holds r one follows);
       slot_jumps = λ r k one follows free branch. slot_jump_goes l w m s r k x free branch (holds r one follows);
-      fields = λ r f one follows is none. value_of l w m s r f x is none (holds r one follows);
-      instructions = λ r one follows i. does_instruction l w m s r i (holds r one follows);
+      forms = item_forms l w m s all;
       others = λ types asked k lt out. other_byte l w m s k x types asked all lt out;
     }
+
+pub meaning_gives_forms : MeaningGivesForms
+meaning_gives_forms = λ l w image linked s loaded. item_forms l w linked.memory (stood_item l loaded.file s) (linked.kept (stood_item l loaded.file s) (kept l s loaded))
 
 pub meaning_gives_fields : MeaningGivesFields
 meaning_gives_fields = λ l w image x linked s loaded. item_fields l w linked.memory (stood_item l loaded.file s) x (linked.kept (stood_item l loaded.file s) (kept l s loaded))

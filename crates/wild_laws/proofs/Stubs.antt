@@ -1,4 +1,5 @@
 -- The stubs and thunks of a loaded image go on to their slots and targets.
+use Rattle.wild_meaning.proofs.OutputLemmas.{not_partial}
 use Rattle.std.proofs.Common.{◌≡◌, [], sym, ◌∙◌, subst}
 use Rattle.std.specs.Prelude.{Ok}
 use Rattle.wild_types.specs.declared.layout.Layout.{Layout}
@@ -31,7 +32,7 @@ image : LayoutsAreLaidOut → SlotsAreThere → ImagesAreLoaded → (l : Layout)
 image layouts there loaded l w m numbers flags none loads legal accepted =
     let laid = laid_out layouts l none in
     let groups = no_group_errors l none in
-    let h = loaded l w loads numbers legal laid (sections_decided l laid groups) (there l flags laid groups) groups in
+    let h = loaded l w loads numbers legal laid (sections_decided l (not_partial l.kind loads) laid groups) (there l flags laid groups) groups in
     let both : Ok h.memory ≡ Ok m = sym h.accepted ∙ accepted in
     let same : h.memory ≡ m = cc in
     record { laid = laid; loaded = h; same = same }

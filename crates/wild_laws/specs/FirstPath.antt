@@ -3,7 +3,8 @@
 --   BranchReaches ..       a direct call or jump goes to what stands for its symbol
 --   SlotBranchReaches ..   one through a slot goes to what comes to its symbol
 --   IsFollowed ..          a reference is asked in the world, and not of the output's own symbol alone
---   HoldsByFields ..       what these say of an input section; of other types by what the judge has for them
+--   HoldsByForms ..        what the judge has for every type, on either machine
+--   HoldsByFields ..       what these say of an input section; of other types by their forms
 --   NamesAreAddresses      what this says of symbols that no resolver answers for
 use Rattle.std.specs.Prelude.{◌≡◌, ℕ, ℤ, ◌+◌, ◌-◌, ◌%◌, ◌^◌, ◌<◌, false, List, length, Some, Contains, slice_index, ◌⊎◌}
 use Rattle.std.specs.Int.{w64, cast_unsigned}
@@ -21,7 +22,7 @@ use Rattle.wild_loader.specs.Memory.{Holds, byte_in}
 use Rattle.wild_meaning.specs.Value.{IsSymbol, IsDefinedBy, HasRaw, HasFlag, IsReplaceable, moved}
 use Rattle.wild_loader.specs.Reach.{Reaches}
 use Rattle.wild_meaning.specs.Denotes.{HasStub, Denotes}
-use Rattle.wild_meaning.specs.Field.{form_width}
+use Rattle.wild_meaning.specs.Field.{formula_of, form_width}
 use Rattle.wild_meaning.specs.Formula.{IsTarget, IsGoal, Gives}
 use Rattle.wild_loader.specs.declared.instruction.Deed.{Deed}
 use Rattle.wild_loader.specs.declared.instruction.Deed.TheVariants.{Call, Jump}
@@ -116,22 +117,31 @@ pub record DoesInstruction (l : Layout) (w : World) (m : Memory) (s : Item) (r :
   pub of : HasInstruction l s r
   pub does : DoesDemanded (reads w m) l w m s of.first of.start of.instruction
 
+-- on either machine, and of every type: a reference in no instruction has its field as the formula, and in one the code does what that
+-- demands
+pub record HoldsByForms (l : Layout) (w : World) (m : Memory) (s : Item) : Type 0 where
+  pub fields : (r : InputRelocation) (f : Formula) → IsRelocated s r → IsFollowed l w s r → formula_of l.machine r.number ≡ Some f → (HasInstruction l s r → ⊥) → HasValueOf l w m s r f
+  pub instructions : (r : InputRelocation) → IsRelocated s r → IsFollowed l w s r → HasInstruction l s r → DoesInstruction l w m s r
+
 -- each address and each distance in no call and no jump has its field as the formula, each call and each jump reaches its symbol, but
--- for a call that gives a thread address; of every other type too a reference in no instruction has its field as the formula, and in
--- one the code does what that demands; and where no other instruction has a relocation every byte in no field is the input's
+-- for a call that gives a thread address; of every other type it holds by its form; and where no other instruction has a relocation every
+-- byte in no field is the input's
 pub record HoldsByFields (l : Layout) (w : World) (m : Memory) (s : Item) : Type 0 where
   pub references : (r : InputRelocation) → IsRelocated s r → IsFollowed l w s r → Contains address_types r.number → (IsBranchField s r → ⊥) → (IsThreadCall l s r → ⊥) → HasFormula l w m s r
   pub calls : (r : InputRelocation) (k : ℕ) → IsRelocated s r → IsFollowed l w s r → (IsThreadCall l s r → ⊥) → IsBranch s r k 0xe8 → BranchReaches l w m s r k Call
   pub jumps : (r : InputRelocation) (k : ℕ) → IsRelocated s r → IsFollowed l w s r → (IsThreadCall l s r → ⊥) → IsBranch s r k 0xe9 → BranchReaches l w m s r k Jump
   pub slot_calls : (r : InputRelocation) (k : ℕ) → IsRelocated s r → IsFollowed l w s r → (IsThreadCall l s r → ⊥) → IsSlotBranch s r k 0x15 → SlotBranchReaches l w m s r k Call
   pub slot_jumps : (r : InputRelocation) (k : ℕ) → IsRelocated s r → IsFollowed l w s r → (IsThreadCall l s r → ⊥) → IsSlotBranch s r k 0x25 → SlotBranchReaches l w m s r k Jump
-  pub fields : (r : InputRelocation) (f : Formula) → IsRelocated s r → IsFollowed l w s r → x86_64_formula r.number ≡ Some f → (HasInstruction l s r → ⊥) → HasValueOf l w m s r f
-  pub instructions : (r : InputRelocation) → IsRelocated s r → IsFollowed l w s r → HasInstruction l s r → DoesInstruction l w m s r
+  pub forms : HoldsByForms l w m s
   pub others : HasFirstTypes s → EachIsAsked l w s → (k : ℕ) → k < length s.bytes → InNoField s k → byte_in m (address_at w s k) ≡ Some (slice_index s.bytes k)
 
 -- an image that meets the meaning of all layouts in a world, at whatever base, meets this one
 abbrev pub MeaningGivesFields : Type 0
 MeaningGivesFields = (l : Layout) (w : World) (image : List ℕ) → l.machine ≡ machine.X86_64 → (linked : IsLinked l w image) → (s : InputSection) (k : IsLoadedSection l s) → HoldsByFields l w linked.memory (stood_item l k.file s)
+
+-- what is told by forms it gives on either machine
+abbrev pub MeaningGivesForms : Type 0
+MeaningGivesForms = (l : Layout) (w : World) (image : List ℕ) → (linked : IsLinked l w image) → (s : InputSection) (k : IsLoadedSection l s) → HoldsByForms l w linked.memory (stood_item l k.file s)
 
 -- ---- symbols
 

@@ -10,3 +10,5 @@ pub mod SiteLemmas
 pub mod MovedSites
 pub mod LayoutLemmas
 pub mod ThunkLemmas
+pub mod PartialLemmas
+pub mod DebugLemmas

@@ -3,6 +3,7 @@
 --   turned_apart    where words are reversed
 --   framed_apart    where frames are kept, each with its relocations
 --   laid_moves      of a section as it stands; turned_or_stays    of one that may be reversed
+--   debug_count     one that debuggers read has as many relocations as in the input
 use Rattle.std.proofs.Common.{◌≡◌, ℕ, zero, suc, ◌+◌, ◌-◌, ◌*◌, ◌%◌, ◌<◌, ◌≤◌, ◌⊎◌, inl, inr, Bool, true, false, List, [], ◌∷◌, ◌++◌, length, get_or, map, refl, sym, ap, ◌∙◌, arith, subst, ◌/◌, AllPairs, if◌then◌else◌}
 use Rattle.std.specs.Prelude.{All, Contains, Option, Some, None, ◌==◌, ◌||◌, not, option_map, slice_get}
 use Rattle.std.specs.List.{flat_map, range_with_len, list_all}
@@ -38,7 +39,9 @@ use Rattle.wild_types.specs.declared.input.Slot.{Slot}
 use Rattle.wild_types.specs.declared.input.Slot.TheVariants as slot
 use Rattle.wild_laid.specs.Laid.{origins_of}
 use Rattle.wild_laid.specs.FrameInputs.{frames_of}
-use Rattle.wild_laid.specs.Laid.{entry_relocations, kept_relocations, laid_relocations, without_write, frame_flags, framed, laid_by, laid_section}
+use Rattle.wild_laid.specs.Laid.{entry_relocations, kept_relocations, laid_relocations, without_write, frame_flags, framed, laid_by, laid_section, without_relocations, unread}
+use Rattle.wild_laid.proofs.PlainLemmas.{unread_linked}
+use Rattle.wild_types.specs.Kinds.{is_partial_link}
 use Rattle.wild_laid.specs.Laid.{moved_by as moved_entry}
 use Rattle.wild_frames.specs.declared.entry.KeptEntry.{KeptEntry}
 use Rattle.wild_frames.specs.Frames.{Frames, State, start, behind, kept_of, found_in, kept_in}
@@ -51,7 +54,7 @@ use Rattle.wild_relax.specs.Question.{Question}
 use Rattle.wild_relax.specs.Rows.{applies}
 use Rattle.wild_relax.proofs.RoomLemmas.{chosen_is}
 use Rattle.wild_types.specs.declared.file.File.{File}
-use Rattle.wild_types.specs.Lookups.{bit, executable, is_read, is_counted, is_frame}
+use Rattle.wild_types.specs.Lookups.{bit, executable, is_read, has_relocations, is_counted, is_frame}
 use Rattle.wild_layout.specs.Choice.{question_of, question_around}
 use Rattle.wild_layout.specs.SectionPlaces.{IsWord, HasWords}
 use Rattle.wild_layout.proofs.ChoiceLemmas.{chosen_listed}
@@ -600,12 +603,58 @@ turned_read s is h = by_test s.reversed h
     by_test true h = rw is ((and_parts _ _ h).1)
     by_test false h = rw is ((and_parts _ _ h).1)
 
+-- one whose relocations stand in a table of their own has its words as before
+bare_words : (l : Layout) (s : InputSection) → HasWords l.machine s → HasWords l.machine (without_relocations s)
+bare_words l s h = record { whole = h.whole; bytes = h.bytes; fields = All-nil (IsWord l.machine s.size) }
+
+loaded_moves : (b : Bool) (l : Layout) (k : ℕ) (s : InputSection) → (is_counted s ≡ true → s.reversed ≡ true → HasWords l.machine s) → s.slot ≡ slot.Loaded
+    → is_read (as_turned (if b then without_relocations s else s)) ≡ true → MovesApart l (item_with k (as_turned (if b then without_relocations s else s))) (if b then without_relocations s else s).relocations
+loaded_moves true l k s words is h = turned_or_stays l k (without_relocations s) (λ r. bare_words l s (words (turned_read (without_relocations s) is h) r))
+loaded_moves false l k s words is h = turned_or_stays l k s (words (turned_read s is h))
+
+-- a loader applies no relocations of a section in another slot
+not_read : (s : InputSection) (x : Slot) → s.slot ≡ x → has_relocations x ≡ false → is_read s ≡ true → ⊥
+not_read s x is n h =
+    let p = (and_parts (has_relocations s.slot) (not s.nobits) h).0 in
+    let both : true ≡ false = sym p ∙ (ap has_relocations is ∙ n) in
+    cc
+
+turned_not_read : (s : InputSection) (x : Slot) → s.slot ≡ x → has_relocations x ≡ false → is_read (as_turned s) ≡ true → ⊥
+unfolding as_turned
+turned_not_read s x is n h = by_test s.reversed h
+  where
+    by_test : (b : Bool) → is_read (if b then turned s else s) ≡ true → ⊥
+    by_test true h = not_read (turned s) x is n h
+    by_test false h = not_read s x is n h
+
 -- a section of a file
 pub laid_moves : (l : Layout) (f : File) (k at : ℕ) (s : InputSection) → (is_counted s ≡ true → s.reversed ≡ true → HasWords l.machine s) → is_read (laid_section l f at s) ≡ true → MovesApart l (item_with k (laid_section l f at s)) (origins_of l f s)
 unfolding laid_section
 laid_moves l f k at s words h = by_slot s.slot refl h
   where
-    by_slot : (x : Slot) → s.slot ≡ x → is_read (laid_by x l f at s) ≡ true → MovesApart l (item_with k (laid_by x l f at s)) (if is_frame x then kept_relocations (frames_of l f s) else s.relocations)
-    by_slot slot.Loaded is h = turned_or_stays l k s (words (turned_read s is h))
+    by_slot : (x : Slot) → s.slot ≡ x → is_read (laid_by x l f at s) ≡ true → MovesApart l (item_with k (laid_by x l f at s)) (if is_frame x then kept_relocations (frames_of l f s) else (unread l s).relocations)
+    by_slot slot.Loaded is h = loaded_moves (is_partial_link l.kind) l k s words is h
     by_slot slot.Frame is h = framed_apart l f k at s
-    by_slot other is h = stays_apart l (item_with k s)
+    by_slot slot.Debug is h = absurd (turned_not_read s slot.Debug is refl h)
+    by_slot slot.Rela is h = cc
+    by_slot slot.Discard is h = absurd (not_read s slot.Discard is refl h)
+    by_slot slot.Sorted is h = absurd (not_read s slot.Sorted is refl h)
+    by_slot slot.Merge is h = absurd (not_read s slot.Merge is refl h)
+    by_slot slot.Group is h = absurd (not_read s slot.Group is refl h)
+
+-- ---- sections that debuggers read
+
+turned_relocations : (s : InputSection) → length (as_turned s).relocations ≡ length s.relocations
+unfolding as_turned
+turned_relocations s = by_test s.reversed
+  where
+    by_test : (b : Bool) → length (if b then turned s else s).relocations ≡ length s.relocations
+    by_test true = length-map s.relocations (turned_offset s.size)
+    by_test false = refl
+
+-- such a section of an output that is no relocatable object stands with as many relocations as it has in the input
+pub debug_count : (l : Layout) (f : File) (at : ℕ) (s : InputSection) → is_partial_link l.kind ≡ false → s.slot ≡ slot.Debug → length (origins_of l f s) ≡ length (laid_section l f at s).relocations
+unfolding laid_section
+debug_count l f at s whole is =
+    subst (λ (x : Slot). length (if is_frame x then kept_relocations (frames_of l f s) else (unread l s).relocations) ≡ length (laid_by x l f at s).relocations) (sym is)
+    (ap (λ (t : InputSection). length t.relocations) (unread_linked l s whole) ∙ sym (turned_relocations s))

@@ -19,7 +19,7 @@ use Rattle.wild_types.specs.declared.section.Segment.{Segment}
 use Rattle.wild_types.specs.declared.input.InputSection.{InputSection}
 use Rattle.wild_types.specs.declared.layout.Layout.{Layout}
 use Rattle.wild_types.specs.Kinds.{is_partial_link, needs_dynamic, is_fixed_static}
-use Rattle.wild_types.specs.Lookups.{allocated, image_size, is_filled}
+use Rattle.wild_types.specs.Lookups.{allocated, image_size, is_loaded, is_filled}
 use Rattle.wild_types.specs.Lists.{total}
 use Rattle.wild_types.specs.Parts.{is_loaded_role, part_with, is_table_role, is_look_up_role, has_hashes, is_entry_role, entry_parts, bytes_in}
 use Rattle.wild_layout.specs.Image.{offset_in}
@@ -42,7 +42,7 @@ pub record IsCarried (l : Layout) (s : InputSection) (k : ℕ) (h : Segment) : T
 
 -- each of the section's bytes is loaded, where it is allocated and owns some
 abbrev pub IsMapped : Layout → InputSection → Type 0
-IsMapped l s = is_filled l s ≡ true → allocated s.flags ≡ true → (k : ℕ) → k < s.size → (h : Segment) × IsCarried l s k h
+IsMapped l s = is_loaded s.slot ≡ true → is_filled l s ≡ true → allocated s.flags ≡ true → (k : ℕ) → k < s.size → (h : Segment) × IsCarried l s k h
 
 -- the segment carries byte k of the part to its address
 pub record IsPartCarried (l : Layout) (p : Part) (k : ℕ) (h : Segment) : Type 0 where

@@ -11,7 +11,9 @@ use Rattle.wild_types.specs.declared.input.InputRelocation.{InputRelocation}
 use Rattle.wild_types.specs.declared.input.InputSection.{InputSection}
 use Rattle.wild_types.specs.declared.file.Group.{Group}
 use Rattle.wild_types.specs.declared.layout.Layout.{Layout}
-use Rattle.wild_types.specs.Lookups.{image_size, is_filled, is_read, takes_file_bytes}
+use Rattle.wild_types.specs.Lookups.{image_size, is_filled, has_fields, is_written, takes_file_bytes}
+use Rattle.wild_types.specs.declared.file.File.{File}
+use Rattle.wild_layout.specs.Sites.{section_bytes}
 use Rattle.wild_types.specs.Rows.{field_bytes}
 use Rattle.wild_types.specs.FilePlaces.{given}
 use Rattle.wild_types.specs.Lists.{total}
@@ -47,8 +49,9 @@ pub record OwnerLies (l : Layout) (s : InputSection) : Type 0 where
 
 pub record SectionLies (l : Layout) (s : InputSection) : Type 0 where
   pub small : s.address + s.size ≤ 2 ^ 62
-  pub bytes : is_read s ≡ true → length s.bytes ≡ s.size
-  pub fields : All (FieldLies l.machine s.size) s.relocations
+  pub bytes : is_written s ≡ true → length s.bytes ≡ s.size
+  pub fields : has_fields s.slot ≡ true → All (FieldLies l.machine s.size) s.relocations
+  pub long : is_filled l s ≡ true → (f : File) → length (section_bytes l f s) ≡ s.size
   pub owner : is_filled l s ≡ true → OwnerLies l s
   pub part : s.part < length l.parts
 

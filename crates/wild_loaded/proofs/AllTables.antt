@@ -81,7 +81,7 @@ abbrev pub slots_of_well : (l : Layout) (w : World) → IsFilledWell l w → IsF
 slots_of_well l w h = record { kind = h.kind; numbers = h.numbers; legal = h.legal; laid = h.laid; whole = h.whole }
 
 abbrev pub copies_of_well : (l : Layout) (w : World) → IsFilledWell l w → HasCopies l w
-copies_of_well l w h = record { numbers = h.numbers; legal = h.legal; laid = h.laid; none = h.none }
+copies_of_well l w h = record { kind = h.kind; numbers = h.numbers; legal = h.legal; laid = h.laid; none = h.none }
 
 -- ---- slots
 
@@ -115,7 +115,7 @@ got_apart l laid = roles_apart l role.Got role.GotRelr refl refl (λ e. cc) laid
 tables_beside : (l : Layout) → IsLoadable l.kind → IsLaidOut l → SlotTables l → AllPairs AreBeside (slots_filled l ++ blocks_filled l)
 tables_beside l kind laid t =
     AllPairs-append AreBeside (slots_filled l) (blocks_filled l) t.got.beside t.block.beside
-    (λ k d m. (λ i e n. beside_across l (role_home l role.Got) (role_home l role.GotRelr) (get_or (slots_filled l) k d) (get_or (blocks_filled l) i e) laid (role_there l role.Got refl kind laid) (role_there l role.GotRelr refl kind laid) (got_apart l laid) (t.got.within k d m) (t.block.within i e n)))
+    (λ k d m. (λ i e n. beside_across l (role_home l role.Got) (role_home l role.GotRelr) (get_or (slots_filled l) k d) (get_or (blocks_filled l) i e) kind laid (role_there l role.Got refl kind laid) (role_there l role.GotRelr refl kind laid) (got_apart l laid) (t.got.within k d m) (t.block.within i e n)))
 
 -- ---- sections
 
@@ -128,7 +128,7 @@ sections_beside l r xs loaded other kind laid h t =
     let s = get_or (all_sections l) i d in
     let stored = h.stored i d m (not_empty _ k n) in
     let c : Contains (all_sections l) s = (i, m, get_or_default (all_sections l) i s d m) in
-    beside_across l (section_home l s) (role_home l r) (get_or (section_fillings l s) k e) (get_or xs p f) laid (stored_home l s stored) (role_there l r loaded kind laid) (homes_back (role_home l r) (section_home l s) (section_apart l r s loaded other laid c stored)) (h.within i d m k e n) (t.within p f q))))
+    beside_across l (section_home l s) (role_home l r) (get_or (section_fillings l s) k e) (get_or xs p f) kind laid (stored_home l s stored) (role_there l r loaded kind laid) (homes_back (role_home l r) (section_home l s) (section_apart l r s loaded other laid c stored)) (h.within i d m k e n) (t.within p f q))))
 
 both_beside : (xs ys zs : List Filling) → All (λ (x : Filling). All (AreBeside x) ys) xs → All (λ (x : Filling). All (AreBeside x) zs) xs → All (λ (x : Filling). All (AreBeside x) (ys ++ zs)) xs
 both_beside xs ys zs h k = λ i d m. All-append (AreBeside (get_or xs i d)) ys zs (h i d m) (k i d m)
@@ -137,7 +137,7 @@ both_beside xs ys zs h k = λ i d m. All-append (AreBeside (get_or xs i d)) ys z
 stored_beside : (l : Layout) → IsLoadable l.kind → IsLaidOut l → HavePlaces l (section_fillings l) → SlotTables l → AllPairs AreBeside (stored_fillings l)
 stored_beside l kind laid h t =
     AllPairs-append AreBeside (sections_filled l) (slots_filled l ++ blocks_filled l)
-    (places_beside l (section_fillings l) laid h)
+    (places_beside l (section_fillings l) kind laid h)
     (tables_beside l kind laid t)
     (both_beside (sections_filled l) (slots_filled l) (blocks_filled l) (sections_beside l role.Got (slots_filled l) refl (λ e. cc) kind laid h t.got) (sections_beside l role.GotRelr (blocks_filled l) refl (λ e. cc) kind laid h t.block))
 
@@ -148,14 +148,14 @@ behind_beside : (l : Layout) (x y : Filling) → (LiesBehind l y) → ((a : ℕ)
 behind_beside l x y behind misses = λ k lt j less e. misses (y.entry.offset + j) (behind j less) k lt (sym e)
 
 table_behind : (l : Layout) (r : Role) (xs : List Filling) → is_loaded_role r ≡ true → IsLoadable l.kind → IsLaidOut l → InTable l r xs → All (λ (x : Filling). (a : ℕ) → IsBehind l a → Misses a x) xs
-table_behind l r xs loaded kind laid t = λ i d m. (λ a b. behind_misses l (role_home l r) a (get_or xs i d) laid (role_there l r loaded kind laid) (t.within i d m) b)
+table_behind l r xs loaded kind laid t = λ i d m. (λ a b. behind_misses l (role_home l r) a (get_or xs i d) kind laid (role_there l r loaded kind laid) (t.within i d m) b)
 
 -- no filling in file bytes has a byte behind file bytes
 pub stored_misses : (l : Layout) → IsLoadable l.kind → IsLaidOut l → HavePlaces l (section_fillings l) → SlotTables l → All (λ (x : Filling). (a : ℕ) → IsBehind l a → Misses a x) (stored_fillings l)
 stored_misses l kind laid h t =
     let P : Filling → Type 0 = λ x. (a : ℕ) → IsBehind l a → Misses a x in
     All-append P (sections_filled l) (slots_filled l ++ blocks_filled l)
-    (All-flat_map P (section_fillings l) (all_sections l) (λ i d m. (λ k e n. (λ a b. behind_misses l (section_home l (get_or (all_sections l) i d)) a (get_or (section_fillings l (get_or (all_sections l) i d)) k e) laid (stored_home l (get_or (all_sections l) i d) (h.stored i d m (not_empty _ k n))) (h.within i d m k e n) b))))
+    (All-flat_map P (section_fillings l) (all_sections l) (λ i d m. (λ k e n. (λ a b. behind_misses l (section_home l (get_or (all_sections l) i d)) a (get_or (section_fillings l (get_or (all_sections l) i d)) k e) kind laid (stored_home l (get_or (all_sections l) i d) (h.stored i d m (not_empty _ k n))) (h.within i d m k e n) b))))
     (All-append P (slots_filled l) (blocks_filled l) (table_behind l role.Got (slots_filled l) refl kind laid t.got) (table_behind l role.GotRelr (blocks_filled l) refl kind laid t.block))
 
 -- ---- all of them

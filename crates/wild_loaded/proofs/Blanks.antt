@@ -1,15 +1,15 @@
 -- Input sections without data, in sections that have bytes in the file: their bytes are zeros, and stay so.
+use Rattle.wild_meaning.proofs.OutputLemmas.{not_partial}
 use Rattle.std.specs.List.{flat_map}
 use Rattle.wild_laid.specs.Laid.{as_loaded}
 use Rattle.wild_geometry.specs.Laid.{IsLaid}
 use Rattle.wild_geometry.proofs.StoodSections.{listed_section}
 use Rattle.wild_geometry.proofs.KeptItems.{input_stands, turned_fields}
-use Rattle.std.proofs.Common.{◌≡◌, ℕ, zero, suc, ◌+◌, ◌<◌, ◌≤◌, ◌==◌, Bool, true, false, not, ◌&&◌, List, [], length, get_or, replicate, refl, sym, ap, ◌∙◌, arith, subst}
-use Rattle.std.specs.Prelude.{Option, Some, All, slice_get, slice_index, if◌then◌else◌, option_to_list}
+use Rattle.std.proofs.Common.{◌≡◌, ℕ, ◌+◌, ◌<◌, ◌≤◌, ◌==◌, Bool, true, false, not, ◌&&◌, List, [], length, replicate, refl, sym, ap, ◌∙◌, arith, subst}
+use Rattle.std.specs.Prelude.{Option, Some, All, if◌then◌else◌, option_to_list}
 use Rattle.std.proofs.lemmas.Bool.{ne_eqb}
 use Rattle.std.proofs.lemmas.List.{length-replicate, get_or-replicate}
 use Rattle.std.proofs.lemmas.List.Elements.{All-nil}
-use Rattle.wild_words.specs.Words.{Stands}
 use Rattle.wild_types.specs.declared.part.Part.{Part}
 use Rattle.wild_types.specs.declared.section.Section.{Section}
 use Rattle.wild_types.specs.declared.input.Slot.TheVariants as slot
@@ -17,15 +17,16 @@ use Rattle.wild_types.specs.declared.input.InputRelocation.{InputRelocation}
 use Rattle.wild_types.specs.declared.input.InputSection.{InputSection}
 use Rattle.wild_types.specs.declared.file.File.{File}
 use Rattle.wild_types.specs.declared.layout.Layout.{Layout}
-use Rattle.wild_types.specs.Lookups.{without_data, section_of, section_of_part, takes_file_bytes, is_loaded, is_filled, is_read, allocated, has_relocations}
-use Rattle.wild_layout.specs.Sites.{sites, section_bytes}
-use Rattle.wild_layout.specs.Image.{bytes, offset_in}
+use Rattle.wild_types.specs.Lookups.{without_data, section_of, section_of_part, takes_file_bytes, is_loaded, is_filled, allocated, has_relocations}
+use Rattle.wild_layout.specs.Sites.{section_bytes}
+use Rattle.wild_layout.specs.Image.{bytes}
 use Rattle.wild_layout.specs.Geometry.{IsLaidOut}
 use Rattle.wild_loader.specs.declared.memory.Memory.{Memory}
 use Rattle.wild_loader.specs.declared.world.World.{World}
 use Rattle.wild_loader.specs.Memory.{byte_in}
 use Rattle.wild_loader.specs.SegmentLaws.{BytesAreLoaded}
 use Rattle.wild_meaning.specs.Section.{HasFileBytes}
+use Rattle.wild_meaning.specs.World.{IsLoadable}
 use Rattle.wild_meaning.specs.Linked.{IsBlank}
 use Rattle.wild_meaning.proofs.BitLemmas.{alloc_bit}
 use Rattle.wild_loaded.specs.Memory.{IsStored, image_memory, Filled}
@@ -54,9 +55,9 @@ pub record StandsBlank (l : Layout) (s : InputSection) : Type 0 where
   pub size : section.size ≡ s.size
   pub flags : section.flags ≡ s.flags
 
-blank_stands : (l : Layout) (s : InputSection) → IsLaidOut l → IsBlank l s → StandsBlank l s
-blank_stands l s laid b =
-    let t = input_stands l s laid b.input b.loaded in
+blank_stands : (l : Layout) (s : InputSection) → IsLoadable l.kind → IsLaidOut l → IsBlank l s → StandsBlank l s
+blank_stands l s kind laid b =
+    let t = input_stands l s (not_partial l.kind kind) laid b.input b.loaded in
     let e = t.is in
     let same = turned_fields (as_loaded s) in
     record {
@@ -84,18 +85,18 @@ zero_bytes : (l : Layout) (f : File) (s : InputSection) → s.nobits ≡ true �
 unfolding section_bytes
 zero_bytes l f s e = rw e refl
 
-blank_stored : (l : Layout) (s : InputSection) → IsLaidOut l → IsLaid l s → allocated s.flags ≡ true → is_filled l s ≡ true → 1 ≤ s.size → IsStored l s
-blank_stored l s laid input room filled some = record { some = some; place = Filled filled; carried = kept_carried l s laid input room filled }
+blank_stored : (l : Layout) (s : InputSection) → IsLoadable l.kind → IsLaidOut l → IsLaid l s → allocated s.flags ≡ true → is_loaded s.slot ≡ true → is_filled l s ≡ true → 1 ≤ s.size → IsStored l s
+blank_stored l s kind laid input room loaded filled some = record { some = some; place = Filled filled; carried = kept_carried l s kind laid input room loaded filled }
 
 pub blanks_stored : BytesAreLoaded → BlanksAreStored
-blanks_stored law = λ l w s k legal laid b f lt.
-    let t = blank_stands l s laid b in
+blanks_stored law = λ l w s k kind legal laid b f lt.
+    let t = blank_stands l s kind laid b in
     let size = t.size in
     let address = t.address in
     let filled = blank_filled l t.section t.loaded t.blank (subst (HasFileBytes l) (sym t.part) f) (omega (arith, size, lt)) in
     let room = subst (λ (n : ℕ). allocated n ≡ true) (sym t.flags) (alloc_bit s.flags b.room) in
     let long : length (zeros t.section) ≡ t.section.size = length-replicate t.section.size 0 in
-    let held = filled_held l w t.section law legal laid t.input room filled (zeros t.section) (zero_bytes l t.input.owner t.section t.blank) long k (omega (arith, long, size, lt)) in
+    let held = filled_held l w t.section law kind legal laid t.input room (ap is_loaded t.loaded) filled (zeros t.section) (zero_bytes l t.input.owner t.section t.blank) long k (omega (arith, long, size, lt)) in
     let e : w.base + t.section.address + k ≡ w.base + (s.address + k) = omega (arith, address) in
     subst (λ (a : ℕ). byte_in (image_memory l w) a ≡ Some 0) e (held ∙ ap Some (get_or-replicate t.section.size k 0 0 (omega (arith, size, lt))))
 
@@ -112,12 +113,12 @@ unfilled l s a blank =
 
 pub blank_moved : (l : Layout) (w : World) (m : Memory) (s : InputSection) (k : ℕ) → BlanksAreStored → IsMovedImage l w m → IsBlank l s → HasFileBytes l s.part → k < s.size → byte_in m (w.base + (s.address + k)) ≡ Some 0
 blank_moved l w m s k law h b f lt =
-    let t = blank_stands l s h.well.laid b in
+    let t = blank_stands l s h.well.kind h.well.laid b in
     let size = t.size in
     let address = t.address in
     let filled = blank_filled l t.section t.loaded t.blank (subst (HasFileBytes l) (sym t.part) f) (omega (arith, size, lt)) in
     let room = subst (λ (n : ℕ). allocated n ≡ true) (sym t.flags) (alloc_bit s.flags b.room) in
-    let stored = blank_stored l t.section h.well.laid t.input room filled (omega (arith, size, lt)) in
+    let stored = blank_stored l t.section h.well.kind h.well.laid t.input room (ap is_loaded t.loaded) filled (omega (arith, size, lt)) in
     let same = kept_at l w m (t.section.address + k) h (section_misses l w m t.section k h (listed_section l t.section t.input) stored (omega (arith, size, lt)) (unfilled l t.section (t.section.address + k) t.blank)) in
     let e : t.section.address + k ≡ s.address + k = omega (arith, address) in
-    subst (λ (a : ℕ). byte_in m (w.base + a) ≡ byte_in (image_memory l w) (w.base + a)) e same ∙ law l w s k h.well.legal h.well.laid b f lt
+    subst (λ (a : ℕ). byte_in m (w.base + a) ≡ byte_in (image_memory l w) (w.base + a)) e same ∙ law l w s k h.well.kind h.well.legal h.well.laid b f lt

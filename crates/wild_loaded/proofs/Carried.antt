@@ -1,4 +1,6 @@
 -- The bytes of kept sections in the memory of an image that no entry has changed.
+use Rattle.wild_geometry.proofs.ReadLemmas.{loaded_is, read_loaded, read_written}
+use Rattle.wild_meaning.proofs.OutputLemmas.{not_partial}
 use Rattle.std.specs.List.{flat_map}
 use Rattle.wild_loaded.specs.Laws.{PartsAreStored}
 use Rattle.wild_slots.specs.Stand.{StandsAt}
@@ -10,22 +12,19 @@ use Rattle.wild_loaded.proofs.SectionsApart.{filled_place}
 use Rattle.wild_geometry.proofs.FrameSizes.{data_bytes}
 use Rattle.wild_geometry.proofs.StoodSections.{each_at, listed_section}
 use Rattle.wild_geometry.specs.Laid.{IsOf, Own, Ordered, IsLaid, IsKeptLaid, file_place}
-use Rattle.std.proofs.Common.{◌≡◌, ℕ, zero, suc, ◌+◌, ◌-◌, ◌^◌, ◌<◌, ◌≤◌, inl, inr, Bool, true, false, List, [], ◌∷◌, length, get_or, replicate, refl, sym, arith, subst, ◌++◌}
-use Rattle.std.specs.Prelude.{All, Contains, Some, slice_get, slice_index, if◌then◌else◌, ◌==◌, not}
+use Rattle.std.proofs.Common.{◌≡◌, ℕ, zero, suc, ◌+◌, ◌-◌, ◌^◌, ◌<◌, ◌≤◌, inl, inr, Bool, true, false, List, [], ◌∷◌, length, get_or, refl, sym, arith, subst, ◌++◌}
+use Rattle.std.specs.Prelude.{Contains, Some, slice_get, slice_index, if◌then◌else◌, ◌==◌, not}
 use Rattle.std.proofs.lemmas.Bool.{cases_Bool, eqb-true, and_parts, not-true}
-use Rattle.std.proofs.lemmas.List.Elements.{All-contains, Contains-append_left, Contains-append_right}
-use Rattle.wild_records.specs.Abi.Segment.{pt_load}
+use Rattle.std.proofs.lemmas.List.Elements.{Contains-append_left, Contains-append_right}
 use Rattle.wild_words.specs.Words.{Stands}
 use Rattle.wild_words.specs.Overlay.{Piece, overlay, AreApart}
 use Rattle.wild_words.proofs.OverlayLemmas.{length-overlay}
 use Rattle.wild_types.specs.declared.section.Segment.{Segment}
 use Rattle.wild_types.specs.declared.part.Role.TheVariants as role
-use Rattle.wild_types.specs.declared.input.Slot.{Slot}
 use Rattle.wild_types.specs.declared.input.Slot.TheVariants as slot
 use Rattle.wild_types.specs.declared.input.InputSection.{InputSection}
 use Rattle.wild_types.specs.Item.{item_of}
 use Rattle.wild_types.specs.declared.file.File.{File}
-use Rattle.wild_types.specs.declared.file.Group.{Group}
 use Rattle.wild_types.specs.declared.layout.Layout.{Layout}
 use Rattle.wild_types.specs.Lookups.{is_filled, is_loaded, is_read, is_frame, has_relocations, allocated}
 use Rattle.wild_layout.specs.Sites.{sites, section_bytes, item_bytes}
@@ -81,7 +80,7 @@ section_listed l s k filled =
 pub not_filled : (l : Layout) (s : InputSection) → is_read s ≡ true → is_frame s.slot ≡ false → is_filled l s ≡ false → length s.bytes ≡ 0
 not_filled l s read plain f =
     let parts = and_parts (has_relocations s.slot) (not s.nobits) read in
-    let loaded = loaded_slot s.slot parts.0 plain in
+    let loaded = loaded_is s.slot (read_loaded s read plain) in
     let n = not-true s.nobits parts.1 in
     let e : not (length s.bytes == 0) ≡ false = simp (loaded, n) at f in
     none (length s.bytes) (length s.bytes == 0) refl e
@@ -90,24 +89,15 @@ not_filled l s read plain f =
     none k true e h = eqb-true k 0 e
     none k false e h = cc
 
-    loaded_slot : (k : Slot) → has_relocations k ≡ true → is_frame k ≡ false → is_loaded k ≡ true
-    loaded_slot slot.Loaded h p = refl
-    loaded_slot slot.Frame h p = cc
-    loaded_slot other h p = cc
-
 Holds-empty : (m : Memory) (a : ℕ) (bs : List ℕ) → length bs ≡ 0 → Holds m a bs
 Holds-empty m a bs h = λ k lt. absurd (omega (arith, h, lt))
-
--- a section with data has it
-has_data : (s : InputSection) → is_read s ≡ true → s.nobits ≡ false
-has_data s read = not-true s.nobits (and_parts (has_relocations s.slot) (not s.nobits) read).1
 
 carried_byte : (l : Layout) (s : InputSection) (k : ℕ) → is_filled l s ≡ true → (h : Segment) × IsCarried l s k h → (h : Segment) × CarriesByte l h (file_place l s + k) (s.address + k)
 carried_byte l s k filled c = (c.0, subst (λ (n : ℕ). CarriesByte l c.0 (n + k) (s.address + k)) (sym (filled_place l s filled)) (record { listed = c.1.listed; loaded = c.1.loaded; from = c.1.from; to = c.1.to; distance = c.1.distance }))
 
 -- a kept section that owns bytes has each of them carried
-pub kept_carried : (l : Layout) (s : InputSection) → IsLaidOut l → IsLaid l s → allocated s.flags ≡ true → is_filled l s ≡ true → (k : ℕ) → k < s.size → (h : Segment) × CarriesByte l h (file_place l s + k) (s.address + k)
-kept_carried l s laid input room filled k lt = carried_byte l s k filled (each_at (IsMapped l) l s laid.mapped input filled room k lt)
+pub kept_carried : (l : Layout) (s : InputSection) → IsLoadable l.kind → IsLaidOut l → IsLaid l s → allocated s.flags ≡ true → is_loaded s.slot ≡ true → is_filled l s ≡ true → (k : ℕ) → k < s.size → (h : Segment) × CarriesByte l h (file_place l s + k) (s.address + k)
+kept_carried l s kind laid input room loaded filled k lt = carried_byte l s k filled (each_at (IsMapped l) l s (laid.mapped (not_partial l.kind kind)) input loaded filled room k lt)
 
 -- those of frames are carried with their part
 frame_carried : (l : Layout) (s : InputSection) → IsLoadable l.kind → IsLaidOut l → IsLaid l s → is_frame s.slot ≡ true → (k : ℕ) → k < s.size → (h : Segment) × CarriesByte l h (file_place l s + k) (s.address + k)
@@ -124,24 +114,24 @@ frame_carried l s kind laid input frame k lt =
 -- and has them in the file
 pub stored_kept : (l : Layout) (s : InputSection) → IsLoadable l.kind → IsLaidOut l → IsKeptLaid l s → 1 ≤ length s.bytes → IsStored l s
 stored_kept l s kind laid kept some =
-    let full = (each_at (SectionLies l) l s laid.inputs kept.input).bytes kept.reads in
+    let full = (each_at (SectionLies l) l s laid.inputs kept.input).bytes (read_written s kept.reads) in
     elim (cases_Bool (is_frame s.slot)) [
       | inl frame ↦ record { some = omega (arith, full, some); place = Framed frame; carried = frame_carried l s kind laid kept.input frame }
       | inr plain ↦ elim (cases_Bool (is_filled l s)) [
-        | inl filled ↦ record { some = omega (arith, full, some); place = Filled filled; carried = kept_carried l s laid kept.input (kept.room plain) filled }
+        | inl filled ↦ record { some = omega (arith, full, some); place = Filled filled; carried = kept_carried l s kind laid kept.input (kept.room plain) (read_loaded s kept.reads plain) filled }
         | inr f ↦ (let none = not_filled l s kept.reads plain f in absurd (omega (arith, none, some)))
       ]
     ]
 
 -- the bytes of a section that owns them are in memory at its address
-pub filled_held : (l : Layout) (w : World) (s : InputSection) → BytesAreLoaded → IsLegal l w → IsLaidOut l → (k : IsLaid l s) → allocated s.flags ≡ true → is_filled l s ≡ true → (bs : List ℕ) → section_bytes l k.owner s ≡ bs → length bs ≡ s.size → Holds (image_memory l w) (w.base + s.address) bs
-filled_held l w s law legal laid k room filled bs is long =
+pub filled_held : (l : Layout) (w : World) (s : InputSection) → BytesAreLoaded → IsLoadable l.kind → IsLegal l w → IsLaidOut l → (k : IsLaid l s) → allocated s.flags ≡ true → is_loaded s.slot ≡ true → is_filled l s ≡ true → (bs : List ℕ) → section_bytes l k.owner s ≡ bs → length bs ≡ s.size → Holds (image_memory l w) (w.base + s.address) bs
+filled_held l w s law kind legal laid k room loaded filled bs is long =
     let st : Stands (bytes l) (offset_in (slice_get l.parts s.part) s.address) (section_bytes l k.owner s) = piece_stands l (record { at = offset_in (slice_get l.parts s.part) s.address; bytes = section_bytes l k.owner s }) laid (section_listed l s k filled) in
     let st' = subst (λ (n : ℕ). Stands (bytes l) n bs) (sym (filled_place l s filled)) (subst (λ (xs : List ℕ). Stands (bytes l) (offset_in (slice_get l.parts s.part) s.address) xs) is st) in
     λ i lt. (
-    let c = kept_carried l s laid k room filled i (omega (arith, long, lt)) in
+    let c = kept_carried l s kind laid k room loaded filled i (omega (arith, long, lt)) in
     let e : w.base + (s.address + i) ≡ w.base + s.address + i = omega arith in
-    subst (λ (a : ℕ). byte_in (image_memory l w) a ≡ Some (slice_index bs i)) e (byte_carried l w c.0 (file_place l s + i) (s.address + i) (slice_index bs i) law legal laid c.1 (byte_stands (bytes l) (file_place l s) i bs lt st')))
+    subst (λ (a : ℕ). byte_in (image_memory l w) a ≡ Some (slice_index bs i)) e (byte_carried l w c.0 (file_place l s + i) (s.address + i) (slice_index bs i) law kind legal laid c.1 (byte_stands (bytes l) (file_place l s) i bs lt st')))
 
 -- the bytes of frames are there with the table of frames
 frame_held : (l : Layout) (w : World) (s : InputSection) → PartsAreStored → IsLoadable l.kind → IsLegal l w → IsLaidOut l → (k : IsLaid l s) → is_frame s.slot ≡ true → 1 ≤ length (item_bytes l (item_of l k.owner s)) → IsHeldAt l w s.address (item_bytes l (item_of l k.owner s))
@@ -156,11 +146,11 @@ pub section_held : (l : Layout) (w : World) (s : InputSection) → BytesAreLoade
 section_held l w s law parts kind legal laid k apart =
     let whole = overlay (sites l (item_of l k.input.owner s)) s.bytes in
     let len : length whole ≡ length s.bytes = length-overlay (sites l (item_of l k.input.owner s)) s.bytes apart in
-    let full = (each_at (SectionLies l) l s laid.inputs k.input).bytes k.reads in
+    let full = (each_at (SectionLies l) l s laid.inputs k.input).bytes (read_written s k.reads) in
     elim (cases_Bool (is_frame s.slot)) [
       | inl frame ↦ λ i lt. (frame_held l w s parts kind legal laid k.input frame (omega (arith, lt))).held i lt
       | inr plain ↦ elim (cases_Bool (is_filled l s)) [
-        | inl filled ↦ filled_held l w s law legal laid k.input (k.room plain) filled whole (data_bytes l k.input.owner s (has_data s k.reads)) (omega (arith, len, full))
+        | inl filled ↦ filled_held l w s law kind legal laid k.input (k.room plain) (read_loaded s k.reads plain) filled whole (data_bytes l k.input.owner s k.reads) (omega (arith, len, full))
         | inr f ↦ (let none = not_filled l s k.reads plain f in Holds-empty (image_memory l w) (w.base + s.address) whole (omega (arith, len, none)))
       ]
     ]
@@ -168,8 +158,8 @@ section_held l w s law parts kind legal laid k apart =
 -- and do not wrap
 pub section_ends : (l : Layout) (w : World) (s : InputSection) → IsLoadable l.kind → IsLegal l w → IsLaidOut l → (k : IsKeptLaid l s) → 1 ≤ length s.bytes → w.base + s.address + length s.bytes ≤ 2 ^ 64
 section_ends l w s kind legal laid k some =
-    let full = (each_at (SectionLies l) l s laid.inputs k.input).bytes k.reads in
+    let full = (each_at (SectionLies l) l s laid.inputs k.input).bytes (read_written s k.reads) in
     let stored = stored_kept l s kind laid k some in
     let c = stored.carried (s.size - 1) (omega (arith, full, some)) in
-    let e = byte_below l w c.0 (file_place l s + (s.size - 1)) (s.address + (s.size - 1)) legal laid c.1 in
+    let e = byte_below l w c.0 (file_place l s + (s.size - 1)) (s.address + (s.size - 1)) kind legal laid c.1 in
     omega (arith, e, full, some)

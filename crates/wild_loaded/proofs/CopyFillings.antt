@@ -31,7 +31,7 @@ use Rattle.wild_loader.specs.declared.world.World.{World}
 use Rattle.wild_loader.specs.Changes.{change_of, size_of, kind_of}
 use Rattle.wild_loader.specs.Memory.{byte_in}
 use Rattle.wild_loader.specs.Relocate.{loaded_at}
-use Rattle.wild_meaning.specs.World.{IsLegal, IsBehind, IsCopied, HasCopy}
+use Rattle.wild_meaning.specs.World.{IsLegal, IsBehind, IsCopied, HasCopy, IsLoadable}
 use Rattle.wild_meaning.proofs.SymbolLemmas.{canonical_is}
 use Rattle.wild_loaded.specs.Memory.{image_memory}
 use Rattle.wild_loaded.specs.Stored.{Copies}
@@ -85,6 +85,7 @@ pub record CopyLaws : Type 0 where
 
 -- what is known of a layout
 pub record HasCopies (l : Layout) (w : World) : Type 0 where
+  pub kind : IsLoadable l.kind
   pub numbers : NumbersFit l
   pub legal : IsLegal l w
   pub laid : IsLaidOut l
@@ -150,7 +151,7 @@ known_of l w i laws h c =
         let some : 1 ≤ x.width = omega (arith, lt) in
         let at = place_loaded w x.entry.offset x.width some (low some) in
         let place : w.base + (x.entry.offset + k) ≡ loaded_at w x.entry.offset + k = omega (arith, at) in
-        let zeros = laws.zeros l w (x.entry.offset + k) h.legal h.laid (behind k lt) in
+        let zeros = laws.zeros l w (x.entry.offset + k) h.kind h.legal h.laid (behind k lt) in
         subst (λ (a : ℕ). byte_in (image_memory l w) a ≡ Some 0) place zeros ∙ ap Some (sym (get_or-replicate x.width k 0 0 lt))
 
 pub copies_known : (l : Layout) (w : World) → CopyLaws → HasCopies l w → All (IsKnown w (image_memory l w)) (copies_filled l w)

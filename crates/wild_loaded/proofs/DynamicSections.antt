@@ -1,4 +1,5 @@
 -- The dynamic section of an image, and the tables that it names.
+use Rattle.wild_loaded.proofs.KindLemmas.{dynamic_whole}
 use Rattle.std.proofs.Common.{◌≡◌, ℕ, suc, ◌+◌, ◌-◌, ◌*◌, ◌/◌, ◌≤◌, inl, inr, true, List, [], ◌∷◌, ◌++◌, length, map, replicate, refl, sym, ap, ◌∙◌, arith, subst}
 use Rattle.std.specs.Prelude.{Option, Some, None, Contains, ◌==◌}
 use Rattle.std.specs.List.{flat_map}
@@ -84,7 +85,7 @@ zeroed = 0
 
 dynamic_part : (l : Layout) → LengthsOfRecords → EntriesAreFound → IsLaidOut l → needs_dynamic l.kind ≡ true → HasDynamicPart l
 dynamic_part l lengths found laid needs =
-    let p = laid.loadable.movable needs in
+    let p = (laid.loadable (dynamic_whole l.kind needs)).movable needs in
     let whole = laid.dynamic needs in
     let size = ((laid.roles role.Dynamic (λ e. cc)).there p.0 p.1).size in
     let bytes = ap (λ (bs : List ℕ). length bs) whole in
@@ -141,12 +142,12 @@ first_listed (x ∷ xs) g h =
 abbrev all_records : Layout → ℕ → List DynamicEntry
 all_records l room = all_needed l ++ dynamic_records l room
 
-has_dynamic : (l : Layout) → SectionLaws → NumbersFit l → IsLaidOut l → (d : HasDynamicPart l) → HasDynamic (bytes l) (map (program_header l) l.segments) (all_records l d.room)
-has_dynamic l laws numbers laid d =
-    let s = laid.loadable.dynamic d.part d.there in
+has_dynamic : (l : Layout) → SectionLaws → needs_dynamic l.kind ≡ true → NumbersFit l → IsLaidOut l → (d : HasDynamicPart l) → HasDynamic (bytes l) (map (program_header l) l.segments) (all_records l d.room)
+has_dynamic l laws needs numbers laid d =
+    let s = (laid.loadable (dynamic_whole l.kind needs)).dynamic d.part d.there in
     let place = segment_place l s.segment in
     let c = first_listed l.segments s.segment s.first in
-    let file = (All-contains (SegmentLoads (image_size l)) l.segments s.segment laid.loadable.each c).file in
+    let file = (All-contains (SegmentLoads (image_size l)) l.segments s.segment (laid.loadable (dynamic_whole l.kind needs)).each c).file in
     let n = length-bytes l laid in
     let at = laws.records l (all_needed l) d.room d.fits in
     let offset = place.0 ∙ s.offset in
@@ -170,7 +171,7 @@ has_dynamic l laws numbers laid d =
 pub entries_found : SectionLaws → DynamicSectionsStand
 entries_found laws = λ l needs numbers laid.
     let d = dynamic_part l laws.lengths laws.found laid needs in
-    record { room = d.room; dynamic = has_dynamic l laws numbers laid d }
+    record { room = d.room; dynamic = has_dynamic l laws needs numbers laid d }
 
 -- ---- the tables
 

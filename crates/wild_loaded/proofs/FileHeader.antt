@@ -5,7 +5,7 @@ use Rattle.std.proofs.lemmas.Bool.{cases_Bool, eqb-true, eqb-false, ne_eqb}
 use Rattle.std.proofs.lemmas.List.Elements.{All-head, All-tail}
 use Rattle.wild_records.specs.Abi.Segment.{pt_load, pt_gnu_stack, pf_x}
 use Rattle.wild_records.specs.FileHeader.{FileHeaderIsRead, file_header_at}
-use Rattle.wild_records.specs.ProgramHeader.{ProgramHeaderIsRead}
+use Rattle.wild_records.specs.ProgramHeader.{ProgramHeaderIsRead, program_header_size}
 use Rattle.wild_records.specs.declared.program_header.ProgramHeader.{ProgramHeader}
 use Rattle.wild_types.specs.declared.section.Segment.{Segment}
 use Rattle.wild_types.specs.declared.symbol.Resolution.{Resolution}
@@ -118,9 +118,9 @@ headers_read file program l headers =
     let count = headers.program_count in
     rw (is, count) (programs-read program (bytes l) (headers_of l) e.program_offset headers.programs_fit headers.programs)
 
-sizes_told : (l : Layout) → TellsSizes (file_header l)
+sizes_told : (l : Layout) → IsLoadable l.kind → TellsSizes (file_header l)
 unfolding file_header
-sizes_told l = record { ident_version = refl; version = refl; header = refl; program = refl; section = refl; flags = refl }
+sizes_told l k = record { ident_version = refl; version = refl; header = refl; program = ap (λ (b : Bool). if b then 0 else program_header_size) (not_partial l.kind k); section = refl; flags = refl }
 
 -- ---- the whole
 
@@ -136,6 +136,6 @@ header_told file program = λ l k numbers laid.
       address = λ a e. entry_is l ∙ entry_by_case l (Some (entry.Address a)) k e;
       symbol = λ i a e d. entry_is l ∙ symbol_entry l i a k e d;
       none = λ e. entry_is l ∙ entry_by_case l None k e;
-      sizes = sizes_told l;
-      segments = subst (λ (hs : List ProgramHeader). AreTold l l.segments hs) (sym (headers_read file program l headers)) (each_told l l.segments laid.loadable.pages);
+      sizes = sizes_told l k;
+      segments = subst (λ (hs : List ProgramHeader). AreTold l l.segments hs) (sym (headers_read file program l headers)) (each_told l l.segments (laid.loadable (not_partial l.kind k)).pages);
     }

@@ -1,4 +1,6 @@
 -- The headers of an image have their fields' ranges, and the loader takes them.
+use Rattle.wild_types.specs.Kinds.{is_partial_link}
+use Rattle.wild_types.specs.declared.kind.OutputKind.{OutputKind}
 use Rattle.std.proofs.Common.{◌≡◌, ℕ, suc, ◌+◌, ◌-◌, ◌*◌, ◌/◌, ◌%◌, ◌^◌, ◌<◌, ◌≤◌, inl, inr, Bool, true, false, List, [], ◌∷◌, length, max, refl, sym, ap, ◌∙◌, arith}
 use Rattle.std.specs.Prelude.{All, if◌then◌else◌, ◌==◌, nat_lt}
 use Rattle.std.specs.Int.RustNames.{bit_and}
@@ -7,8 +9,8 @@ use Rattle.std.proofs.lemmas.Nat.Bits.{and_pow}
 use Rattle.std.proofs.lemmas.List.Elements.{All-cons}
 use Rattle.wild_records.specs.Abi.Section.{shf_compressed, shn_loreserve, shf_alloc}
 use Rattle.wild_records.specs.Abi.Segment.{pt_load, pt_gnu_stack, pf_x}
-use Rattle.wild_records.specs.FileHeader.{FileHeaderFits}
-use Rattle.wild_records.specs.ProgramHeader.{ProgramHeaderFits}
+use Rattle.wild_records.specs.FileHeader.{FileHeaderFits, file_header_size}
+use Rattle.wild_records.specs.ProgramHeader.{ProgramHeaderFits, program_header_size}
 use Rattle.wild_records.specs.SectionHeader.{SectionHeaderFits}
 use Rattle.wild_types.specs.declared.part.Part.{Part}
 use Rattle.wild_types.specs.declared.part.Role.TheVariants as role
@@ -87,6 +89,11 @@ sections_told n h =
 
 -- ---- the file header
 
+-- what a relocatable object does not tell
+header_fits : (partial : Bool) (n limit : ℕ) → n < limit → (if partial then 0 else n) < limit
+header_fits true n limit h = omega (arith, h)
+header_fits false n limit h = h
+
 pub file_header_fits : (l : Layout) → IsLoadable l.kind → NumbersFit l → length l.segments ≤ 65534 → (file_header l).section_offset < 2 ^ 64 → FileHeaderFits (file_header l)
 unfolding file_header
 file_header_fits l k numbers few low =
@@ -94,8 +101,8 @@ file_header_fits l k numbers few low =
     let n = (facts_of l.machine).number in
     record {
       front = record { magic = omega arith; class = omega arith; encoding = omega arith; ident_version = omega arith; os_abi = omega arith; abi_version = omega arith; file_type = t };
-      middle = record { machine = omega (arith, n); version = omega arith; entry = numbers.entry; program_offset = omega arith; section_offset = low; flags = omega arith; header_size = omega arith };
-      back = record { program_entry_size = omega arith; program_count = omega (arith, few); section_entry_size = omega arith; section_count = escape_fits (length l.sections) 0 (omega arith); name_table = escape_fits (name_table l) 0xffff (omega arith) };
+      middle = record { machine = omega (arith, n); version = omega arith; entry = numbers.entry; program_offset = header_fits (is_partial_link l.kind) file_header_size (2 ^ 64) (omega arith); section_offset = low; flags = omega arith; header_size = omega arith };
+      back = record { program_entry_size = header_fits (is_partial_link l.kind) program_header_size (2 ^ 16) (omega arith); program_count = omega (arith, few); section_entry_size = omega arith; section_count = escape_fits (length l.sections) 0 (omega arith); name_table = escape_fits (name_table l) 0xffff (omega arith) };
     }
 
 pub file_header_loads : (l : Layout) → IsLoadable l.kind → is_loadable_header (file_header l) ≡ true
@@ -156,13 +163,13 @@ info_fits l i s n =
     (one_told (i == section_of_role role.GnuVersionD l.parts) (length l.verdefs) _
     (one_told (i == section_of_role role.GnuVersionR l.parts) (need_count l) s.info n.links.info))))
 
-section_header_fits : (info name : ℕ) (s : Section) → info < 2 ^ 32 → name < 2 ^ 32 → SectionNumbers s → SectionHeaderFits (section_header info name s)
+section_header_fits : (kind : OutputKind) (info name : ℕ) (s : Section) → info < 2 ^ 32 → name < 2 ^ 32 → SectionNumbers s → SectionHeaderFits (section_header kind info name s)
 unfolding section_header
-section_header_fits info name s told h n =
+section_header_fits kind info name s told h n =
     let f = uncompressed-le s.flags in
     let p = n.places.flags in
     record {
-      front = record { name = h; kind = n.places.kind; flags = omega (arith, f, p); address = n.places.address; offset = n.places.offset; size = n.places.size; link = n.links.link };
+      front = record { name = h; kind = n.places.kind; flags = omega (arith, f, p); address = header_fits (is_partial_link kind) s.address (2 ^ 64) n.places.address; offset = n.places.offset; size = n.places.size; link = n.links.link };
       back = record { info = told; align = n.links.align; entry_size = n.links.entsize };
     }
 
@@ -176,21 +183,21 @@ null_header_fits l few named =
       back = record { info = omega arith; align = omega arith; entry_size = omega arith };
     }
 
-headers_fit : (l : Layout) (i name : ℕ) (ss : List Section) → name + total (λ (s : Section). length s.name + 1) ss < 2 ^ 32 → All SectionNumbers ss → All SectionHeaderFits (headers_from (told_of l) i name ss)
+headers_fit : (l : Layout) (i name : ℕ) (ss : List Section) → name + total (λ (s : Section). length s.name + 1) ss < 2 ^ 32 → All SectionNumbers ss → All SectionHeaderFits (headers_from l.kind (told_of l) i name ss)
 headers_fit l i name [] h n = λ k d m. absurd (omega arith)
 headers_fit l i name (s ∷ ss) h n =
-    All-cons SectionHeaderFits (section_header (info_at (told_of l) i s.info) name s) (headers_from (told_of l) (i + 1) (name + length s.name + 1) ss)
-    (section_header_fits (info_at (told_of l) i s.info) name s (info_fits l i s (n 0 s (omega arith))) (omega (arith, h)) (n 0 s (omega arith)))
+    All-cons SectionHeaderFits (section_header l.kind (info_at (told_of l) i s.info) name s) (headers_from l.kind (told_of l) (i + 1) (name + length s.name + 1) ss)
+    (section_header_fits l.kind (info_at (told_of l) i s.info) name s (info_fits l i s (n 0 s (omega arith))) (omega (arith, h)) (n 0 s (omega arith)))
     (headers_fit l (i + 1) (name + length s.name + 1) ss (omega (arith, h)) (λ k d m. n (suc k) d (omega arith)))
 
 pub section_headers_fit : (l : Layout) (ss : List Section) → length l.sections < 2 ^ 31 → name_table l < 2 ^ 32 → total (λ (s : Section). length s.name + 1) ss < 2 ^ 32 → All SectionNumbers ss → All SectionHeaderFits (section_headers_of l ss)
 section_headers_fit l [] few named h n = λ k d m. absurd (omega arith)
 section_headers_fit l (s ∷ ss) few named h n =
-    All-cons SectionHeaderFits (null_header l) (headers_from (told_of l) 1 (length s.name + 1) ss)
+    All-cons SectionHeaderFits (null_header l) (headers_from l.kind (told_of l) 1 (length s.name + 1) ss)
     (null_header_fits l few named)
     (headers_fit l 1 (length s.name + 1) ss (omega (arith, h)) (λ k d m. n (suc k) d (omega arith)))
 
-length-headers : (l : Layout) (i name : ℕ) (ss : List Section) → length (headers_from (told_of l) i name ss) ≡ length ss
+length-headers : (l : Layout) (i name : ℕ) (ss : List Section) → length (headers_from l.kind (told_of l) i name ss) ≡ length ss
 length-headers l i name [] = refl
 length-headers l i name (s ∷ ss) = ap suc (length-headers l (i + 1) (name + length s.name + 1) ss)
 

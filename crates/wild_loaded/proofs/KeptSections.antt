@@ -1,4 +1,5 @@
 -- What is known of a kept section of a layout that is laid out and decided.
+use Rattle.wild_geometry.proofs.ReadLemmas.{read_fields, read_written}
 use Rattle.std.proofs.Common.{◌≡◌, ℕ, length, refl, sym, subst}
 use Rattle.std.specs.Prelude.{All}
 use Rattle.wild_types.specs.declared.input.InputSection.{InputSection}
@@ -29,6 +30,6 @@ kept_well l s laid decided k =
       own = refl;
       decisions = decided s k.input read;
       lies = lies;
-      full = lies.bytes read;
-      fields = subst (λ (n : ℕ). All (FieldLies l.machine n) s.relocations) (sym (lies.bytes read)) lies.fields;
+      full = lies.bytes (read_written s read);
+      fields = subst (λ (n : ℕ). All (FieldLies l.machine n) s.relocations) (sym (lies.bytes (read_written s read))) (lies.fields (read_fields s read));
     }

@@ -1,3 +1,4 @@
+pub mod KindLemmas
 pub mod Rooms
 pub mod FramesStand
 pub mod FileType

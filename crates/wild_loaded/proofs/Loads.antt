@@ -1,6 +1,8 @@
 -- The image of a laid out layout is loaded.
-use Rattle.std.proofs.Common.{◌≡◌, ℕ, zero, suc, ◌+◌, ◌-◌, ◌^◌, ◌<◌, ◌≤◌, inl, inr, List, [], ◌∷◌, length, get_or, map, refl, sym, ◌∙◌, arith, subst}
-use Rattle.std.specs.Prelude.{AllPairs, Contains}
+use Rattle.wild_types.specs.Kinds.{is_partial_link}
+use Rattle.wild_meaning.proofs.OutputLemmas.{not_partial}
+use Rattle.std.proofs.Common.{◌≡◌, ℕ, zero, suc, ◌+◌, ◌-◌, ◌^◌, ◌<◌, ◌≤◌, inl, inr, List, [], ◌∷◌, length, get_or, map, refl, sym, ap, ◌∙◌, arith, subst}
+use Rattle.std.specs.Prelude.{AllPairs, Bool, Contains, if◌then◌else◌}
 use Rattle.std.specs.List.{flat_map}
 use Rattle.std.proofs.lemmas.Bool.{cases_lt}
 use Rattle.std.proofs.lemmas.List.{length-map}
@@ -71,10 +73,11 @@ table_stands l at bs laid t =
 segment_headers : Layout → List ProgramHeader
 segment_headers l = map (program_header l) l.segments
 
-programs_stand : (l : Layout) → IsLaidOut l → Stands (bytes l) file_header_size (flat_map (λ (h : ProgramHeader). spell (program_header_fields h)) (map (program_header l) l.segments))
-programs_stand l laid =
+programs_stand : (l : Layout) → IsLoadableKind l.kind → IsLaidOut l → Stands (bytes l) (if is_partial_link l.kind then 0 else file_header_size) (flat_map (λ (h : ProgramHeader). spell (program_header_fields h)) (map (program_header l) l.segments))
+programs_stand l k laid =
     let st = table_stands l file_header_size (program_header_bytes l) laid laid.tables.program_headers in
-    subst (λ (xs : List ℕ). Stands (bytes l) file_header_size xs) (sym (flat_map-map (λ (h : ProgramHeader). spell (program_header_fields h)) (program_header l) l.segments)) st
+    let told : (if is_partial_link l.kind then 0 else file_header_size) ≡ file_header_size = ap (λ (b : Bool). if b then 0 else file_header_size) (not_partial l.kind k) in
+    subst (λ (n : ℕ). Stands (bytes l) n (flat_map (λ (h : ProgramHeader). spell (program_header_fields h)) (map (program_header l) l.segments))) (sym told) (subst (λ (xs : List ℕ). Stands (bytes l) file_header_size xs) (sym (flat_map-map (λ (h : ProgramHeader). spell (program_header_fields h)) (program_header l) l.segments)) st)
 
 headers_offset : (l : Layout) → IsLaidOut l → offset_of_role role.SectionHeaders l.parts < 2 ^ 64
 headers_offset l laid =
@@ -95,7 +98,7 @@ has_headers l k numbers laid =
       fits = file_header_fits l k numbers laid.segments (headers_offset l laid);
       file_header = table_stands l 0 (file_header_bytes l) laid laid.tables.file_header;
       programs_fit = All-map ProgramHeaderFits (program_header l) l.segments (λ i d lt. program_header_fits l (get_or l.segments i d) numbers.page (numbers.segments i d lt));
-      programs = programs_stand l laid;
+      programs = programs_stand l k laid;
       program_count = sym (length-map l.segments (program_header l));
       sections_fit = section_headers_fit l l.sections laid.sections (names_low l laid) laid.names numbers.sections;
       sections = table_stands l (offset_of_role role.SectionHeaders l.parts) (section_header_bytes l) laid laid.tables.section_headers;
@@ -129,10 +132,10 @@ AllPairs-map {X} R f (x ∷ xs) h = λ i j d l m. at R f x xs h (AllPairs-map R 
     at R f x xs h again (suc i) (suc j) d l m = again i j d (omega arith) (omega arith)
     at R f x xs h again zero (suc j) d l m = All-map (R (f x)) f xs (λ k e lt. h 0 (suc k) e (omega arith) (omega arith)) j d (omega arith)
 
-pub are_loadable : (l : Layout) (w : World) → IsLegal l w → IsLaidOut l → AreLoadable w.base (bytes l) (map (program_header l) l.segments)
-are_loadable l w legal laid = record {
-  each = All-map (λ (h : ProgramHeader). h.kind ≡ pt_load → IsLoadable w.base (length (bytes l)) h) (program_header l) l.segments (λ i d lt. segment_loadable l w (get_or l.segments i d) (legal.ends i d lt) (laid.loadable.each i d lt) laid);
-  ascend = AllPairs-map HeadersAscend (program_header l) l.segments (λ i j d lt m. headers_ascend l (get_or l.segments i d) (get_or l.segments j d) (laid.loadable.ascend i j d lt m));
+pub are_loadable : (l : Layout) (w : World) → IsLoadableKind l.kind → IsLegal l w → IsLaidOut l → AreLoadable w.base (bytes l) (map (program_header l) l.segments)
+are_loadable l w kind legal laid = record {
+  each = All-map (λ (h : ProgramHeader). h.kind ≡ pt_load → IsLoadable w.base (length (bytes l)) h) (program_header l) l.segments (λ i d lt. segment_loadable l w (get_or l.segments i d) (legal.ends i d lt) ((laid.loadable (not_partial l.kind kind)).each i d lt) laid);
+  ascend = AllPairs-map HeadersAscend (program_header l) l.segments (λ i j d lt m. headers_ascend l (get_or l.segments i d) (get_or l.segments j d) ((laid.loadable (not_partial l.kind kind)).ascend i j d lt m));
 }
 
 -- what a program header tells of a segment

@@ -1,4 +1,5 @@
 -- The image of a layout is loaded: its addresses move, what is left to entries is filled, and nothing else changes.
+use Rattle.wild_meaning.proofs.OutputLemmas.{not_partial}
 use Rattle.wild_geometry.proofs.KeptItems.{kept_laid}
 use Rattle.wild_geometry.specs.Laid.{KeptIsLaid}
 use Rattle.std.proofs.Common.{◌≡◌, ℕ, ◌+◌, Bool, true, false, [], length, refl, sym, ap, ◌∙◌, arith, subst}
@@ -68,7 +69,7 @@ moved_image l w m laws h applied = record {
 -- ---- zeros and copies
 
 zero_moved : (l : Layout) (w : World) (m : Memory) (a : ℕ) → IsMovedImage l w m → IsBehind l a → IsNotCopied l w a → byte_in m (w.base + a) ≡ Some 0
-zero_moved l w m a h b none = kept_at l w m a h (behind_miss l w m a h b none) ∙ h.laws.filled.copies.zeros l w a h.well.legal h.well.laid b
+zero_moved l w m a h b none = kept_at l w m a h (behind_miss l w m a h b none) ∙ h.laws.filled.copies.zeros l w a h.well.kind h.well.legal h.well.laid b
 
 library : (r : FileRole) → r ≡ file_role.Dynamic → is_library r ≡ true
 library r e = ap is_library e
@@ -96,7 +97,7 @@ copy_moved l w m i raw x h c =
 
 item_moved : (l : Layout) (w : World) (m : Memory) (s : Item) → KeptIsLaid → IsMovedImage l w m → IsKept l s → HasItem l w m s InMemory
 item_moved l w m s law h kept =
-    let k = law l s h.well.laid kept in
+    let k = law l s (not_partial l.kind h.well.kind) h.well.laid kept in
     subst (λ (i : Item). HasItem l w m i InMemory) (sym k.is) (section_moved l w m (block_for l k.kept.input.owner k.section) k.section h (kept_well l k.section h.well.laid h.well.decided k.kept))
 
 pub memory_moved : MovingLaws → MemoryIsMoved
@@ -136,7 +137,7 @@ dynamic_loaded : (l : Layout) (w : World) → ImageLaws → needs_dynamic l.kind
 dynamic_loaded l w laws needs kind numbers legal laid whole made =
     let t = laws.found l needs numbers laid whole in
     let before = image_memory l w in
-    let is = laws.dynamic w (bytes l) (file_header l) (headers_of l) (section_headers_of l l.sections) t.entries (tables_of l) (laws.headers.stand l kind numbers laid) (laws.headers.taken l kind) (laws.segments.loadable l w legal laid) t.dynamic t.tables in
+    let is = laws.dynamic w (bytes l) (file_header l) (headers_of l) (section_headers_of l l.sections) t.entries (tables_of l) (laws.headers.stand l kind numbers laid) (laws.headers.taken l kind) (laws.segments.loadable l w kind legal laid) t.dynamic t.tables in
     let h = has_changed w before (tables_of l) laws.applied made.made made.apart in
     record {
       memory = patched before (patches_of (tables_of l) (place_change w before) (entry_change w before));
@@ -149,7 +150,7 @@ static_loaded l w laws plain kind numbers legal laid whole made =
     let t = laws.sections l kind plain numbers laid whole in
     let before = image_memory l w in
     let rs = section_relas (section_headers_of l l.sections) t.of in
-    let is = laws.static w (bytes l) (file_header l) (headers_of l) (section_headers_of l l.sections) t.of (laws.headers.stand l kind numbers laid) (laws.headers.taken l kind) (laws.segments.loadable l w legal laid) (no-dynamic (headers_of l) t.static) t.told t.sections in
+    let is = laws.static w (bytes l) (file_header l) (headers_of l) (section_headers_of l l.sections) t.of (laws.headers.stand l kind numbers laid) (laws.headers.taken l kind) (laws.segments.loadable l w kind legal laid) (no-dynamic (headers_of l) t.static) t.told t.sections in
     let h = has_changed w before (alone rs) laws.applied (alone_made w before (tables_of l) rs t.all made.made) (alone_apart w before (tables_of l) rs laws.order t.words t.all made.apart) in
     let back = alone_changed w before (patched before (patches_of (alone rs) (place_change w before) (entry_change w before))) (tables_of l) rs t.words t.all h in
     record {

@@ -40,19 +40,19 @@ home_misses l w m h k image there lt = λ i d b. (λ j less e.
     let y = get_or (copies_filled l w) i d in
     let behind = copies_behind l w image.laws.filled.copies (copies_of_well l w image.well) i d b j less in
     let p : Filling = general_of (place_entry (h.address + k)) 1 in
-    behind_misses l h (y.entry.offset + j) p image.well.laid there (record { from = omega arith; to = omega (arith, lt) }) behind 0 (omega arith) (omega (arith, e)))
+    behind_misses l h (y.entry.offset + j) p image.well.kind image.well.laid there (record { from = omega arith; to = omega (arith, lt) }) behind 0 (omega arith) (omega (arith, e)))
 
 -- ---- bytes of sections
 
 section_misses_table : (l : Layout) (w : World) (m : Memory) (r : Role) (s : InputSection) (k : ℕ) (xs : List Filling) → IsMovedImage l w m → is_loaded_role r ≡ true → (r ≡ role.EhFrame → ⊥) → Contains (all_sections l) s → IsStored l s → k < s.size → InTable l r xs → All (Misses (s.address + k)) xs
 section_misses_table l w m r s k xs h loaded other c stored lt t = λ i d b.
-    misses_across l (section_home l s) (role_home l r) k (get_or xs i d) h.well.laid (stored_home l s stored) (role_there l r loaded h.well.kind h.well.laid) (homes_back (role_home l r) (section_home l s) (section_apart l r s loaded other h.well.laid c stored)) lt (t.within i d b)
+    misses_across l (section_home l s) (role_home l r) k (get_or xs i d) h.well.kind h.well.laid (stored_home l s stored) (role_there l r loaded h.well.kind h.well.laid) (homes_back (role_home l r) (section_home l s) (section_apart l r s loaded other h.well.laid c stored)) lt (t.within i d b)
 
 -- a byte of a section that the section's own fillings miss
 pub section_misses : (l : Layout) (w : World) (m : Memory) (s : InputSection) (k : ℕ) → IsMovedImage l w m → Contains (all_sections l) s → IsStored l s → k < s.size → All (Misses (s.address + k)) (section_fillings l s) → All (Misses (s.address + k)) (all_fillings l w)
 section_misses l w m s k h c stored lt own =
     all_miss l w (s.address + k)
-    (misses_all l (section_fillings l) s k h.well.laid h.sections c stored lt own)
+    (misses_all l (section_fillings l) s k h.well.kind h.well.laid h.sections c stored lt own)
     (section_misses_table l w m role.Got s k (slots_filled l) h refl (λ e. cc) c stored lt h.slots.got)
     (section_misses_table l w m role.GotRelr s k (blocks_filled l) h refl (λ e. cc) c stored lt h.slots.block)
     (home_misses l w m (section_home l s) k h (stored_home l s stored) lt)
@@ -65,11 +65,11 @@ run_misses_sections l w m r k h there apart lt =
     let s = get_or (all_sections l) i d in
     let stored = h.sections.stored i d b (not_empty _ j n) in
     let c : Contains (all_sections l) s = (i, b, get_or_default (all_sections l) i s d b) in
-    misses_across l r (section_home l s) k (get_or (section_fillings l s) j e) h.well.laid there (stored_home l s stored) (apart s c stored) lt (h.sections.within i d b j e n)))
+    misses_across l r (section_home l s) k (get_or (section_fillings l s) j e) h.well.kind h.well.laid there (stored_home l s stored) (apart s c stored) lt (h.sections.within i d b j e n)))
 
 run_misses_table : (l : Layout) (w : World) (m : Memory) (r : Home) (t : Role) (k : ℕ) (xs : List Filling) → IsMovedImage l w m → HasHome l r → is_loaded_role t ≡ true → HomesApart r (role_home l t) → k < r.size → InTable l t xs → All (Misses (r.address + k)) xs
 run_misses_table l w m r t k xs h there loaded apart low table = λ i d b.
-    misses_across l r (role_home l t) k (get_or xs i d) h.well.laid there (role_there l t loaded h.well.kind h.well.laid) apart low (table.within i d b)
+    misses_across l r (role_home l t) k (get_or xs i d) h.well.kind h.well.laid there (role_there l t loaded h.well.kind h.well.laid) apart low (table.within i d b)
 
 table_misses_sections : (l : Layout) (w : World) (m : Memory) (r : Role) (k : ℕ) → IsMovedImage l w m → is_loaded_role r ≡ true → (r ≡ role.EhFrame → ⊥) → k < (role_home l r).size → All (Misses ((role_home l r).address + k)) (sections_filled l)
 table_misses_sections l w m r k h loaded other lt =

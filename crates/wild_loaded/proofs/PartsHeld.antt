@@ -49,11 +49,11 @@ pub carries_part : (l : Layout) (p : Part) (k : ℕ) (g : Segment) → IsPartCar
 carries_part l p k g c = record { listed = c.listed; loaded = c.loaded; from = c.from; to = c.to; distance = c.distance }
 
 -- a byte that a segment carries
-pub byte_carried : (l : Layout) (w : World) (g : Segment) (offset address byte : ℕ) → BytesAreLoaded → IsLegal l w → IsLaidOut l → CarriesByte l g offset address → Stands (bytes l) offset (byte ∷ []) → byte_in (image_memory l w) (w.base + address) ≡ Some byte
-byte_carried l w g offset address byte law legal laid c st =
+pub byte_carried : (l : Layout) (w : World) (g : Segment) (offset address byte : ℕ) → BytesAreLoaded → IsLoadable l.kind → IsLegal l w → IsLaidOut l → CarriesByte l g offset address → Stands (bytes l) offset (byte ∷ []) → byte_in (image_memory l w) (w.base + address) ≡ Some byte
+byte_carried l w g offset address byte law kind legal laid c st =
     let to = c.to in
     let held = law (machine_of (file_header l)) w.base (bytes l) (map (program_header l) l.segments) (program_header l g) (byte ∷ []) offset address
-    (are_loadable l w legal laid)
+    (are_loadable l w kind legal laid)
     (Contains-map (program_header l) l.segments g c.listed)
     (kind_is l g ∙ c.loaded)
     (header_from l g address c.from)
@@ -65,10 +65,10 @@ byte_carried l w g offset address byte law legal laid c st =
     subst (λ (a : ℕ). byte_in (image_memory l w) a ≡ Some byte) e (held 0 (omega arith))
 
 -- and its address does not wrap
-pub byte_below : (l : Layout) (w : World) (g : Segment) (offset address : ℕ) → IsLegal l w → IsLaidOut l → CarriesByte l g offset address → w.base + address + 1 ≤ 2 ^ 64
-byte_below l w g offset address legal laid c =
+pub byte_below : (l : Layout) (w : World) (g : Segment) (offset address : ℕ) → IsLoadable l.kind → IsLegal l w → IsLaidOut l → CarriesByte l g offset address → w.base + address + 1 ≤ 2 ^ 64
+byte_below l w g offset address kind legal laid c =
     let to = c.to in
-    let sizes = (All-contains (SegmentLoads (image_size l)) l.segments g laid.loadable.each c.listed).sizes c.loaded in
+    let sizes = (All-contains (SegmentLoads (image_size l)) l.segments g (laid.loadable (not_partial l.kind kind)).each c.listed).sizes c.loaded in
     let ends = All-contains (λ (h : Segment). h.kind ≡ pt_load → w.base + h.address + h.mem_size ≤ 2 ^ 64) l.segments g legal.ends c.listed c.loaded in
     omega (arith, to, sizes, ends)
 
@@ -91,7 +91,7 @@ placed r h e = by_place (role_place r) e h
 pub part_carried : (l : Layout) (r : Role) (p : Part) (k : ℕ) → is_loaded_role r ≡ true → IsLoadable l.kind → IsLaidOut l → part_with r l.parts ≡ Some p → k < p.size → (g : Segment) × CarriesByte l g (p.offset + k) (p.address + k)
 part_carried l r p k loaded kind laid there lt =
     let t = (laid.roles r (placed r loaded)).there p there in
-    let c = All-contains (IsPartMapped l) l.parts p laid.carried t.listed (not_partial l.kind kind) (subst (λ (x : Role). is_loaded_role x ≡ true) (sym t.has) loaded) k lt in
+    let c = All-contains (IsPartMapped l) l.parts p (laid.carried (not_partial l.kind kind)) t.listed (not_partial l.kind kind) (subst (λ (x : Role). is_loaded_role x ≡ true) (sym t.has) loaded) k lt in
     (c.0, carries_part l p k c.0 c.1)
 
 pub part_stored : BytesAreLoaded → TablesStand → PartsAreStored
@@ -103,13 +103,13 @@ part_stored law stands = λ l w r p loaded kind legal laid there.
           (let c = part_carried l r p k loaded kind laid there (omega (arith, full, lt)) in
           let st = stands l laid r (placed r loaded) p there (omega (arith, full, lt)) in
           let e : w.base + (p.address + k) ≡ w.base + p.address + k = omega arith in
-          subst (λ (a : ℕ). byte_in (image_memory l w) a ≡ Some (slice_index (table_bytes l r) k)) e (byte_carried l w c.0 (p.offset + k) (p.address + k) (slice_index (table_bytes l r) k) law legal laid c.1 (byte_stands (bytes l) p.offset k (table_bytes l r) lt st)));
+          subst (λ (a : ℕ). byte_in (image_memory l w) a ≡ Some (slice_index (table_bytes l r) k)) e (byte_carried l w c.0 (p.offset + k) (p.address + k) (slice_index (table_bytes l r) k) law kind legal laid c.1 (byte_stands (bytes l) p.offset k (table_bytes l r) lt st)));
     }
   where
     last : (l : Layout) (w : World) (r : Role) (p : Part) → is_loaded_role r ≡ true → IsLoadable l.kind → IsLegal l w → IsLaidOut l → part_with r l.parts ≡ Some p → 1 ≤ p.size → w.base + p.address + p.size ≤ 2 ^ 64
     last l w r p loaded kind legal laid there some =
         let c = part_carried l r p (p.size - 1) loaded kind laid there (omega (arith, some)) in
-        let e = byte_below l w c.0 (p.offset + (p.size - 1)) (p.address + (p.size - 1)) legal laid c.1 in
+        let e = byte_below l w c.0 (p.offset + (p.size - 1)) (p.address + (p.size - 1)) kind legal laid c.1 in
         omega (arith, e, some)
 
 -- ---- what stands in tables

@@ -1,29 +1,23 @@
 -- Where what files own stands, whatever its bytes are: sections as the room that they take of the image.
 use Rattle.std.proofs.Common.{◌≡◌, ℕ, ◌+◌, ◌<◌, ◌≤◌, ◌⊎◌, Bool, true, false, if◌then◌else◌, List, [], ◌∷◌, ◌++◌, length, map, get_or, All, AllPairs, replicate, slice_get, flat_map, refl, sym, ap, ◌∙◌, arith, subst}
-use Rattle.std.proofs.lemmas.Bool.{and_parts}
 use Rattle.std.proofs.lemmas.List.{length-replicate, length-map, get_or-map, map-append, append_assoc}
 use Rattle.std.proofs.lemmas.List.Concat.{flat_map-append}
 use Rattle.std.proofs.lemmas.List.Elements.{All-head, All-tail, All-weaker}
-use Rattle.wild_words.specs.Overlay.{Piece, Apart}
 use Rattle.wild_words.specs.declared.extents.Extent.{Extent}
 use Rattle.wild_words.proofs.Basics.{map-flat_map}
-use Rattle.wild_words.proofs.ListLemmas.{All-append-left, All-append-right, All-flat_map, flat_map-flat_map, All-from_flat_map}
+use Rattle.wild_words.proofs.ListLemmas.{All-append-left, All-append-right, All-flat_map, flat_map-flat_map}
 use Rattle.wild_types.specs.declared.input.InputSection.{InputSection}
 use Rattle.wild_types.specs.declared.file.File.{File}
-use Rattle.wild_types.specs.declared.file.Group.{Group}
 use Rattle.wild_types.specs.declared.layout.Layout.{Layout}
 use Rattle.wild_types.specs.FileRoles.{is_epilogue}
-use Rattle.wild_types.specs.Lookups.{is_filled, is_loaded, is_read}
-use Rattle.wild_types.proofs.LookupLemmas.{read_if}
+use Rattle.wild_types.specs.Lookups.{is_filled}
 use Rattle.wild_laid.specs.Turned.{as_turned}
 use Rattle.wild_laid.specs.Laid.{Input, laid_files, sorted_inputs, sorted_sections, of_last_file, processed}
 use Rattle.wild_layout.specs.SectionPlaces.{SectionLies}
 use Rattle.wild_layout.specs.Geometry.{EachSection}
 use Rattle.wild_layout.specs.Image.{offset_in, section_piece, section_pieces, sorted_piece, thunk_pieces, of_first_file, once_pieces, file_pieces, owned_pieces}
-use Rattle.wild_types.specs.Item.{item_of}
-use Rattle.wild_words.specs.Overlay.{overlay}
-use Rattle.wild_layout.specs.Sites.{section_bytes, sites, extent_of}
-use Rattle.wild_geometry.proofs.SiteLemmas.{length-section_bytes}
+use Rattle.wild_words.specs.Overlay.{Piece, Apart}
+use Rattle.wild_layout.specs.Sites.{section_bytes, extent_of}
 
 -- ---- pieces at the same places
 
@@ -72,11 +66,7 @@ abbrev pub HasSize : Layout → InputSection → Type 0
 HasSize l s = is_filled l s ≡ true → (f : File) → length (section_bytes l f s) ≡ s.size
 
 pub lies_size : (l : Layout) (s : InputSection) → SectionLies l s → HasSize l s
-lies_size l s h filled f = by s.nobits refl
-  where
-    by : (nobits : Bool) → s.nobits ≡ nobits → length (section_bytes l f s) ≡ s.size
-    by true e = length-section_bytes l f s (λ n. (let both : true ≡ false = sym e ∙ n in cc)) h.fields
-    by false e = length-section_bytes l f s (λ n. h.bytes (read_if s s.slot refl (and_parts (is_loaded s.slot) _ filled).0 e)) h.fields
+lies_size l s h filled f = h.long filled f
 
 same_place : (l : Layout) (f : File) (s : InputSection) → HasSize l s → map extent_of (section_room l s) ≡ map extent_of (section_piece l f s)
 same_place l f s h = by (is_filled l s) refl

@@ -1,4 +1,6 @@
 -- The entries of an image without a dynamic section, by the sections that have them.
+use Rattle.wild_types.specs.declared.kind.OutputKind.{OutputKind}
+use Rattle.wild_loaded.proofs.KindLemmas.{fixed_whole}
 use Rattle.std.proofs.Common.{◌≡◌, ℕ, zero, suc, ◌+◌, ◌*◌, ◌/◌, ◌%◌, ◌<◌, ◌≤◌, ◌⊎◌, inl, inr, Bool, true, false, not, List, [], ◌∷◌, ◌++◌, length, get_or, All, refl, sym, ap, ◌∙◌, arith, subst}
 use Rattle.std.specs.Prelude.{Option, Some, None, Contains, IsPermutation, ◌&&◌, ◌==◌, if◌then◌else◌, slice_get}
 use Rattle.std.specs.List.{flat_map, filter}
@@ -40,16 +42,16 @@ use Rattle.wild_loaded.proofs.TableBytes.{stands_joined}
 -- ---- headers
 
 -- the header is that of the section with its number
-record IsHeaderOf (ss : List Section) (k : ℕ) (h : SectionHeader) : Type 0 where
+record IsHeaderOf (kind : OutputKind) (ss : List Section) (k : ℕ) (h : SectionHeader) : Type 0 where
   section : Section
   listed : slice_get ss k ≡ Some section
   info : ℕ
   name : ℕ
-  is : h ≡ section_header info name section
+  is : h ≡ section_header kind info name section
 
-header_of : (l : Layout) (i name : ℕ) (ss : List Section) (k : ℕ) (h : SectionHeader) → slice_get (headers_from (told_of l) i name ss) k ≡ Some h → IsHeaderOf ss k h
+header_of : (l : Layout) (i name : ℕ) (ss : List Section) (k : ℕ) (h : SectionHeader) → slice_get (headers_from l.kind (told_of l) i name ss) k ≡ Some h → IsHeaderOf l.kind ss k h
 header_of l i name [] k h there = cc
-header_of l i name (s ∷ ss) zero h there = record { section = s; listed = refl; info = info_at (told_of l) i s.info; name = name; is = (let same : section_header (info_at (told_of l) i s.info) name s ≡ h = cc in sym same) }
+header_of l i name (s ∷ ss) zero h there = record { section = s; listed = refl; info = info_at (told_of l) i s.info; name = name; is = (let same : section_header l.kind (info_at (told_of l) i s.info) name s ≡ h = cc in sym same) }
 header_of l i name (s ∷ ss) (suc k) h there =
     let r = header_of l (i + 1) (name + length s.name + 1) ss k h there in
     record { section = r.section; listed = r.listed; info = r.info; name = r.name; is = r.is }
@@ -59,7 +61,7 @@ unfolding null_header
 null_none l h = cc
 
 -- the header with entries is that of a section behind section 0
-behind_first : (l : Layout) (ss : List Section) (k : ℕ) (h : SectionHeader) → slice_get (section_headers_of l ss) k ≡ Some h → has_entries h ≡ true → (1 ≤ k) × IsHeaderOf ss k h
+behind_first : (l : Layout) (ss : List Section) (k : ℕ) (h : SectionHeader) → slice_get (section_headers_of l ss) k ≡ Some h → has_entries h ≡ true → (1 ≤ k) × IsHeaderOf l.kind ss k h
 behind_first l [] k h there has = cc
 behind_first l (s ∷ ss) zero h there has = (let same : null_header l ≡ h = cc in absurd (null_none l (subst (λ (x : SectionHeader). has_entries x ≡ true) (sym same) has)))
 behind_first l (s ∷ ss) (suc k) h there has =
@@ -67,7 +69,7 @@ behind_first l (s ∷ ss) (suc k) h there has =
     (omega arith, record { section = r.section; listed = r.listed; info = r.info; name = r.name; is = r.is })
 
 -- so is each header behind that of section 0
-header_behind : (l : Layout) (ss : List Section) (k : ℕ) (h : SectionHeader) → 1 ≤ k → slice_get (section_headers_of l ss) k ≡ Some h → IsHeaderOf ss k h
+header_behind : (l : Layout) (ss : List Section) (k : ℕ) (h : SectionHeader) → 1 ≤ k → slice_get (section_headers_of l ss) k ≡ Some h → IsHeaderOf l.kind ss k h
 header_behind l [] k h some there = cc
 header_behind l (s ∷ ss) zero h some there = absurd (omega arith)
 header_behind l (s ∷ ss) (suc k) h some there =
@@ -234,7 +236,7 @@ lies_in l r es js gs k s x t some there = by_part (part_with r l.parts) refl
   where
     here : (p : Part) → part_with r l.parts ≡ Some p → p.section ≡ k → LieIn (bytes l) s.offset s.size p.size p.offset es
     here p e q =
-        let lie = (x.laid.loadable.entries x.fixed k s some there).own r p t.entry e q in
+        let lie = ((x.laid.loadable (fixed_whole l.kind x.fixed)).entries x.fixed k s some there).own r p t.entry e q in
         record {
           count = size_is l r es p x.laid x.lengths t e;
           fits = t.fits;
@@ -304,7 +306,7 @@ section_parts l k js gs = in_section k (part_with role.RelaPlt l.parts) js ++ in
 
 filled : (l : Layout) (js gs : List Rela) (k : ℕ) (s : Section) → IsFixedTable l js gs → 1 ≤ k → slice_get l.sections k ≡ Some s → s.kind ≡ sht_rela → allocated s.flags ≡ true → 1 ≤ s.size → Fill (bytes l) s.offset s.size (section_parts l k js gs)
 filled l js gs k s x some there kind flag size =
-    let alone = x.laid.loadable.entries x.fixed k s some there in
+    let alone = (x.laid.loadable (fixed_whole l.kind x.fixed)).entries x.fixed k s some there in
     let full : bytes_in k (part_with role.RelaPlt l.parts) + (bytes_in k (part_with role.RelaDynRelative l.parts) + (bytes_in k (part_with role.RelaDynGeneral l.parts) + 0)) ≡ s.size = alone.full flag kind in
     let still = still_empty l k (part_with role.RelaDynRelative l.parts) x.laid x.still refl in
     fill_both (bytes l) s.offset s.size (bytes_in k (part_with role.RelaPlt l.parts)) (bytes_in k (part_with role.RelaDynGeneral l.parts)) (begins_at (part_with role.RelaPlt l.parts)) (begins_at (part_with role.RelaDynGeneral l.parts))
@@ -313,15 +315,15 @@ filled l js gs k s x some there kind flag size =
     size (omega (arith, full, still)) (entries_apart l role.RelaPlt role.RelaDynGeneral k x.laid (λ z. cc) (λ z. cc) (λ z. cc))
 
 -- what a header tells of its section
-header_tells : (info name : ℕ) (s : Section) → HasRelas (section_header info name s) → (s.kind ≡ sht_rela) × (allocated s.flags ≡ true) × (s.size ≡ 0 → ⊥)
+header_tells : (told : OutputKind) (info name : ℕ) (s : Section) → HasRelas (section_header told info name s) → (s.kind ≡ sht_rela) × (allocated s.flags ≡ true) × (s.size ≡ 0 → ⊥)
 unfolding section_header
-header_tells info name s r = (r.kind, alloc_bit s.flags (sym (uncompressed-alloc s.flags) ∙ r.flag), r.some)
+header_tells told info name s r = (r.kind, alloc_bit s.flags (sym (uncompressed-alloc s.flags) ∙ r.flag), r.some)
 
-tells_header : (info name : ℕ) (s : Section) → s.kind ≡ sht_rela → allocated s.flags ≡ true → (s.size ≡ 0 → ⊥) → HasRelas (section_header info name s)
+tells_header : (told : OutputKind) (info name : ℕ) (s : Section) → s.kind ≡ sht_rela → allocated s.flags ≡ true → (s.size ≡ 0 → ⊥) → HasRelas (section_header told info name s)
 unfolding section_header
-tells_header info name s kind flag some = record { kind = kind; flag = uncompressed-alloc s.flags ∙ bit_alloc s.flags flag; some = some }
+tells_header told info name s kind flag some = record { kind = kind; flag = uncompressed-alloc s.flags ∙ bit_alloc s.flags flag; some = some }
 
-holds : (l : Layout) (info name : ℕ) (s : Section) (es : List Rela) → (f : Fill (bytes l) s.offset s.size es) → HoldsEntries (bytes l) (section_header info name s) f.whole
+holds : (l : Layout) (info name : ℕ) (s : Section) (es : List Rela) → (f : Fill (bytes l) s.offset s.size es) → HoldsEntries (bytes l) (section_header l.kind info name s) f.whole
 unfolding section_header
 holds l info name s es f = record { size = f.count; fits = f.fits; stands = f.stands }
 
@@ -338,7 +340,7 @@ section_read : (l : Layout) (js gs : List Rela) (k : ℕ) (h : SectionHeader) �
 section_read l js gs k h x there has =
     let b = behind_first l l.sections k h there has in
     let y = b.1 in
-    let tells = header_tells y.info y.name y.section (subst HasRelas y.is (has_relas h has)) in
+    let tells = header_tells l.kind y.info y.name y.section (subst HasRelas y.is (has_relas h has)) in
     let f = filled l js gs k y.section x b.0 y.listed tells.0 tells.1 (positive y.section.size tells.2) in
     let held = subst (λ (z : SectionHeader). HoldsEntries (bytes l) z f.whole) (sym y.is) (holds l y.info y.name y.section (section_parts l k js gs) f) in
     let same = found_there l h f.whole x.read held in
@@ -351,14 +353,14 @@ section_read l js gs k h x there has =
 empty_section : (l : Layout) (r : Role) (es js gs : List Rela) (k : ℕ) (h : SectionHeader) → IsFixedTable l js gs → IsTableOfRole l r es → slice_get (section_headers_of l l.sections) k ≡ Some h → has_entries h ≡ false → in_section k (part_with r l.parts) es ≡ []
 empty_section l r es js gs k h x t there none = by_part (part_with r l.parts) refl
   where
-    by_header : (p : Part) → part_with r l.parts ≡ Some p → p.section ≡ k → IsHeaderOf l.sections k h → es ≡ []
+    by_header : (p : Part) → part_with r l.parts ≡ Some p → p.section ≡ k → IsHeaderOf l.kind l.sections k h → es ≡ []
     by_header p e q y =
-        let first = x.laid.loadable.stands x.fixed r p t.entry e in
-        let lie = (x.laid.loadable.entries x.fixed k y.section (subst (λ (n : ℕ). 1 ≤ n) q first) y.listed).own r p t.entry e q in
+        let first = (x.laid.loadable (fixed_whole l.kind x.fixed)).stands x.fixed r p t.entry e in
+        let lie = ((x.laid.loadable (fixed_whole l.kind x.fixed)).entries x.fixed k y.section (subst (λ (n : ℕ). 1 ≤ n) q first) y.listed).own r p t.entry e q in
         let size = size_is l r es p x.laid x.lengths t e in
         elim (cases_lt 0 y.section.size) [
           | inl some ↦
-              (let relas = tells_header y.info y.name y.section lie.kind lie.allocated (λ z. omega (arith, z, some)) in
+              (let relas = tells_header l.kind y.info y.name y.section lie.kind lie.allocated (λ z. omega (arith, z, some)) in
               let has = relas_there h (subst HasRelas (sym y.is) relas) in
               let both : true ≡ false = sym has ∙ none in
               cc)
@@ -369,7 +371,7 @@ empty_section l r es js gs k h x t there none = by_part (part_with r l.parts) re
     by_test p e false q = refl
     by_test p e true q =
         let same = eqb-true p.section k q in
-        let first = x.laid.loadable.stands x.fixed r p t.entry e in
+        let first = (x.laid.loadable (fixed_whole l.kind x.fixed)).stands x.fixed r p t.entry e in
         by_header p e same (header_behind l l.sections k h (subst (λ (n : ℕ). 1 ≤ n) same first) there)
 
     by_part : (o : Option Part) → part_with r l.parts ≡ o → in_section k o es ≡ []

@@ -1,13 +1,12 @@
 -- No two kept sections share a byte of the file.
-use Rattle.std.proofs.Common.{◌≡◌, ℕ, ◌+◌, ◌<◌, ◌≤◌, inl, inr, Bool, true, false, List, [], ◌∷◌, length, get_or, sym, ap, ◌∙◌, arith, subst}
-use Rattle.std.specs.Prelude.{All, AllPairs, Contains, slice_get, if◌then◌else◌}
+use Rattle.std.proofs.Common.{◌≡◌, ◌+◌, ◌<◌, ◌≤◌, inl, inr, Bool, true, false, [], ◌∷◌, length, sym, ap, ◌∙◌, arith, subst}
+use Rattle.std.specs.Prelude.{All, AllPairs, slice_get, if◌then◌else◌}
 use Rattle.std.specs.List.{flat_map}
 use Rattle.std.proofs.lemmas.Bool.{and_parts}
 use Rattle.std.proofs.lemmas.List.Elements.{All-weaker}
 use Rattle.wild_words.specs.Overlay.{Piece, Apart}
-use Rattle.wild_words.proofs.ListLemmas.{Between, AllPairs-from_flat_map, flat_map-same, flat_map-flat_map}
+use Rattle.wild_words.proofs.ListLemmas.{Between, AllPairs-from_flat_map, flat_map-flat_map}
 use Rattle.wild_words.proofs.OrderLemmas.{Apart-flip}
-use Rattle.wild_types.specs.declared.part.Part.{Part}
 use Rattle.wild_types.specs.declared.part.Role.TheVariants as role
 use Rattle.wild_types.specs.declared.input.Slot.{Slot}
 use Rattle.wild_types.specs.declared.input.Slot.TheVariants as slot
@@ -15,14 +14,14 @@ use Rattle.wild_types.specs.declared.input.InputSection.{InputSection}
 use Rattle.wild_types.specs.declared.file.File.{File}
 use Rattle.wild_types.specs.declared.file.Group.{Group}
 use Rattle.wild_types.specs.declared.layout.Layout.{Layout}
-use Rattle.wild_types.specs.Lookups.{is_filled, is_frame, is_loaded}
+use Rattle.wild_types.specs.Lookups.{is_filled, is_frame, has_range}
 use Rattle.wild_types.specs.Parts.{part_with}
 use Rattle.wild_laid.specs.Laid.{laid_files, processed}
 use Rattle.wild_layout.specs.Image.{pieces, thunk_pieces, of_first_file, once_pieces, table_pieces, owned_pieces, offset_in}
 use Rattle.wild_layout.specs.SectionPlaces.{SectionLies}
 use Rattle.wild_layout.specs.Geometry.{IsLaidOut}
 use Rattle.wild_geometry.specs.Laid.{file_place}
-use Rattle.wild_loaded.specs.Memory.{IsStored, HasPlace, Filled, Framed}
+use Rattle.wild_loaded.specs.Memory.{IsStored}
 use Rattle.wild_loaded.proofs.Homes.{Home, HasHome, HomesApart}
 use Rattle.wild_loaded.proofs.PairLemmas.{AllPairs-behind, AllPairs-first, AllPairs-across, All-second}
 use Rattle.wild_geometry.proofs.StoodSections.{all_sections, by_files}
@@ -68,13 +67,13 @@ section_home l s = record { address = s.address; offset = file_place l s; size =
 pub stored_home : (l : Layout) (s : InputSection) → IsStored l s → HasHome l (section_home l s)
 stored_home l s h k lt = h.carried k lt
 
-not_frame : (k : Slot) → is_loaded k ≡ true → is_frame k ≡ false
+not_frame : (k : Slot) → has_range k ≡ true → is_frame k ≡ false
 not_frame slot.Frame h = cc
 not_frame other h = cc
 
 -- a section that owns bytes is none of frames
 pub filled_place : (l : Layout) (s : InputSection) → is_filled l s ≡ true → file_place l s ≡ offset_in (slice_get l.parts s.part) s.address
-filled_place l s filled = ap (λ (b : Bool). offset_in (if b then part_with role.EhFrame l.parts else slice_get l.parts s.part) s.address) (not_frame s.slot (and_parts (is_loaded s.slot) _ filled).0)
+filled_place l s filled = ap (λ (b : Bool). offset_in (if b then part_with role.EhFrame l.parts else slice_get l.parts s.part) s.address) (not_frame s.slot (and_parts (has_range s.slot) _ filled).0)
 
 -- sections with rooms apart share no byte of the file
 pub filled_apart : (l : Layout) (s t : InputSection) → is_filled l s ≡ true → is_filled l t ≡ true → Between Apart (section_room l) s t → HomesApart (section_home l s) (section_home l t)

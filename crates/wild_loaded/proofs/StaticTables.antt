@@ -1,4 +1,5 @@
 -- The tables of an output at its own addresses: nothing moves, and its sections have all entries.
+use Rattle.wild_meaning.proofs.OutputLemmas.{not_partial}
 use Rattle.wild_needs.specs.Needs.{has_last}
 use Rattle.wild_laid.specs.Laid.{laid_files, processed, sorted_sections}
 use Rattle.std.proofs.Common.{◌≡◌, ℕ, zero, suc, ◌+◌, ◌<◌, ◌≤◌, inl, inr, false, List, [], ◌∷◌, ◌++◌, length, get_or, refl, sym, ap, ◌∙◌, arith, subst, Bool, true}
@@ -103,7 +104,7 @@ record IsLong (l : Layout) (ss : List Section) : Type 0 where
 long : (l : Layout) (ss : List Section) → 1 ≤ length ss → IsLong l ss
 long l [] h = absurd (omega (arith, h))
 long l (s ∷ ss) h =
-    let rest = flat_map (λ (h : SectionHeader). spell (section_header_fields h)) (headers_from (told_of l) 1 (length s.name + 1) ss) in
+    let rest = flat_map (λ (h : SectionHeader). spell (section_header_fields h)) (headers_from l.kind (told_of l) 1 (length s.name + 1) ss) in
     let a = length-append (spell (section_header_fields (null_header l))) rest in
     let b = length-section_header (null_header l) in
     record { some = omega (arith, a, b); first = null_byte l rest }
@@ -173,7 +174,7 @@ sections_found stand lengths read pair fixed = λ l kind plain numbers laid slot
     } in
     let same : (tables_of l).entries ++ js ≡ gs ++ js = ap (λ (es : List Rela). (es ++ gs) ++ js) none in
     record {
-      static = All-map IsStatic (program_header l) l.segments (λ i d lt. segment_static l (get_or l.segments i d) (laid.loadable.static (laid.loadable.fixed static) i d lt));
+      static = All-map IsStatic (program_header l) l.segments (λ i d lt. segment_static l (get_or l.segments i d) ((laid.loadable (not_partial l.kind kind)).static ((laid.loadable (not_partial l.kind kind)).fixed static) i d lt));
       words = words_none l moves still;
       of = relas_of l;
       sections = section_tables l js gs table;

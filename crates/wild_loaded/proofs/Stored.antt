@@ -77,10 +77,10 @@ unfolding program_header
 header_room l h e le = le
 
 pub zeros_stored : ZerosAreLoaded → ZerosAreStored
-zeros_stored law = λ l w a legal laid b.
+zeros_stored law = λ l w a kind legal laid b.
     let to = b.to in
     let zeros = law (machine_of (file_header l)) w.base (bytes l) (headers_of l) (program_header l b.segment) a 1
-    (are_loadable l w legal laid)
+    (are_loadable l w kind legal laid)
     (Contains-map (program_header l) l.segments b.segment b.listed)
     (kind_is l b.segment ∙ b.loads)
     (header_behind l b.segment a b.from)

@@ -1,4 +1,5 @@
 -- The bytes of the tables that fill addresses and slots, and where a loader finds them.
+use Rattle.wild_loaded.proofs.KindLemmas.{dynamic_whole}
 use Rattle.wild_needs.specs.Entries.{sorted_words}
 use Rattle.wild_needs.specs.Needs.{has_last}
 use Rattle.wild_laid.specs.Laid.{laid_files}
@@ -125,9 +126,9 @@ segment_offset l g a = refl
 -- the bytes of a table stand in a loaded segment, at its address
 table_at : (l : Layout) (r : Role) (p : Part) → TablesStand → IsLaidOut l → (role_place r ≡ 0 → ⊥) → needs_dynamic l.kind ≡ true → is_table_role r ≡ true → part_with r l.parts ≡ Some p → 1 ≤ p.size → length (table_bytes l r) ≡ p.size → StandsAt (bytes l) (map (program_header l) l.segments) p.address (table_bytes l r)
 table_at l r p stands laid place needs relative there some full =
-    let c = laid.loadable.tables needs r p relative there some in
+    let c = (laid.loadable (dynamic_whole l.kind needs)).tables needs r p relative there some in
     let to = c.to in
-    let sizes = (All-contains (SegmentLoads (image_size l)) l.segments c.segment laid.loadable.each c.listed).sizes c.loaded in
+    let sizes = (All-contains (SegmentLoads (image_size l)) l.segments c.segment (laid.loadable (dynamic_whole l.kind needs)).each c.listed).sizes c.loaded in
     let here = stands l laid r place p there some in
     record {
       segment = program_header l c.segment;
@@ -177,12 +178,12 @@ stands_joined whole xs ys a b e s t = record {
 both_at : (l : Layout) (p q : Part) → TablesStand → IsLaidOut l → needs_dynamic l.kind ≡ true → part_with role.RelaDynRelative l.parts ≡ Some p → part_with role.RelaDynGeneral l.parts ≡ Some q → 1 ≤ p.size → 1 ≤ q.size
     → StandsAt (bytes l) (map (program_header l) l.segments) p.address (table_bytes l role.RelaDynRelative ++ table_bytes l role.RelaDynGeneral)
 both_at l p q stands laid needs first second some more =
-    let c = laid.loadable.together needs p q first second some more in
-    let b = laid.loadable.behind p q first second in
+    let c = (laid.loadable (dynamic_whole l.kind needs)).together needs p q first second some more in
+    let b = (laid.loadable (dynamic_whole l.kind needs)).behind p q first second in
     let to = c.to in
     let at = b.address in
     let off = b.offset in
-    let sizes = (All-contains (SegmentLoads (image_size l)) l.segments c.segment laid.loadable.each c.listed).sizes c.loaded in
+    let sizes = (All-contains (SegmentLoads (image_size l)) l.segments c.segment (laid.loadable (dynamic_whole l.kind needs)).each c.listed).sizes c.loaded in
     let n = ((laid.roles role.RelaDynRelative (λ z. cc)).there p first).size in
     let m = ((laid.roles role.RelaDynGeneral (λ z. cc)).there q second).size in
     let x = length-append (table_bytes l role.RelaDynRelative) (table_bytes l role.RelaDynGeneral) in

@@ -19,7 +19,7 @@ use Rattle.wild_types.specs.declared.file.Group.{Group}
 use Rattle.wild_types.specs.declared.layout.Thunk.{Thunk}
 use Rattle.wild_types.specs.declared.layout.Layout.{Layout}
 use Rattle.wild_types.specs.FileThunks.{thunk_size, thunks_of}
-use Rattle.wild_types.specs.Lookups.{is_filled, files_of, is_frame}
+use Rattle.wild_types.specs.Lookups.{is_filled, files_of}
 use Rattle.wild_types.specs.Parts.{is_loaded_role}
 use Rattle.wild_relax.specs.ThunkAArch64.{thunk_aarch64}
 use Rattle.wild_layout.specs.Thunks.{thunk_target, target_or_zero, thunk_bytes}
@@ -33,7 +33,7 @@ use Rattle.wild_loader.specs.declared.memory.Memory.{Memory}
 use Rattle.wild_loader.specs.declared.world.World.{World}
 use Rattle.wild_loader.specs.Memory.{Holds, byte_in}
 use Rattle.wild_loader.specs.SegmentLaws.{BytesAreLoaded}
-use Rattle.wild_meaning.specs.World.{IsLegal}
+use Rattle.wild_meaning.specs.World.{IsLegal, IsLoadable}
 use Rattle.wild_geometry.specs.Thunks.{HasThunks}
 use Rattle.wild_loaded.specs.Memory.{IsStored, image_memory, HasPlace, Filled, Framed}
 use Rattle.wild_loaded.specs.Laws.{ThunksAreThere}
@@ -88,22 +88,22 @@ thunk_stands l t laid k = piece_stands l (thunk_at l t) laid (thunk_listed l t k
 
 -- ---- in memory
 
-thunk_held : (l : Layout) (w : World) (t : Thunk) → BytesAreLoaded → IsLegal l w → IsLaidOut l → IsOfFile l t → Holds (image_memory l w) (w.base + t.address) (thunk_bytes l t)
-thunk_held l w t law legal laid k = λ i lt.
+thunk_held : (l : Layout) (w : World) (t : Thunk) → BytesAreLoaded → IsLoadable l.kind → IsLegal l w → IsLaidOut l → IsOfFile l t → Holds (image_memory l w) (w.base + t.address) (thunk_bytes l t)
+thunk_held l w t law kind legal laid k = λ i lt.
     let n = length-thunk_bytes l t in
     let c = (each_of l (ThunkLies l) t laid.thunks k).carried i (omega (arith, lt, n)) in
     let e : w.base + (t.address + i) ≡ w.base + t.address + i = omega arith in
-    subst (λ (a : ℕ). byte_in (image_memory l w) a ≡ Some (slice_index (thunk_bytes l t) i)) e (byte_carried l w c.0 (thunk_offset l t + i) (t.address + i) (slice_index (thunk_bytes l t) i) law legal laid c.1 (byte_stands (bytes l) (thunk_offset l t) i (thunk_bytes l t) lt (thunk_stands l t laid k)))
+    subst (λ (a : ℕ). byte_in (image_memory l w) a ≡ Some (slice_index (thunk_bytes l t) i)) e (byte_carried l w c.0 (thunk_offset l t + i) (t.address + i) (slice_index (thunk_bytes l t) i) law kind legal laid c.1 (byte_stands (bytes l) (thunk_offset l t) i (thunk_bytes l t) lt (thunk_stands l t laid k)))
 
 -- the bytes of a thunk with a target
 aimed : (l : Layout) (t : Thunk) (g : GoesOnTo t.address (thunk_target l t)) → thunk_bytes l t ≡ (thunk_aarch64 t.address g.target).bytes
 aimed l t g = ap (λ (r : Result ℕ Fault). (thunk_aarch64 t.address (target_or_zero r)).bytes) g.known
 
 pub thunks_there : BytesAreLoaded → ThunksAreThere
-thunks_there law = λ l w legal laid none b t c d.
+thunks_there law = λ l w kind legal laid none b t c d.
     let k = of_file l b t laid c d in
     let g = goes_on t.address (thunk_target l t) (each_of l (CanGoOn l) t (thunks_of_groups l none) k) in
-    record { target = g.target; known = g.known; reaches = g.reaches; stands = subst (Holds (image_memory l w) (w.base + t.address)) (aimed l t g) (thunk_held l w t law legal laid k) }
+    record { target = g.target; known = g.known; reaches = g.reaches; stands = subst (Holds (image_memory l w) (w.base + t.address)) (aimed l t g) (thunk_held l w t law kind legal laid k) }
 
 -- ---- behind what the tables fill
 
@@ -158,7 +158,7 @@ thunk_kept l w m t i h k lt =
 
 pub thunks_moved : (l : Layout) (w : World) (m : Memory) → ThunksAreThere → IsMovedImage l w m → HasThunks l w m
 thunks_moved l w m law h = λ b t c d.
-    let before = law l w h.well.legal h.well.laid h.well.none b t c d in
+    let before = law l w h.well.kind h.well.legal h.well.laid h.well.none b t c d in
     let n = length-thunk t.address before.target in
     record {
       target = before.target;

@@ -79,7 +79,7 @@ HeadersTell = (l : Layout) → IsLoadable l.kind → NumbersFit l → IsLaidOut 
 
 -- in a legal world the segments ascend and do not wrap, and their memory is of the layout's machine
 pub record SegmentsAreLoadable : Type 0 where
-  pub loadable : (l : Layout) (w : World) → IsLegal l w → IsLaidOut l → AreLoadable w.base (bytes l) (headers_of l)
+  pub loadable : (l : Layout) (w : World) → IsLoadable l.kind → IsLegal l w → IsLaidOut l → AreLoadable w.base (bytes l) (headers_of l)
   pub machine : (l : Layout) (w : World) → (image_memory l w).machine ≡ processor_of l.machine
 
 -- a kept section as it stands that has bytes has them in the file, and loaded segments carry each to its address
@@ -92,11 +92,11 @@ SectionsAreStored = (l : Layout) (w : World) (s : InputSection) → IsLoadable l
 
 -- behind the file bytes of a loaded segment are zeros
 abbrev pub ZerosAreStored : Type 0
-ZerosAreStored = (l : Layout) (w : World) (a : ℕ) → IsLegal l w → IsLaidOut l → IsBehind l a → byte_in (image_memory l w) (w.base + a) ≡ Some 0
+ZerosAreStored = (l : Layout) (w : World) (a : ℕ) → IsLoadable l.kind → IsLegal l w → IsLaidOut l → IsBehind l a → byte_in (image_memory l w) (w.base + a) ≡ Some 0
 
 -- an input section without data has zeros where its section has bytes in the file
 abbrev pub BlanksAreStored : Type 0
-BlanksAreStored = (l : Layout) (w : World) (s : InputSection) (k : ℕ) → IsLegal l w → IsLaidOut l → IsBlank l s → HasFileBytes l s.part → k < s.size → byte_in (image_memory l w) (w.base + (s.address + k)) ≡ Some 0
+BlanksAreStored = (l : Layout) (w : World) (s : InputSection) (k : ℕ) → IsLoadable l.kind → IsLegal l w → IsLaidOut l → IsBlank l s → HasFileBytes l s.part → k < s.size → byte_in (image_memory l w) (w.base + (s.address + k)) ≡ Some 0
 
 -- slots are whole where no group has a fault
 abbrev pub SlotsAreThere : Type 0
@@ -115,7 +115,7 @@ pub record SlotsAreStored : Type 0 where
 
 -- each thunk, where no group has a fault
 abbrev pub ThunksAreThere : Type 0
-ThunksAreThere = (l : Layout) (w : World) → IsLegal l w → IsLaidOut l → flat_map_from (group_errors l) 0 l.groups ≡ [] → HasThunks l w (image_memory l w)
+ThunksAreThere = (l : Layout) (w : World) → IsLoadable l.kind → IsLegal l w → IsLaidOut l → flat_map_from (group_errors l) 0 l.groups ≡ [] → HasThunks l w (image_memory l w)
 
 -- the image has a dynamic section: the entries of libraries, those of the last file, and zeros up to the end of its room
 pub record HasEntries (l : Layout) : Type 0 where

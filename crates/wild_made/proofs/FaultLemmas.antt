@@ -20,7 +20,7 @@ use Rattle.wild_types.specs.Flags.{has_flag}
 use Rattle.wild_types.specs.Rows.{row_of}
 use Rattle.wild_types.specs.FilePlaces.{given}
 use Rattle.wild_types.specs.Item.{item_with, block_for}
-use Rattle.wild_types.specs.Lookups.{place_of, bit, is_read, is_frame}
+use Rattle.wild_types.specs.Lookups.{place_of, bit, is_written, is_frame, is_debug}
 use Rattle.wild_reloc.specs.TableX86_64.{x86_64_row}
 use Rattle.wild_reloc.specs.declared.info.RelocationSize.TheVariants.{ByteSize}
 use Rattle.wild_reloc.specs.declared.info.Width.TheVariants.{Four}
@@ -40,7 +40,7 @@ use Rattle.wild_layout.specs.Faults.{errors, flat_map_from, share_errors, has_sp
 use Rattle.wild_layout.specs.SearchTable.{search_table_faults}
 use Rattle.wild_layout.specs.Merged.{merged_strings, address_for}
 use Rattle.wild_laid.specs.Laid.{frames_at}
-use Rattle.wild_made.proofs.StandLemmas.{section_stands, laid_made}
+use Rattle.wild_made.proofs.StandLemmas.{section_stands, whole_made, laid_made}
 use Rattle.wild_made.specs.Made.{made_section, made_object, plain_file, made_files, made_symbol, made_group, made_relocation, part_with, made_parts, made, callee, start_of}
 use Rattle.wild_made.specs.Laws.{IsCount}
 use Rattle.wild_made.proofs.ListLemmas.{made_from, nothing_from, item_at}
@@ -227,9 +227,13 @@ relocations_made : (n i : ℕ) → length (made_section n i).relocations ≡ 8
 unfolding made_section
 relocations_made n i = refl
 
-is_read_made : (n i : ℕ) → is_read (made_section n i) ≡ true
+is_written_made : (n i : ℕ) → is_written (made_section n i) ≡ true
 unfolding made_section
-is_read_made n i = refl
+is_written_made n i = refl
+
+debug_made : (n i : ℕ) → is_debug (made_section n i).slot ≡ false
+unfolding made_section
+debug_made n i = refl
 
 frame_made : (n i : ℕ) → is_frame (made_section n i).slot ≡ false
 unfolding made_section
@@ -239,7 +243,7 @@ section_clean : (n i g f : ℕ) (file : File) (at k : ℕ) → IsCount n → i <
 unfolding section_errors
 section_clean n i g f file at k h low =
     let block = block_for (made n) file (made_section n i) in
-    rw (section_stands n i file at, is_read_made n i, frame_made n i, relocations_made n i, relocations_clean block n i k g f h low, none_shared block n i h low) refl
+    rw (section_stands n i file at, is_written_made n i, debug_made n i, frame_made n i, whole_made n, relocations_made n i, relocations_clean block n i k g f h low, none_shared block n i h low) refl
 
 -- there are no sorted sections, and no search table is asked for
 none_sorted : (n : ℕ) → (made n).sorted ≡ []

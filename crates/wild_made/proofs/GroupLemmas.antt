@@ -19,7 +19,8 @@ use Rattle.wild_types.specs.FileSymbols.{copied_in, copied_again}
 use Rattle.wild_types.specs.Flags.{has_flag}
 use Rattle.wild_needs.specs.DynamicSymbols.{dynamic_symbols, misplaced}
 use Rattle.wild_clauses.specs.SlotFlags.{is_asked, first_asked_failing, dynamic_is_interposable, stub_is_value, stub_has_slot, one_slot_for_address, thread_slot_alone, resolver_is_own, slot_agrees, resolver_moves, second_slot_fits}
-use Rattle.wild_clauses.specs.ClauseTests.{check_indexes, check_fields, check_thunks, check_dynsyms, check_slot_flags, check_tls, check_starts, check_hashes, check_names, check_reversed, check_fronts}
+use Rattle.wild_clauses.specs.ClauseTests.{check_indexes, check_fields, check_thunks, check_dynsyms, check_slot_flags, check_tls, check_starts, check_hashes, check_names, check_reversed, check_partial, check_fronts}
+use Rattle.wild_clauses.specs.Partial.{has_no_slot, is_no_debug, is_of_kind, file_tables_fit, tables_fit, group_fits_members, table_has_data}
 use Rattle.wild_clauses.specs.WellFormed.{first_clause}
 use Rattle.wild_made.specs.Made.{made_section, made_object, made_files, made_symbol, made_group, made_relocation, made, callee}
 use Rattle.wild_made.specs.Laws.{IsCount}
@@ -191,7 +192,7 @@ slot_flags_hold n =
       none_asked_fails n (second_slot_fits (made n)) 0 0 n (λ k. refl),
     ) refl
 
--- ---- clauses 20 and 22
+-- ---- clauses 20 to 22
 
 none_reversed : (n : ℕ) → first_failing (each_section (reversed_fits (made n).machine)) 0 (made_from (made_group n) 0 n) ≡ None
 unfolding made_section made
@@ -201,6 +202,37 @@ pub reversed_hold : (n : ℕ) → check_reversed (made n) ≡ Ok tt
 unfolding check_reversed made
 reversed_hold n = rw (none_reversed n) refl
 
+-- symbols have neither slots nor indexes of the dynamic symbol table: both tests are of relocatable objects alone
+no_slots : (n : ℕ) → first_failing (has_no_slot (made n)) 0 (made_from made_symbol 0 n) ≡ None
+unfolding made
+no_slots n = none_fails (has_no_slot (made n)) made_symbol 0 0 n (λ k low high. refl)
+
+none_for_debuggers : (n : ℕ) → first_failing (each_section (is_no_debug (made n))) 0 (made_from (made_group n) 0 n) ≡ None
+unfolding made_section made
+none_for_debuggers n = sections_pass (is_no_debug (made n)) n (λ i h. refl)
+
+kinds_fit : (n : ℕ) → first_failing (each_section (is_of_kind (made n))) 0 (made_from (made_group n) 0 n) ≡ None
+unfolding made_section made
+kinds_fit n = sections_pass (is_of_kind (made n)) n (λ i h. refl)
+
+-- there are neither tables of relocations nor groups of sections
+no_tables : (n i : ℕ) → tables_fit (made_group n i) ≡ true
+unfolding made_section
+no_tables n i = all_files file_tables_fit n i refl refl refl
+
+no_members : (n : ℕ) → first_failing (each_section group_fits_members) 0 (made_from (made_group n) 0 n) ≡ None
+unfolding made_section
+no_members n = sections_pass group_fits_members n (λ i h. refl)
+
+all_have_data : (n : ℕ) → first_failing (each_section table_has_data) 0 (made_from (made_group n) 0 n) ≡ None
+unfolding made_section
+all_have_data n = sections_pass table_has_data n (λ i h. refl)
+
+pub partial_holds : (n : ℕ) → check_partial (made n) ≡ Ok tt
+unfolding check_partial made
+partial_holds n =
+    rw (no_slots n, none_for_debuggers n, kinds_fit n, none_fails tables_fit (made_group n) 0 0 n (λ k low high. no_tables n k), no_members n, all_have_data n) refl
+
 pub fronts_hold : (n : ℕ) → check_fronts (made n) ≡ Ok tt
 unfolding check_fronts made
 fronts_hold n = refl
@@ -209,4 +241,4 @@ fronts_hold n = refl
 
 pub clauses_hold : (n : ℕ) → IsCount n → first_clause (made n) ≡ Ok tt
 unfolding first_clause
-clauses_hold n c = rw (sizes_hold n c, counts_hold n c, order_holds n c, roles_hold n, sections_hold n, segments_hold n c, shares_hold n c, inputs_hold n, indexes_hold n c, fields_hold n, slots_hold n, thunks_hold n, dynsyms_hold n, slot_flags_hold n, tls_holds n, starts_hold n, hashes_hold n, versions_hold n, names_hold n, reversed_hold n, fronts_hold n) refl
+clauses_hold n c = rw (sizes_hold n c, counts_hold n c, order_holds n c, roles_hold n, sections_hold n, segments_hold n c, shares_hold n c, inputs_hold n, indexes_hold n c, fields_hold n, slots_hold n, thunks_hold n, dynsyms_hold n, slot_flags_hold n, tls_holds n, starts_hold n, hashes_hold n, versions_hold n, names_hold n, reversed_hold n, partial_holds n, fronts_hold n) refl

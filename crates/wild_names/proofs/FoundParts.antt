@@ -1,4 +1,5 @@
 -- The parts of a look-up in the image of a layout without faults.
+use Rattle.wild_loaded.proofs.KindLemmas.{dynamic_whole}
 use Rattle.std.proofs.Common.{◌≡◌, ◌≢◌, ℕ, zero, suc, ◌-◌, ◌/◌, ◌<◌, ◌≤◌, ◌==◌, inl, inr, Bool, true, false, List, [], ◌∷◌, ◌++◌, length, replicate, Some, None, Ok, get_or, refl, sym, ap, ◌∙◌, arith, subst}
 use Rattle.std.specs.Prelude.{Contains, nat_le}
 use Rattle.std.specs.List.{list_any}
@@ -133,11 +134,11 @@ with_hash l r p laid hash loaded found =
 -- a look-up finds a part that is not empty
 found_role : (l : Layout) (r : Role) (p : Part) → TablesStand → IsLaidOut l → needs_dynamic l.kind ≡ true → has_hashes l ≡ true → is_look_up_role r ≡ true → (role_place r ≡ 0 → ⊥) → part_with r l.parts ≡ Some p → 1 ≤ p.size → (f : Found) × IsFoundPart (bytes l) (headers_of l) p f
 found_role l r p stand laid needs hashes asked loaded found some =
-    let c = laid.loadable.look_ups needs hashes r p asked found some in
-    let loads = All-contains (SegmentLoads (image_size l)) l.segments c.segment laid.loadable.each c.listed in
+    let c = (laid.loadable (dynamic_whole l.kind needs)).look_ups needs hashes r p asked found some in
+    let loads = All-contains (SegmentLoads (image_size l)) l.segments c.segment (laid.loadable (dynamic_whole l.kind needs)).each c.listed in
     let size = ((laid.roles r loaded).there p found).size in
     let within = (stand l laid r loaded p found some).fits in
-    (_, found_part l (bytes l) p laid.loadable.ascend c loads some (omega (arith, size, within)))
+    (_, found_part l (bytes l) p (laid.loadable (dynamic_whole l.kind needs)).ascend c loads some (omega (arith, size, within)))
 
 -- ---- the parts of a look-up
 

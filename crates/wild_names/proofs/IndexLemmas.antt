@@ -1,8 +1,9 @@
 -- The longer section indexes: each entry of the table of all symbols has its own, in order.
+use Rattle.wild_types.specs.Kinds.{is_partial_link}
 use Rattle.wild_needs.specs.declared.table.Named.{Named}
 use Rattle.wild_needs.specs.declared.table.Named.TheVariants as named
 use Rattle.wild_symbols.specs.declared.table.TableFields.{TableFields}
-use Rattle.std.specs.Prelude.{Result}
+use Rattle.std.specs.Prelude.{Result, Some}
 use Rattle.wild_types.specs.declared.symbol.Place.{Place}
 use Rattle.wild_types.specs.declared.symbol.Place.TheVariants as places
 use Rattle.wild_types.specs.declared.input.Slot.{Slot}
@@ -12,7 +13,7 @@ use Rattle.wild_types.specs.declared.fault.Fault.{Fault}
 use Rattle.wild_needs.specs.DynamicSymbols.{output_section, section_of_input}
 use Rattle.wild_laid.specs.FrameInputs.{kept_size}
 use Rattle.wild_laid.specs.Turned.{turned, as_turned}
-use Rattle.wild_laid.specs.Laid.{laid_files, laid_file, laid_section, laid_sections, laid_by, behind}
+use Rattle.wild_laid.specs.Laid.{without_relocations, unread, laid_files, laid_file, laid_section, laid_sections, laid_by, behind}
 use Rattle.wild_geometry.proofs.StoodSections.{laid_same}
 use Rattle.std.proofs.Common.{◌≡◌, ℕ, ◌*◌, inl, inr, Bool, true, false, if◌then◌else◌, List, [], ◌∷◌, length, map, filter, find, flat_map, option_map, Some, slice_get, refl, sym, ap, ◌∙◌, arith, subst, ◌++◌, zero, suc}
 use Rattle.std.specs.List.{list_any}
@@ -34,13 +35,12 @@ use Rattle.wild_types.specs.FileRoles.{is_prelude}
 use Rattle.wild_types.specs.Parts.{has_role, role_place, part_with}
 use Rattle.wild_needs.specs.TableSymbols.{has_long, file_items, TableSymbol, item_name, is_local}
 use Rattle.wild_types.specs.Lookups.{has_many_sections, section_of}
-use Rattle.wild_symbols.specs.DynamicEntries.{NamedFields}
 use Rattle.wild_symbols.specs.TableEntries.{NamedEntry, file_table, group_table, index_bytes, is_side, long_indexes, table_fields, named_entry, null_entries, fields_of, table_by, or_none_in_table}
 use Rattle.wild_symbols.specs.TableLaws.{IndexesHave4Bytes}
 use Rattle.wild_layout.specs.Content.{content, file_content, indexes_of}
 use Rattle.wild_layout.specs.TablePlaces.{table_bytes}
 use Rattle.wild_layout.specs.Geometry.{TablesStand}
-use Rattle.wild_names.specs.Laws.{said, side_symbols}
+use Rattle.wild_names.specs.Laws.{SaidFields, said, side_symbols}
 use Rattle.wild_names.specs.IndexLaws.{HasIndex, LongIndexesStand, index_role, side_table}
 use Rattle.wild_names.proofs.BesideLemmas.{Stands-record}
 use Rattle.wild_names.proofs.ImageLemmas.{in_image}
@@ -94,17 +94,30 @@ by_files l true g = append-nil (flat_map (file_content l role.SymtabShndxLocal) 
 by_files l false g = append-nil (flat_map (file_content l role.SymtabShndxGlobal) (laid_files l g))
 
 -- a section stands in its part, however it stands
+turned_part : (s : InputSection) → (as_turned s).part ≡ s.part
+unfolding as_turned
+turned_part s = by s.reversed
+  where
+    by : (b : Bool) → (if b then turned s else s).part ≡ s.part
+    by true = refl
+    by false = refl
+
+unread_part : (l : Layout) (s : InputSection) → (unread l s).part ≡ s.part
+unread_part l s = by (is_partial_link l.kind)
+  where
+    by : (b : Bool) → (if b then without_relocations s else s).part ≡ s.part
+    by true = refl
+    by false = refl
+
 part_laid : (l : Layout) (f : File) (at : ℕ) (s : InputSection) → (laid_section l f at s).part ≡ s.part
-unfolding laid_section as_turned
+unfolding laid_section
 part_laid l f at s = by_slot s.slot
   where
-    by_test : (b : Bool) → (if b then turned s else s).part ≡ s.part
-    by_test true = refl
-    by_test false = refl
-
     by_slot : (k : Slot) → (laid_by k l f at s).part ≡ s.part
-    by_slot slot.Loaded = by_test s.reversed
+    by_slot slot.Loaded = turned_part (unread l s) ∙ unread_part l s
+    by_slot slot.Debug = turned_part s
     by_slot slot.Frame = refl
+    by_slot slot.Rela = refl
     by_slot other = refl
 
 section_laid : (l : Layout) (f : File) (at : ℕ) (ss : List InputSection) (k : ℕ) → section_of_input l (slice_get (laid_sections l f at ss) k) ≡ section_of_input l (slice_get ss k)
@@ -118,7 +131,7 @@ output_laid l at f other = refl
 
 entry_laid : (l : Layout) (at : ℕ) (f : File) (x : TableSymbol) → named_entry l (laid_file l at f) x ≡ named_entry l f x
 unfolding table_fields
-entry_laid l at f x = ap (λ (r : Result TableFields Fault). record { name = item_name x; local = is_local x; fields = or_none_in_table r }) (by_named x.named)
+entry_laid l at f x = ap (λ (r : Result TableFields Fault). record { name = Some (item_name x); local = is_local x; fields = or_none_in_table r }) (by_named x.named)
   where
     by_named : (n : Named) → fields_of l (laid_file l at f) n x.index x.symbol ≡ fields_of l f n x.index x.symbol
     by_named named.Itself = ap (table_by l x.index f.role x.symbol) (output_laid l at f x.symbol.place)
@@ -177,7 +190,7 @@ indexes_stand stand four l laid local indexes found =
         let long = length-word 4 n.fields.long in
         let here = Stands-record spelled 4 (λ (e : NamedEntry). length-word 4 e.fields.long) (side_table l local) k n h in
         record {
-          entry = sym (ap (λ (ns : List NamedFields). slice_get ns k) (same_symbols l local)) ∙ slice_get-map said (side_table l local) k ∙ ap (option_map said) h;
+          entry = sym (ap (λ (ns : List SaidFields). slice_get ns k) (same_symbols l local)) ∙ slice_get-map said (side_table l local) k ∙ ap (option_map said) h;
           index = in_image stand l laid (index_role local) (has_place local) indexes found (4 * k) (spelled n) (omega arith) (subst (λ (bs : List ℕ). Stands bs (4 * k) (spelled n)) table here);
           else_zero = holds_at EntryIsShort (side_table l local) k n h (short_side l local);
         }

@@ -1,9 +1,15 @@
 -- How many local symbols the table of all symbols has: as many as its part has room for, and fewer than 2^32.
+use Rattle.wild_layout.specs.Geometry.{IsLaidOut}
+use Rattle.wild_types.specs.Lookups.{has_table}
+use Rattle.wild_types.specs.Kinds.{is_partial_link}
+use Rattle.wild_words.proofs.ListLemmas.{All-flat_map}
+use Rattle.std.proofs.lemmas.Bool.{cases_Bool}
+use Rattle.std.specs.Prelude.{All, Option, Some, None, is_some, option_to_list, if◌then◌else◌, ◌&&◌}
 use Rattle.wild_geometry.proofs.StoodSections.{laid_same}
 use Rattle.wild_laid.specs.Laid.{laid_files, laid_file}
-use Rattle.std.proofs.Common.{◌≡◌, ℕ, ◌+◌, ◌*◌, ◌/◌, ◌%◌, ◌^◌, ◌<◌, ◌≤◌, not, true, List, [], ◌∷◌, length, map, filter, flat_map, refl, sym, ap, ◌∙◌, arith, subst}
+use Rattle.std.proofs.Common.{◌≡◌, ℕ, suc, ◌+◌, ◌*◌, ◌/◌, ◌%◌, ◌^◌, ◌<◌, ◌≤◌, inl, inr, Bool, not, true, false, get_or, ◌++◌, List, [], ◌∷◌, length, map, filter, flat_map, refl, sym, ap, ◌∙◌, arith, subst}
 use Rattle.std.proofs.lemmas.List.{length-append, length-map}
-use Rattle.std.proofs.lemmas.List.Elements.{All-contains}
+use Rattle.std.proofs.lemmas.List.Elements.{All-contains, All-nil, All-cons, All-head, All-tail, All-append, All-map}
 use Rattle.std.proofs.lemmas.List.Filters.{length-filter_both}
 use Rattle.wild_words.specs.Record.{spell, FieldsAreRead}
 use Rattle.wild_words.specs.Words.{Stands}
@@ -18,10 +24,10 @@ use Rattle.wild_needs.specs.DynamicStrings.{text_room}
 use Rattle.wild_types.specs.FileRoles.{is_prelude}
 use Rattle.wild_types.specs.Lists.{total}
 use Rattle.wild_needs.specs.Needs.{share, group_share}
-use Rattle.wild_needs.specs.TableSymbols.{table_strings, file_items}
+use Rattle.wild_needs.specs.TableSymbols.{table_strings, file_items, section_symbols}
 use Rattle.wild_symbols.specs.Symbols.{symbol_bytes}
-use Rattle.wild_symbols.specs.TableEntries.{NamedEntry, is_side, group_table, table_entries}
-use Rattle.wild_symbols.specs.TableLaws.{LengthsOfSides, NamesOfGroups}
+use Rattle.wild_symbols.specs.TableEntries.{NamedEntry, is_side, group_table, table_entries, null_entry, null_entries, section_entry, named_entry, file_table}
+use Rattle.wild_symbols.specs.TableLaws.{LengthsOfSides, NamesOfGroups, names_of}
 use Rattle.wild_symbols.proofs.SymbolLemmas.{length-symbol_bytes}
 use Rattle.wild_headers.specs.Headers.{null_header, local_symbols}
 use Rattle.wild_headers.specs.Laws.{SectionHeadersStand}
@@ -83,22 +89,53 @@ strings_laid : (l : Layout) (at : ℕ) (f : File) → table_strings l (laid_file
 unfolding table_strings file_items
 strings_laid l at f = refl
 
-few_of_group : NamesOfGroups → (l : Layout) (g : Group) → length (map said (locals l g)) ≤ group_share l role.Strtab g
-few_of_group names l g =
+abbrev HasName : NamedEntry → Type 0
+HasName n = is_some n.name ≡ true
+
+-- as many names as entries that have one
+named_each : (ns : List NamedEntry) → All HasName ns → length (names_of ns) ≡ length ns
+named_each [] h = refl
+named_each (n ∷ ns) h = by n.name (All-head HasName n ns h) (named_each ns (All-tail HasName n ns h))
+  where
+    by : (o : Option (List ℕ)) → is_some o ≡ true → length (names_of ns) ≡ length ns → length (option_to_list o ++ names_of ns) ≡ length (n ∷ ns)
+    by None h again = cc
+    by (Some x) h again = ap suc again
+
+no_sections : (l : Layout) → is_partial_link l.kind ≡ false → section_symbols l ≡ []
+unfolding section_symbols
+no_sections l whole = rw whole refl
+
+-- outside relocatable objects each has
+file_named : (l : Layout) (f : File) → is_partial_link l.kind ≡ false → All HasName (file_table l f)
+file_named l f whole =
+    All-append HasName (null_entries l f) (map (named_entry l f) (file_items l f)) (front (has_table l && is_prelude f.role) (section_symbols l) (no_sections l whole))
+    (All-map HasName (named_entry l f) (file_items l f) (λ k d h. refl))
+  where
+    front : (b : Bool) (ks : List ℕ) → ks ≡ [] → All HasName (if b then null_entry ∷ map section_entry ks else [])
+    front true [] e = All-cons HasName null_entry [] refl (All-nil HasName)
+    front true (k ∷ ks) e = cc
+    front false ks e = All-nil HasName
+
+group_named : (l : Layout) (g : Group) → is_partial_link l.kind ≡ false → All HasName (group_table l g)
+unfolding group_table
+group_named l g whole = All-flat_map HasName (file_table l) g.files (λ k d h. file_named l (get_or g.files k d) whole)
+
+few_of_group : NamesOfGroups → (l : Layout) (g : Group) → is_partial_link l.kind ≡ false → length (map said (locals l g)) ≤ group_share l role.Strtab g
+few_of_group names l g whole =
     let a = length-map (locals l g) said in
     let b = length-filter_both (is_side true) (λ (n : NamedEntry). not (is_side true n)) (λ _. refl) (group_table l g) in
-    let c = length-map (group_table l g) (λ (n : NamedEntry). n.name) in
+    let c = named_each (group_table l g) (group_named l g whole) in
     let d = ap (λ (ss : List (List ℕ)). length ss) (names l g) in
     let e = few_of_files l (laid_files l g) in
     let same = ap (λ (ss : List (List ℕ)). length ss) (laid_same (table_strings l) l g (strings_laid l)) in
     omega (arith, a, b, c, d, e, same)
 
-few_of_groups : NamesOfGroups → (l : Layout) (gs : List Group) → length (flat_map (λ (g : Group). map said (locals l g)) gs) ≤ total (group_share l role.Strtab) gs
-few_of_groups names l [] = omega arith
-few_of_groups names l (g ∷ gs) =
+few_of_groups : NamesOfGroups → (l : Layout) (gs : List Group) → is_partial_link l.kind ≡ false → length (flat_map (λ (g : Group). map said (locals l g)) gs) ≤ total (group_share l role.Strtab) gs
+few_of_groups names l [] whole = omega arith
+few_of_groups names l (g ∷ gs) whole =
     let a = length-append (map said (locals l g)) (flat_map (λ (x : Group). map said (locals l x)) gs) in
-    let b = few_of_group names l g in
-    let c = few_of_groups names l gs in
+    let b = few_of_group names l g whole in
+    let c = few_of_groups names l gs whole in
     omega (arith, a, b, c)
 
 -- ---- they are counted
@@ -106,16 +143,23 @@ few_of_groups names l (g ∷ gs) =
 count_told : (l : Layout) (n size info : ℕ) → size ≡ 24 * n → n < 2 ^ 32 → info ≡ size / 24 % 2 ^ 32 → info ≡ n
 count_told l n size info whole low told = omega (arith, whole, low, told)
 
+-- where a relocatable object has few, so has each output
+few_locals : NamesOfGroups → (l : Layout) → IsLaidOut l → (is_partial_link l.kind ≡ true → length (side_symbols l true) < 2 ^ 32) → length (side_symbols l true) < 2 ^ 32
+few_locals names l laid few =
+    elim (cases_Bool (is_partial_link l.kind)) [
+      | inl t ↦ few t
+      | inr f ↦ (let a = few_of_groups names l l.groups f in let short = laid.table_strings in omega (arith, a, short))
+    ]
+
 pub locals_are_counted : LengthsOfSides → NamesOfGroups → SectionHeadersStand → FieldsAreRead → LocalSymbolsAreCounted
-locals_are_counted sides names headers read l laid table part found there own =
+locals_are_counted sides names headers read l laid limit table part found there own =
     let lies = (laid.roles role.SymtabLocal (λ e. absurd (omega arith))).there table found in
     let whole : table.size ≡ 24 * length (side_symbols l true) = sym lies.size ∙ all_room sides l l.groups in
-    let few = few_of_groups names l l.groups in
-    let short = laid.table_strings in
+    let few = few_locals names l laid limit in
     let low = All-contains (λ (p : Part). p.section < length l.sections) l.parts table laid.named lies.listed in
     let told = info_of l l.sections table.section (null_header l) own.some low in
     let counted = locals_told l table.section told.0 (elsewhere role.Dynsym l.parts table.section own.some own.symbols) (elsewhere role.RelaPlt l.parts table.section own.some own.stubs) (section_is role.SymtabLocal l.parts table found) in
     let size : local_symbols l ≡ table.size / 24 = ap (λ (n : ℕ). n / 24) (size_is role.SymtabLocal l.parts table found) in
-    let info : (header_at l table.section).info ≡ length (side_symbols l true) = count_told l (length (side_symbols l true)) table.size (header_at l table.section).info whole (omega (arith, few, short)) (told.1 ∙ counted ∙ ap (λ (n : ℕ). n % 2 ^ 32) size) in
+    let info : (header_at l table.section).info ≡ length (side_symbols l true) = count_told l (length (side_symbols l true)) table.size (header_at l table.section).info whole few (told.1 ∙ counted ∙ ap (λ (n : ℕ). n % 2 ^ 32) size) in
     let here = subst (λ (n : ℕ). Stands (bytes l) (n + 64 * table.section) (spell (section_header_fields (header_at l table.section)))) (offset_is role.SectionHeaders l.parts part there) (header_in_image headers l laid table.section low) in
-    info_read read (bytes l) (part.offset + 64 * table.section) (header_at l table.section) here (omega (arith, info, few, short)) ∙ info
+    info_read read (bytes l) (part.offset + 64 * table.section) (header_at l table.section) here (omega (arith, info, few)) ∙ info

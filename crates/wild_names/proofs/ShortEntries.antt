@@ -1,8 +1,8 @@
 -- The longer section index of an entry is 0 where st_shndx tells its section itself.
-use Rattle.std.proofs.Common.{◌≡◌, ℕ, ◌%◌, ◌^◌, ◌&&◌, Bool, true, false, nat_lt, if◌then◌else◌, get_or, map, filter, Option, Some, None, Result, All, refl}
+use Rattle.std.proofs.Common.{◌≡◌, List, [], ◌∷◌, ℕ, ◌%◌, ◌^◌, ◌&&◌, Bool, true, false, nat_lt, if◌then◌else◌, get_or, map, filter, Option, Some, None, Result, All, refl}
 use Rattle.std.specs.Prelude.{codes, unwrap_or, slice_get}
-use Rattle.std.proofs.lemmas.List.Elements.{All-append, All-filter, All-map}
-use Rattle.wild_words.proofs.ListLemmas.{All-flat_map, All-optional}
+use Rattle.std.proofs.lemmas.List.Elements.{All-nil, All-cons, All-append, All-filter, All-map}
+use Rattle.wild_words.proofs.ListLemmas.{All-flat_map}
 use Rattle.wild_records.specs.Abi.Section.{shn_loreserve, shn_xindex}
 use Rattle.wild_types.specs.declared.fault.Fault.{Fault}
 use Rattle.wild_types.specs.declared.part.Role.TheVariants as role
@@ -21,12 +21,12 @@ use Rattle.wild_types.specs.FileRoles.{is_library, is_prelude}
 use Rattle.wild_types.specs.Flags.{has_flag, canonical_plt, copy_relocation}
 use Rattle.wild_types.specs.Parts.{part_with}
 use Rattle.wild_types.specs.SymbolSlots.{got_of, plt_of}
-use Rattle.wild_needs.specs.TableSymbols.{TableSymbol, file_items}
+use Rattle.wild_needs.specs.TableSymbols.{TableSymbol, file_items, section_symbols}
 use Rattle.wild_types.specs.Lookups.{has_table}
 use Rattle.wild_symbols.specs.declared.table.TableFields.{TableFields}
 use Rattle.wild_symbols.specs.declared.writer.SymbolAttributes.{SymbolAttributes}
 use Rattle.wild_symbols.specs.DynamicFields.{common_section, part_section, section_named, some_section, stands_as_stub, stub_or_zero}
-use Rattle.wild_symbols.specs.TableEntries.{NamedEntry, at_address, counted_from, fields_of, file_table, first_or, group_table, in_table_section, is_side, named_entry, no_attributes, thunk_attributes, null_entries, null_entry, or_none_in_table, slot_role, table_at, table_attributes, table_by, table_canonical, table_fields, table_placed, with_function}
+use Rattle.wild_symbols.specs.TableEntries.{NamedEntry, at_address, counted_from, fields_of, file_table, first_or, group_table, in_table_section, is_side, named_entry, no_attributes, thunk_attributes, null_entries, null_entry, section_entry, or_none_in_table, slot_role, table_at, table_attributes, table_by, table_canonical, table_fields, table_placed, table_value, with_function}
 use Rattle.wild_names.specs.IndexLaws.{side_table}
 
 -- the index is 0 where st_shndx does not send to it
@@ -61,7 +61,7 @@ told_placed l i r s section =
     let stubs = part_section (part_with role.PltGot l.parts) in
     let function = with_function (table_attributes r s) in
     let own = table_attributes r s in
-    told_if (stands_as_stub l s) (in_table_section i stubs (stub_or_zero s) function) (at_address l i s section (raw_value l i) own) (told_section i stubs (stub_or_zero s) function) (told_address l i s section (raw_value l i) own)
+    told_if (stands_as_stub l s) (in_table_section i stubs (stub_or_zero s) function) (at_address l i s section (table_value l i s) own) (told_section i stubs (stub_or_zero s) function) (told_address l i s section (table_value l i s) own)
 
 told_at : (l : Layout) (i : ℕ) (r : FileRole) (s : Symbol) (section : ℕ) (p : Place) → IsTold (table_at l i r s section p)
 told_at l i r s section at.Undefined = record { short = λ n. refl }
@@ -97,9 +97,13 @@ told l f x = told_of l f x.named x.index x.symbol
 abbrev pub EntryIsShort : NamedEntry → Type 0
 EntryIsShort n = IsShort n.fields
 
+short_front : (b : Bool) (ks : List ℕ) → All EntryIsShort (if b then null_entry ∷ map section_entry ks else [])
+short_front true ks = All-cons EntryIsShort null_entry (map section_entry ks) (λ n. refl) (All-map EntryIsShort section_entry ks (λ k d h. short_split (get_or ks k d) (nat_lt (get_or ks k d) shn_loreserve)))
+short_front false ks = All-nil EntryIsShort
+
 short_file : (l : Layout) (f : File) → All EntryIsShort (file_table l f)
 short_file l f =
-    let first = All-optional EntryIsShort (has_table l && is_prelude f.role) null_entry (λ b n. refl) in
+    let first = short_front (has_table l && is_prelude f.role) (section_symbols l) in
     let items = All-map EntryIsShort (named_entry l f) (file_items l f) (λ k d h. (told l f (get_or (file_items l f) k d)).short) in
     All-append EntryIsShort (null_entries l f) (map (named_entry l f) (file_items l f)) first items
 

@@ -1,7 +1,7 @@
 -- The table of all symbols: its local ones in one part, and all others in another.
 use Rattle.wild_laid.specs.Laid.{laid_files, laid_file}
 use Rattle.wild_geometry.proofs.StoodSections.{laid_same}
-use Rattle.std.proofs.Common.{◌≡◌, ℕ, ◌+◌, ◌*◌, ◌^◌, ◌<◌, ◌≤◌, inl, inr, ◌==◌, ◌&&◌, Bool, true, false, List, [], ◌∷◌, ◌++◌, length, map, filter, replicate, Some, None, slice_get, flat_map, refl, sym, ap, ◌∙◌, arith, subst}
+use Rattle.std.proofs.Common.{◌≡◌, ℕ, ◌+◌, ◌*◌, ◌^◌, ◌<◌, ◌≤◌, inl, inr, ◌==◌, ◌&&◌, Bool, true, false, List, [], ◌∷◌, ◌++◌, length, map, filter, replicate, Option, Some, None, option_to_list, slice_get, flat_map, refl, sym, ap, ◌∙◌, arith, subst}
 use Rattle.std.proofs.lemmas.Bool.{cases_Bool, and_parts}
 use Rattle.std.proofs.lemmas.List.{append-nil, length-append}
 use Rattle.wild_words.specs.Words.{Stands}
@@ -23,41 +23,67 @@ use Rattle.wild_needs.specs.Needs.{share, group_share}
 use Rattle.wild_types.specs.Parts.{role_place}
 use Rattle.wild_types.specs.Lookups.{has_table}
 use Rattle.wild_types.proofs.FileLemmas.{same_bool}
-use Rattle.wild_needs.specs.TableSymbols.{file_items, table_strings}
-use Rattle.wild_symbols.specs.DynamicEntries.{NamedFields, entry_at, no_fields}
+use Rattle.wild_needs.specs.TableSymbols.{file_items, table_strings, section_symbols}
+use Rattle.wild_symbols.specs.DynamicEntries.{entry_at, no_fields}
 use Rattle.wild_symbols.specs.Strings.{string, string_bytes}
 use Rattle.wild_symbols.specs.Symbols.{symbol_bytes}
-use Rattle.wild_symbols.specs.TableEntries.{NamedEntry, is_side, side_entries, named_entry, file_table, group_table, table_entries}
-use Rattle.wild_symbols.specs.TableLaws.{names_of, NamesOfGroups}
+use Rattle.wild_symbols.specs.TableEntries.{NamedEntry, is_side, name_at, behind_name, side_entries, section_entry, named_entry, file_table, group_table, table_entries}
+use Rattle.wild_symbols.specs.TableLaws.{names_of, NamesOfGroups, TellsName}
 use Rattle.wild_symbols.proofs.StringLemmas.{length-string_bytes}
 use Rattle.wild_symbols.proofs.SymbolLemmas.{length-symbol_bytes}
 use Rattle.wild_layout.specs.Content.{file_content, content}
 use Rattle.wild_layout.specs.TablePlaces.{table_bytes}
 use Rattle.wild_layout.specs.Geometry.{IsLaidOut, TablesStand}
 use Rattle.wild_layout.specs.Image.{bytes}
-use Rattle.wild_names.specs.Laws.{HasEntry, TableSymbolsStand, table_role, said, side_symbols}
+use Rattle.wild_names.specs.Laws.{SaidFields, HasSaid, IsNamedOr, TableSymbolsStand, table_role, said, side_symbols}
 use Rattle.wild_names.proofs.BesideLemmas.{Belong, HasBeside, belong-length, belongs_at}
 use Rattle.wild_names.proofs.ImageLemmas.{entry_stands, named, none_joined, null_bytes}
 use Rattle.wild_names.proofs.RunLemmas.{groups_along}
-use Rattle.wild_names.proofs.SymbolLemmas.{Tells}
 
 -- ---- one group
 
--- the entries of a side belong to its symbols, where the names of all stand
-side_belongs : (local : Bool) (whole : List ℕ) → length whole < 2 ^ 32 → (at : ℕ) (ns : List NamedEntry) → Stands whole at (string_bytes (names_of ns)) → Belong (Tells whole) (side_entries local at ns) (map said (filter (is_side local) ns))
+-- the entry says that of the symbol, and tells its name
+record Tells (strings : List ℕ) (e : SymtabEntry) (n : SaidFields) : Type 0 where
+  at : ℕ
+  is : e ≡ entry_at at n.fields
+  name : TellsName strings at n.name
+
+-- an entry in front of those that belong
+entry_belongs : (local : Bool) (whole : List ℕ) (at : ℕ) (n : NamedEntry) (ns : List NamedEntry) → TellsName whole (name_at at n.name) n.name → Belong (Tells whole) (side_entries local (behind_name at n.name) ns) (map said (filter (is_side local) ns)) → Belong (Tells whole) (side_entries local at (n ∷ ns)) (map said (filter (is_side local) (n ∷ ns)))
 unfolding side_entries
-side_belongs local whole small at [] s = tt
-side_belongs local whole small at (n ∷ ns) s =
-    let here = Stands-front whole (string n.name) (string_bytes (names_of ns)) at s in
-    let later = Stands-behind whole (string n.name) (string_bytes (names_of ns)) at (length (string n.name)) refl s in
-    let long = length-append n.name (0 ∷ []) in
-    let ends = here.fits in
-    let is : at + length (string n.name) ≡ behind_text at n.name = omega arith in
-    let rest = side_belongs local whole small (behind_text at n.name) ns (subst (λ (m : ℕ). Stands whole m (string_bytes (names_of ns))) is later) in
+entry_belongs local whole at n ns tells rest =
     elim (cases_Bool (is_side local n)) [
-      | inl t ↦ rw t (record { first = record { at = at; is = refl; stands = here }; rest = rest })
+      | inl t ↦ rw t (record { first = record { at = name_at at n.name; is = refl; name = tells }; rest = rest })
       | inr f ↦ rw f rest
     ]
+
+-- those of a side, where its names stand
+abbrev SideBelongs : Bool → List ℕ → List NamedEntry → Type 0
+SideBelongs local whole ns = (at : ℕ) → Stands whole at (string_bytes (names_of ns)) → Belong (Tells whole) (side_entries local at ns) (map said (filter (is_side local) ns))
+
+side_step : (local : Bool) (whole : List ℕ) → length whole < 2 ^ 32 → (n : NamedEntry) (ns : List NamedEntry) → SideBelongs local whole ns → SideBelongs local whole (n ∷ ns)
+side_step local whole small n ns again = λ at s. by at n.name refl s
+  where
+    with_name : (at : ℕ) (o : Option (List ℕ)) → n.name ≡ o → TellsName whole (name_at at o) o → Stands whole (behind_name at o) (string_bytes (names_of ns)) → Belong (Tells whole) (side_entries local at (n ∷ ns)) (map said (filter (is_side local) (n ∷ ns)))
+    with_name at o e tells later =
+        entry_belongs local whole at n ns (subst (λ (x : Option (List ℕ)). TellsName whole (name_at at x) x) (sym e) tells)
+        (again (behind_name at n.name) (subst (λ (x : Option (List ℕ)). Stands whole (behind_name at x) (string_bytes (names_of ns))) (sym e) later))
+
+    by : (at : ℕ) (o : Option (List ℕ)) → n.name ≡ o → Stands whole at (string_bytes (option_to_list o ++ names_of ns)) → Belong (Tells whole) (side_entries local at (n ∷ ns)) (map said (filter (is_side local) (n ∷ ns)))
+    by at None e s = with_name at None e refl s
+    by at (Some name) e s =
+        let here = Stands-front whole (string name) (string_bytes (names_of ns)) at s in
+        let later = Stands-behind whole (string name) (string_bytes (names_of ns)) at (length (string name)) refl s in
+        let long = length-append name (0 ∷ []) in
+        let ends = here.fits in
+        let is : at + length (string name) ≡ behind_text at name = omega arith in
+        with_name at (Some name) e here (subst (λ (m : ℕ). Stands whole m (string_bytes (names_of ns))) is later)
+
+-- the entries of a side belong to its symbols, where the names of all stand
+side_belongs : (local : Bool) (whole : List ℕ) → length whole < 2 ^ 32 → (ns : List NamedEntry) → SideBelongs local whole ns
+unfolding side_entries
+side_belongs local whole small [] = λ at s. tt
+side_belongs local whole small (n ∷ ns) = side_step local whole small n ns (side_belongs local whole small ns)
 
 -- ---- the strings
 
@@ -109,7 +135,7 @@ sides_belong l local names laid =
     let whole = table_bytes l role.Strtab in
     let small = text_is_short l laid in
     groups_along (Tells whole) (table_entries l local) (λ (g : Group). map said (filter (is_side local) (group_table l g))) l role.Strtab (λ (g : Group). g.strtab_start) whole
-    (λ g s. side_belongs local whole small g.strtab_start (group_table l g) (subst (λ (bs : List ℕ). Stands whole g.strtab_start bs) (group_text l g names) s)) 0 l.groups (λ j g found. let e = laid.table_starts j g found in omega arith) (Stands-whole whole)
+    (λ g s. side_belongs local whole small (group_table l g) g.strtab_start (subst (λ (bs : List ℕ). Stands whole g.strtab_start bs) (group_text l g names) s)) 0 l.groups (λ j g found. let e = laid.table_starts j g found in omega arith) (Stands-whole whole)
 
 -- ---- their bytes
 
@@ -137,7 +163,7 @@ first_of_files l last [] has h = cc
 first_of_files l last (f ∷ fs) has h =
     let a = and_parts (file_placed true (last && length fs == 0) f) (later_placed last fs) h in
     let b = same_bool (is_prelude f.role) true (and_parts (bool_eq (is_prelude f.role) true) (bool_eq (is_epilogue f.role) (last && length fs == 0)) a.0).0 in
-    let more = map (named_entry l f) (file_items l f) ++ flat_map (file_table l) fs in
+    let more = (map section_entry (section_symbols l) ++ map (named_entry l f) (file_items l f)) ++ flat_map (file_table l) fs in
     (side_entries true (behind_text 0 []) more, rw (has, b) refl)
 
 first_of_groups : (l : Layout) (gs : List Group) → has_table l ≡ true → 1 ≤ length gs → file_misplaced true 0 gs ≡ None → ((g : Group) → slice_get gs 0 ≡ Some g → g.strtab_start ≡ 0) → (rest : List SymtabEntry) × (flat_map (table_entries l true) gs ≡ entry_at 0 no_fields ∷ rest)
@@ -181,12 +207,16 @@ table_stands stand names l laid local table strings found with_strings =
         let own : length (table_bytes l (table_role local)) ≡ 24 * length (all_entries l local) = subst (λ (bs : List ℕ). length bs ≡ 24 * length (all_entries l local)) (entries_table l local) (length-symbol_bytes (all_entries l local)) in
         omega arith
 
-    one : (k : ℕ) (n : NamedFields) → HasBeside (Tells (table_bytes l role.Strtab)) (all_entries l local) k n → HasEntry l table strings k n
+    name_there : (at : ℕ) (o : Option (List ℕ)) → TellsName (table_bytes l role.Strtab) at o → IsNamedOr l strings at o
+    name_there at None h = h
+    name_there at (Some name) h = named stand l laid role.Strtab (λ e. absurd (omega arith)) (text_is_short l laid) strings with_strings at name h
+
+    one : (k : ℕ) (n : SaidFields) → HasBeside (Tells (table_bytes l role.Strtab)) (all_entries l local) k n → HasSaid l table strings k n
     one k n b =
         let told = b.belongs in
         let here = entry_stands stand l laid (table_role local) (has_place local) (all_entries l local) (entries_table l local) table found k b.item b.is in
         record {
           at = told.at;
           entry = subst (λ (e : SymtabEntry). Stands (bytes l) (table.offset + 24 * k) (spell (symtab_entry_fields e))) told.is here;
-          name = named stand l laid role.Strtab (λ e. absurd (omega arith)) (text_is_short l laid) strings with_strings told.at n.name told.stands;
+          name = name_there told.at n.name told.name;
         }

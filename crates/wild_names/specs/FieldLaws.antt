@@ -4,7 +4,7 @@
 --   ListedSymbolsHaveFields   so does each symbol that other modules see
 --   HasOwnInfo l table        no other number is told of the section of the local symbols
 --   LocalSymbolsAreCounted    sh_info of that section is how many local symbols there are
-use Rattle.std.specs.Prelude.{◌≡◌, ◌+◌, ◌*◌, ◌≤◌, true, [], length, Contains, Some, Ok, slice_get}
+use Rattle.std.specs.Prelude.{◌≡◌, ◌+◌, ◌*◌, ◌^◌, ◌<◌, ◌≤◌, true, [], length, Contains, Some, Ok, slice_get}
 use Rattle.wild_records.specs.SectionHeader.{section_header_size, section_header_at}
 use Rattle.wild_types.specs.declared.part.Part.{Part}
 use Rattle.wild_types.specs.declared.part.Role.TheVariants as role
@@ -13,7 +13,7 @@ use Rattle.wild_types.specs.declared.file.File.{File}
 use Rattle.wild_types.specs.declared.file.Group.{Group}
 use Rattle.wild_types.specs.declared.layout.DynamicSymbol.{DynamicSymbol}
 use Rattle.wild_types.specs.declared.layout.Layout.{Layout}
-use Rattle.wild_types.specs.Kinds.{needs_dynsym}
+use Rattle.wild_types.specs.Kinds.{needs_dynsym, is_partial_link}
 use Rattle.wild_types.specs.Parts.{part_with}
 use Rattle.wild_needs.specs.TableSymbols.{TableSymbol, file_items, item_name, is_local}
 use Rattle.wild_symbols.specs.declared.dynamic.SymbolFields.{SymbolFields}
@@ -30,7 +30,7 @@ use Rattle.wild_names.specs.Laws.{side_symbols}
 
 -- a symbol's name and side, with these fields
 abbrev pub entry_with : TableSymbol → TableFields → NamedEntry
-entry_with x fields = record { name = item_name x; local = is_local x; fields = fields }
+entry_with x fields = record { name = Some (item_name x); local = is_local x; fields = fields }
 
 -- a symbol of the table of all symbols lacks nothing: it has its fields, and its entry says them
 pub record HasTableFields (l : Layout) (f : File) (x : TableSymbol) : Type 0 where
@@ -68,7 +68,7 @@ pub record HasOwnInfo (l : Layout) (table : Part) : Type 0 where
   pub stubs : (p : Part) → part_with role.RelaPlt l.parts ≡ Some p → p.section ≡ table.section → ⊥
 
 -- in the image sh_info of the section of the local symbols is how many of them there are, with the one of zeros: one greater than the
--- index of the last one
+-- index of the last one; of a relocatable object, whose symbols of sections have no names, where there are fewer than 2^32
 abbrev pub LocalSymbolsAreCounted : Type 0
-LocalSymbolsAreCounted = (l : Layout) → IsLaidOut l → (table headers : Part) → part_with role.SymtabLocal l.parts ≡ Some table → part_with role.SectionHeaders l.parts ≡ Some headers → HasOwnInfo l table
+LocalSymbolsAreCounted = (l : Layout) → IsLaidOut l → (is_partial_link l.kind ≡ true → length (side_symbols l true) < 2 ^ 32) → (table headers : Part) → part_with role.SymtabLocal l.parts ≡ Some table → part_with role.SectionHeaders l.parts ≡ Some headers → HasOwnInfo l table
     → (section_header_at (bytes l) (headers.offset + section_header_size * table.section)).info ≡ length (side_symbols l true)

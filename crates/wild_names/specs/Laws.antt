@@ -4,10 +4,10 @@
 --   HasEntry ..            an entry of the table says that of a symbol, and its name stands where it tells
 --   SymbolTablesAreThere   the table and its strings are there
 --   SymbolsStand           each symbol has its entry, behind a null one
---   side_symbols l local   the local symbols of the table of all symbols, or the others
+--   side_symbols l local   what the local entries of the table of all symbols say, or the others
 --   TableSymbolsStand      each of them has its entry in the part of its side
 --   LibrariesStand         each library's name stands where the dynamic section tells
-use Rattle.std.specs.Prelude.{◌≡◌, ℕ, ◌+◌, ◌*◌, ◌^◌, ◌<◌, ◌≤◌, Bool, true, false, List, [], ◌∷◌, ◌++◌, length, map, replicate, Some, slice_get}
+use Rattle.std.specs.Prelude.{◌≡◌, ℕ, ◌+◌, ◌*◌, ◌^◌, ◌<◌, ◌≤◌, Bool, true, false, List, [], ◌∷◌, ◌++◌, length, map, replicate, Option, Some, None, slice_get}
 use Rattle.std.specs.List.{flat_map, filter}
 use Rattle.wild_words.specs.Words.{Stands}
 use Rattle.wild_words.specs.Record.{spell}
@@ -25,6 +25,7 @@ use Rattle.wild_types.specs.FileRoles.{is_library}
 use Rattle.wild_types.specs.Kinds.{needs_dynsym, needs_dynamic}
 use Rattle.wild_types.specs.Lookups.{files_of, has_table}
 use Rattle.wild_types.specs.Parts.{part_with}
+use Rattle.wild_symbols.specs.declared.dynamic.SymbolFields.{SymbolFields}
 use Rattle.wild_symbols.specs.DynamicEntries.{NamedFields, undefined, listed, entry_at}
 use Rattle.wild_symbols.specs.TableEntries.{NamedEntry, is_side, group_table}
 use Rattle.wild_layout.specs.Image.{bytes}
@@ -73,19 +74,34 @@ abbrev pub table_role : Bool → Role
 table_role true = role.SymtabLocal
 table_role false = role.SymtabGlobal
 
--- a symbol's name, and what its entry says
-abbrev pub said : NamedEntry → NamedFields
+-- what an entry says, and its symbol's name, which that of a section has not
+pub record SaidFields : Type 0 where
+  pub name : Option (List ℕ)
+  pub fields : SymbolFields
+
+abbrev pub said : NamedEntry → SaidFields
 said n = record { name = n.name; fields = n.fields.fields }
 
 -- the local symbols of that table, or the others, group by group
-abbrev pub side_symbols : Layout → Bool → List NamedFields
+abbrev pub side_symbols : Layout → Bool → List SaidFields
 side_symbols l local = flat_map (λ (g : Group). map said (filter (is_side local) (group_table l g))) l.groups
+
+-- the name stands where it is told; where there is none the empty string is told, with which the strings begin
+abbrev pub IsNamedOr : Layout → Part → ℕ → Option (List ℕ) → Type 0
+IsNamedOr l strings at None = at ≡ 0
+IsNamedOr l strings at (Some name) = IsNamed l strings at name
+
+-- entry k of the table says that of a symbol, and tells its name
+pub record HasSaid (l : Layout) (table strings : Part) (k : ℕ) (n : SaidFields) : Type 0 where
+  pub at : ℕ
+  pub entry : Stands (bytes l) (table.offset + symtab_entry_size * k) (spell (symtab_entry_fields (entry_at at n.fields)))
+  pub name : IsNamedOr l strings at n.name
 
 -- each symbol of a side has its entry, and there are no others; the first of the local ones is of zeros
 pub record TableIsThere (l : Layout) (local : Bool) (table strings : Part) : Type 0 where
   pub whole : table.size ≡ symtab_entry_size * length (side_symbols l local)
   pub null : local ≡ true → has_table l ≡ true → Stands (bytes l) table.offset (replicate symtab_entry_size 0)
-  pub each : (k : ℕ) (n : NamedFields) → slice_get (side_symbols l local) k ≡ Some n → HasEntry l table strings k n
+  pub each : (k : ℕ) (n : SaidFields) → slice_get (side_symbols l local) k ≡ Some n → HasSaid l table strings k n
 
 -- so it is in the image of a layout whose clauses and shares hold
 abbrev pub TableSymbolsStand : Type 0

@@ -2,6 +2,7 @@ pub mod DynamicLemmas
 pub mod EntryLemmas
 pub mod RoomLemmas
 pub mod RunLemmas
+pub mod SectionSymbolLemmas
 pub mod ShareLemmas
 pub mod SlotBlockLemmas
 pub mod SlotShareLemmas

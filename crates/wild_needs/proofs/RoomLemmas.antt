@@ -1,5 +1,5 @@
 -- Frames as they stand have the bytes that are kept.
-use Rattle.std.proofs.Common.{◌≡◌, ℕ, ◌+◌, List, [], ◌∷◌, refl, arith}
+use Rattle.std.proofs.Common.{◌≡◌, ℕ, ◌+◌, List, [], ◌∷◌, false, refl, ap, ◌∙◌, arith}
 use Rattle.wild_types.specs.declared.file.File.{File}
 use Rattle.wild_types.specs.declared.input.InputSection.{InputSection}
 use Rattle.wild_types.specs.declared.input.Slot.{Slot}
@@ -8,16 +8,17 @@ use Rattle.wild_types.specs.declared.layout.Layout.{Layout}
 use Rattle.std.specs.Prelude.{if◌then◌else◌, length}
 use Rattle.std.proofs.lemmas.Bool.{cases_Bool}
 use Rattle.std.proofs.Common.{inl, inr}
+use Rattle.wild_types.specs.Kinds.{is_partial_link}
 use Rattle.wild_types.specs.Lists.{total}
 use Rattle.wild_types.specs.Lookups.{is_frame}
 use Rattle.wild_frames.specs.Frames.{frame_bytes}
 use Rattle.wild_laid.specs.Turned.{as_turned}
 use Rattle.wild_laid.specs.FrameInputs.{frames_of, kept_size}
-use Rattle.wild_laid.specs.Laid.{laid_by, behind, laid_section, laid_sections}
+use Rattle.wild_laid.specs.Laid.{laid_by, unread, behind, laid_section, laid_sections}
 use Rattle.wild_needs.specs.Needs.{frame_room}
 
--- a loaded section is none of frames
-turned_room : (s : InputSection) → s.slot ≡ slot.Loaded → frame_room (as_turned s) ≡ 0
+-- a section in another slot is none of frames
+turned_room : (s : InputSection) → is_frame s.slot ≡ false → frame_room (as_turned s) ≡ 0
 unfolding as_turned
 turned_room s h =
     elim (cases_Bool s.reversed) [
@@ -25,12 +26,21 @@ turned_room s h =
       | inr f ↦ rw (f, h) refl
     ]
 
+unread_slot : (l : Layout) (s : InputSection) → (unread l s).slot ≡ s.slot
+unread_slot l s =
+    elim (cases_Bool (is_partial_link l.kind)) [
+      | inl t ↦ rw t refl
+      | inr f ↦ rw f refl
+    ]
+
 section_room : (l : Layout) (f : File) (at : ℕ) (s : InputSection) → frame_room (laid_section l f at s) ≡ kept_size l f s
 unfolding laid_section kept_size
 section_room l f at s = by_slot s.slot refl
   where
     by_slot : (k : Slot) → s.slot ≡ k → frame_room (laid_by k l f at s) ≡ (if is_frame k then length (frame_bytes (frames_of l f s)) else 0)
-    by_slot slot.Loaded h = turned_room s h
+    by_slot slot.Loaded h = turned_room (unread l s) (ap is_frame (unread_slot l s ∙ h))
+    by_slot slot.Debug h = turned_room s (ap is_frame h)
+    by_slot slot.Rela h = refl
     by_slot slot.Frame h = refl
     by_slot other h = rw h refl
 

@@ -1,6 +1,6 @@
 -- What is counted of the relocations of sections as they stand.
 use Rattle.std.proofs.Common.{◌≡◌, ℕ, ◌+◌, ◌-◌, ◌^◌, ◌<◌, ◌≤◌, inl, inr, min, Bool, true, false, List, [], ◌∷◌, ◌++◌, length, drop, get_or, map, refl, sym, subst, ap, ◌∙◌, arith, ◌%◌, Option, Some, None, Ok, Err, Result}
-use Rattle.std.specs.Prelude.{◌&&◌, if◌then◌else◌, option_to_list, is_some}
+use Rattle.std.specs.Prelude.{◌&&◌, not, if◌then◌else◌, option_to_list, is_some}
 use Rattle.std.specs.declared.convert.Infallible.{Infallible}
 use Rattle.std.specs.List.{flat_map, filter}
 use Rattle.std.proofs.lemmas.Bool.{cases_Bool, and_parts}
@@ -15,14 +15,14 @@ use Rattle.wild_types.specs.declared.input.Slot.{Slot}
 use Rattle.wild_types.specs.declared.input.Slot.TheVariants as slot
 use Rattle.wild_types.specs.declared.layout.Layout.{Layout}
 use Rattle.wild_types.specs.declared.layout.SortedSection.{SortedSection}
-use Rattle.wild_types.specs.Kinds.{is_position_independent}
+use Rattle.wild_types.specs.Kinds.{is_partial_link, is_position_independent}
 use Rattle.wild_types.specs.Lists.{total}
-use Rattle.wild_types.specs.Lookups.{is_frame, is_read, allocated}
+use Rattle.wild_types.specs.Lookups.{is_frame, is_read, has_relocations, allocated}
 use Rattle.wild_types.proofs.ListLemmas.{total-append}
 use Rattle.wild_slot.specs.Treatment.{treatment}
 use Rattle.wild_laid.specs.Runs.{Ran, none, more, stop}
 use Rattle.wild_laid.specs.Turned.{as_turned}
-use Rattle.wild_laid.specs.Laid.{Input, sorted_input, as_loaded, laid_by, framed, frame_flags, behind, laid_section, laid_sections}
+use Rattle.wild_laid.specs.Laid.{Input, sorted_input, as_loaded, unread, tabled, laid_by, framed, frame_flags, behind, laid_section, laid_sections}
 use Rattle.wild_laid.specs.FrameInputs.{kept_size}
 use Rattle.wild_needs.specs.declared.tally.Counted.{Counted}
 use Rattle.wild_needs.specs.declared.tally.Counted.TheVariants.{Listed, Packed, Left}
@@ -51,17 +51,38 @@ frame_standing l f at s h = by_slot s.slot h
     by_slot slot.Frame h = refl
     by_slot other h = cc
 
+-- nor does it that a relocatable object leaves the relocations
+unread_standing : (l : Layout) (s : InputSection) → standing_of (unread l s) ≡ standing_of s
+unread_standing l s =
+    elim (cases_Bool (is_partial_link l.kind)) [
+      | inl t ↦ rw t refl
+      | inr f ↦ rw f refl
+    ]
+
+-- a table of relocations is not read
+table_standing : (f : File) (s : InputSection) → slot.Rela ≡ s.slot → standing_of (tabled f s) ≡ standing_of s
+table_standing f s h = ap (λ (k : Slot). record { flags = s.flags; address = s.address; is_read = has_relocations k && not s.nobits }) h
+
 pub other_standing : (l : Layout) (f : File) (at : ℕ) (s : InputSection) → is_frame s.slot ≡ false → standing_of (laid_section l f at s) ≡ standing_of s
 unfolding laid_section
-other_standing l f at s h = by_slot s.slot h
+other_standing l f at s h = by_slot s.slot refl h
   where
-    by_slot : (k : Slot) → is_frame k ≡ false → standing_of (laid_by k l f at s) ≡ standing_of s
-    by_slot slot.Loaded h = turned_standing s
-    by_slot slot.Frame h = cc
-    by_slot other h = refl
+    by_slot : (k : Slot) → k ≡ s.slot → is_frame k ≡ false → standing_of (laid_by k l f at s) ≡ standing_of s
+    by_slot slot.Loaded e h = turned_standing (unread l s) ∙ unread_standing l s
+    by_slot slot.Debug e h = turned_standing s
+    by_slot slot.Frame e h = cc
+    by_slot slot.Rela e h = table_standing f s e
+    by_slot other e h = refl
 
-pub sorted_standing : (s : InputSection) → standing_of (as_turned (as_loaded s)) ≡ standing_of (as_loaded s)
-sorted_standing s = turned_standing (as_loaded s)
+loaded_standing : (l : Layout) (s : InputSection) → standing_of (as_loaded (unread l s)) ≡ standing_of (as_loaded s)
+loaded_standing l s =
+    elim (cases_Bool (is_partial_link l.kind)) [
+      | inl t ↦ rw t refl
+      | inr f ↦ rw f refl
+    ]
+
+pub sorted_standing : (l : Layout) (s : InputSection) → standing_of (as_turned (as_loaded (unread l s))) ≡ standing_of (as_loaded s)
+sorted_standing l s = turned_standing (as_loaded (unread l s)) ∙ loaded_standing l s
 
 pub ruleset stands = (frame_standing, other_standing, sorted_standing)
 

@@ -7,6 +7,7 @@ pub mod EntryPoint
 pub mod HashShapes
 pub mod Needs
 pub mod Runs
+pub mod SectionSymbols
 pub mod SlotShares
 pub mod TableCounts
 pub mod TableSymbols

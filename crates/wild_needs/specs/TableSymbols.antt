@@ -1,6 +1,7 @@
 -- Which symbols `.symtab` has (gABI, "Symbol Table"). Its local symbols stand in front of all others; names stand in the order in
 -- which the files are processed.
 --   TableSymbol            a symbol of the layout, or the name of its slot, of its stub or of a thunk to it
+--   section_symbols l      the sections that a relocatable object has symbols for
 --   pass_items l p i ss    what symbols from number i on give, in one pass
 --   thunk_items l f        the names of the thunks that a file writes
 --   file_items l f         what a file gives, in the order of the names
@@ -10,18 +11,25 @@
 --   local_count, global_count   how many entries a file has among the local symbols, and among the others
 --   table_strings l f      the strings of a file
 --   has_long l r           a part of that role has a section index of 32 bits for each symbol
-use Rattle.std.specs.Prelude.{ℕ, ◌+◌, ◌/◌, ◌==◌, Bool, true, false, not, ◌&&◌, ◌||◌, if◌then◌else◌, List, [], ◌∷◌, ◌++◌, length, map, codes, Option, Some, None, slice_get}
+use Rattle.std.specs.Prelude.{ℕ, ◌+◌, ◌/◌, ◌==◌, Bool, true, false, not, ◌&&◌, ◌||◌, if◌then◌else◌, List, [], ◌∷◌, ◌++◌, length, map, codes, Option, Some, None, option_to_list, slice_get}
 use Rattle.std.specs.List.{filter, flat_map, list_any}
 use Rattle.wild_records.specs.Abi.Symbol.{stb_local}
 use Rattle.wild_types.specs.declared.part.Role.{Role}
 use Rattle.wild_types.specs.declared.file.FileRole.{FileRole}
 use Rattle.wild_types.specs.declared.file.FileRole.TheVariants as file_role
 use Rattle.wild_types.specs.declared.file.File.{File}
+use Rattle.wild_types.specs.declared.input.InputSection.{InputSection}
+use Rattle.wild_types.specs.declared.section.Section.{Section}
+use Rattle.wild_types.specs.declared.kind.OutputKind.{OutputKind}
+use Rattle.wild_types.specs.declared.symbol.Place.{Place}
+use Rattle.wild_types.specs.declared.symbol.Place.TheVariants as at
 use Rattle.wild_types.specs.declared.symbol.Symbol.{Symbol}
 use Rattle.wild_types.specs.declared.layout.Thunk.{Thunk}
 use Rattle.wild_needs.specs.declared.table.Named.{Named}
 use Rattle.wild_needs.specs.declared.table.Named.TheVariants as named
 use Rattle.wild_needs.specs.declared.table.Pass.{Pass}
+use Rattle.wild_needs.specs.declared.table.Own.{Own}
+use Rattle.wild_needs.specs.declared.table.Own.TheVariants as takes
 use Rattle.wild_types.specs.declared.layout.Layout.{Layout}
 use Rattle.wild_types.specs.FileRoles.{is_prelude}
 use Rattle.wild_types.specs.Flags.{has_flag, downgrade_to_local}
@@ -29,7 +37,8 @@ use Rattle.wild_types.specs.Parts.{has_role}
 use Rattle.wild_types.specs.FileSymbols.{loaded_symbols}
 use Rattle.wild_types.specs.FileThunks.{thunks_of}
 use Rattle.wild_types.specs.SymbolSlots.{names_slot, names_stub}
-use Rattle.wild_types.specs.Lookups.{has_table, has_many_sections}
+use Rattle.wild_types.specs.Kinds.{is_partial_link}
+use Rattle.wild_types.specs.Lookups.{has_table, has_many_sections, files_of}
 
 -- ---- symbols
 
@@ -48,12 +57,24 @@ where_asked b x = if b then x ∷ [] else []
 abbrev pub slot_items : Layout → ℕ → Symbol → List TableSymbol
 slot_items l i s = where_asked (names_slot l i s) (item named.Slot i s) ++ where_asked (names_stub l i s) (item named.Stub i s)
 
-abbrev pub own_item : ℕ → Symbol → List TableSymbol
-own_item i s = where_asked s.emit (item named.Itself i s)
+-- nothing defines the symbol here
+abbrev pub is_undefined_symbol : Place → Bool
+is_undefined_symbol at.Undefined = true
+is_undefined_symbol other = false
+
+-- the symbol is one of those that a pass takes
+abbrev pub is_of_pass : Own → Symbol → Bool
+is_of_pass takes.Every s = true
+is_of_pass takes.Defined s = not (is_undefined_symbol s.place)
+is_of_pass takes.Undefined s = is_undefined_symbol s.place
+is_of_pass takes.Nothing s = false
+
+abbrev pub own_item : Own → ℕ → Symbol → List TableSymbol
+own_item o i s = where_asked (is_of_pass o s && s.emit) (item named.Itself i s)
 
 -- what a symbol gives in a pass: names of its slot and its stub, and its own behind them
 abbrev pub symbol_items : Layout → Pass → ℕ → Symbol → List TableSymbol
-symbol_items l p i s = (if p.slots then slot_items l i s else []) ++ (if p.own then own_item i s else [])
+symbol_items l p i s = (if p.slots then slot_items l i s else []) ++ own_item p.own i s
 
 -- what symbols give, from number i on
 abbrev pub pass_items : Layout → Pass → ℕ → List Symbol → List TableSymbol
@@ -61,10 +82,17 @@ pass_items l p i [] = []
 pass_items l p i (s ∷ ss) = symbol_items l p i s ++ pass_items l p (i + 1) ss
 
 -- a file from elsewhere has all in one pass; the linker's own has its symbols first, and then the names of their slots
-abbrev pub passes : FileRole → List Pass
-passes file_role.Object = record { slots = true; own = true } ∷ []
-passes file_role.Dynamic = record { slots = true; own = true } ∷ []
-passes other = record { slots = false; own = true } ∷ record { slots = true; own = false } ∷ []
+abbrev pub linked_passes : FileRole → List Pass
+linked_passes file_role.Object = record { slots = true; own = takes.Every } ∷ []
+linked_passes file_role.Dynamic = record { slots = true; own = takes.Every } ∷ []
+linked_passes other = record { slots = false; own = takes.Every } ∷ record { slots = true; own = takes.Nothing } ∷ []
+
+-- in a relocatable object, which has no slots, a file's undefined symbols follow its others
+abbrev pub passes : OutputKind → FileRole → List Pass
+passes kind role =
+    if is_partial_link kind
+    then record { slots = false; own = takes.Defined } ∷ record { slots = false; own = takes.Undefined } ∷ []
+    else linked_passes role
 
 abbrev pub items_of : Layout → List Pass → File → List TableSymbol
 items_of l ps f = flat_map (λ (p : Pass). pass_items l p f.first_symbol (loaded_symbols l f)) ps
@@ -83,7 +111,7 @@ thunk_items l f = flat_map (thunk_item l) (thunks_of l f)
 
 -- what a file gives: its symbols, and behind them its thunks
 unfoldable pub file_items : Layout → File → List TableSymbol
-file_items l f = if has_table l then items_of l (passes f.role) f ++ thunk_items l f else []
+file_items l f = if has_table l then items_of l (passes l.kind f.role) f ++ thunk_items l f else []
 
 -- ---- names
 
@@ -125,9 +153,24 @@ is_on false x = not (is_local x)
 abbrev pub side : Bool → List TableSymbol → List TableSymbol
 side local xs = filter (is_on local) xs
 
--- the table begins with an entry of zeros, which is local
+-- ---- section symbols
+
+-- the places of the sections that ask for a symbol, counted from k on
+abbrev pub asked_from : ℕ → List Section → List ℕ
+asked_from k [] = []
+asked_from k (s ∷ ss) = if s.section_symbol then k ∷ asked_from (k + 1) ss else asked_from (k + 1) ss
+
+-- and those of the sections that the object keeps by themselves, in the order of processing
+abbrev pub kept_alone : Layout → List ℕ
+kept_alone l = flat_map (λ (f : File). flat_map (λ (s : InputSection). option_to_list s.singleton) f.sections) (files_of l.groups)
+
+-- a relocatable object has a local symbol for each of these (gABI, "Symbol Table": STT_SECTION)
+unfoldable pub section_symbols : Layout → List ℕ
+section_symbols l = if is_partial_link l.kind then asked_from 0 l.sections ++ kept_alone l else []
+
+-- the table begins with an entry of zeros, which is local, and those of sections
 abbrev pub null_count : Layout → File → ℕ
-null_count l f = if has_table l && is_prelude f.role then 1 else 0
+null_count l f = if has_table l && is_prelude f.role then 1 + length (section_symbols l) else 0
 
 -- how many entries a file has among the local symbols, and among the others
 abbrev pub local_count : Layout → File → ℕ

@@ -6,6 +6,7 @@ mod dynsyms;
 mod entries;
 mod entry;
 mod rooms;
+mod section_symbols;
 mod share;
 mod slot_shares;
 mod strings;
@@ -21,6 +22,7 @@ pub use entries::{
     packed_place, sorted_word_count, word_count,
 };
 pub use entry::elf_entry_address;
+pub use section_symbols::section_symbol_count;
 pub use share::{has_last, is_plain_group, name_bytes, needs, total_share, whole_of};
 pub use slot_shares::{Block, group_block, pair_words, words_in};
 pub use strings::{
@@ -28,8 +30,8 @@ pub use strings::{
     string_start, strings_have_their_room, strings_room, text_room,
 };
 pub use table::{
-    Named, Pass, TablePart, global_count, has_long, is_local, is_on, local_count, passes, prefix,
-    suffix, table_room,
+    Named, Own, Pass, TablePart, global_count, has_long, is_local, is_on, local_count, passes,
+    prefix, suffix, table_room,
 };
 pub use versions::{
     definition_size, definitions_size, need_count, need_size, needs_of, version_room,

@@ -3,14 +3,15 @@ ghost use Rattle.std.specs.Prelude.{◌≡◌, ℕ, ◌-◌, ◌^◌, ◌≤◌,
 ghost use Rattle.wild_needs.specs.DynamicStrings.{text_room};
 ghost use Rattle.wild_types.specs.Lists.{total};
 ghost use Rattle.wild_needs.specs.TableCounts.{taken};
-ghost use Rattle.wild_needs.specs.TableSymbols.{passes, file_items, prefix, suffix, is_local_symbol, is_local_by, item, is_on, local_count, global_count, table_strings, has_long};
+ghost use Rattle.wild_needs.specs.TableSymbols.{is_of_pass, passes, file_items, prefix, suffix, is_local_symbol, is_local_by, item, is_on, null_count, local_count, global_count, table_strings, has_long};
 
+use crate::section_symbols::section_symbol_count;
 use crate::strings::text_room;
 use crate::walk::{TableSink, give_table};
 use std::convert::Infallible;
 use wild_records::abi::section::SHN_LORESERVE;
 use wild_records::abi::symbol::STB_LOCAL;
-use wild_types::{File, FileRole, Layout, Role, Symbol, is_there};
+use wild_types::{File, FileRole, Layout, OutputKind, Place, Role, Symbol, is_there};
 
 /// What of a symbol has a name in `.symtab`.
 #[derive(Clone, Copy)]
@@ -25,34 +26,69 @@ pub enum Named {
     Thunk(u64),
 }
 
+/// Which symbols themselves a walk gives.
+#[derive(Clone, Copy)]
+pub enum Own {
+    Every,
+    Defined,
+    Undefined,
+    Nothing,
+}
+
+impl Own {
+    /// Whether the symbol is one of those.
+    pub fn takes(self, symbol: &Symbol) -> bool
+        ensures { result ≡ is_of_pass self symbol.now }
+    {
+        match self {
+            Own::Every => true,
+            Own::Defined => !matches!(symbol.place, Place::Undefined),
+            Own::Undefined => matches!(symbol.place, Place::Undefined),
+            Own::Nothing => false,
+        }
+    }
+}
+
 /// What a walk over the symbols of a file gives to `.symtab`.
 #[derive(Clone, Copy)]
 pub struct Pass {
     /// The names of slots and stubs.
     pub slots: bool,
     /// The symbols themselves.
-    pub own: bool,
+    pub own: Own,
 }
 
-/// The walks over the symbols of a file of that role, in their order.
-pub fn passes(role: FileRole) -> &'static [Pass]
-    ensures { result.now ≡ passes role }
+/// The walks over the symbols of a file of that role, in their order: in a relocatable object undefined symbols follow the others.
+pub fn passes(kind: OutputKind, role: FileRole) -> &'static [Pass]
+    ensures { result.now ≡ passes kind role }
 {
+    if kind.is_partial_link() {
+        return &[
+            Pass {
+                slots: false,
+                own: Own::Defined,
+            },
+            Pass {
+                slots: false,
+                own: Own::Undefined,
+            },
+        ];
+    }
     match role {
         FileRole::Object | FileRole::Dynamic => {
             &[Pass {
                 slots: true,
-                own: true,
+                own: Own::Every,
             }]
         }
         _ => &[
             Pass {
                 slots: false,
-                own: true,
+                own: Own::Every,
             },
             Pass {
                 slots: true,
-                own: false,
+                own: Own::Nothing,
             },
         ],
     }
@@ -179,13 +215,23 @@ fn count_of(layout: &Layout, part: TablePart, file: &File) -> u64
     }
 }
 
+/// The entry of zeros and those of sections, with which the first file's begin, at most 2^64 - 1.
+fn null_count(layout: &Layout, file: &File) -> u64
+    ensures { result ≡ min (2 ^ 64 - 1) (null_count layout.now file.now) }
+{
+    if layout.has_table() && file.role.is_prelude() {
+        (section_symbol_count(layout) as u64).saturating_add(1)
+    } else {
+        0
+    }
+}
+
 /// How many entries a file has among the local symbols, at most 2^64 - 1.
 #[tactic(auto, using(crate::proofs::TableLemmas::sides_taken))]
 pub fn local_count(layout: &Layout, file: &File) -> u64
     ensures { result ≡ min (2 ^ 64 - 1) (local_count layout.now file.now) }
 {
-    let null = u64::from(layout.has_table() && file.role.is_prelude());
-    null.saturating_add(count_of(layout, TablePart::Side(true), file))
+    null_count(layout, file).saturating_add(count_of(layout, TablePart::Side(true), file))
 }
 
 /// How many entries a file has among the other symbols, at most 2^64 - 1.

@@ -4,7 +4,7 @@ ghost use Rattle.wild_types.specs.declared.file.File.{File};
 ghost use Rattle.wild_types.specs.declared.input.InputRelocation.{InputRelocation};
 ghost use Rattle.wild_types.specs.declared.layout.Layout.{Layout};
 ghost use Rattle.wild_types.specs.Lists.{total};
-ghost use Rattle.wild_laid.specs.Laid.{Input, sorted_input, behind, laid_section, laid_sections, laid_file, sorted_sections, as_loaded, of_last_file, processed};
+ghost use Rattle.wild_laid.specs.Laid.{Input, sorted_input, behind, laid_section, laid_sections, laid_file, sorted_sections, as_loaded, unread, of_last_file, processed};
 ghost use Rattle.wild_laid.specs.FrameInputs.{kept_size};
 ghost use Rattle.wild_laid.specs.Turned.{as_turned};
 ghost use Rattle.wild_needs.specs.Tallies.{standing_of, counted_in, asks, reads_places, rest_of, tallied};
@@ -75,7 +75,7 @@ impl Standing {
     /// Of a section that stands in a given order.
     #[tactic(auto, using(crate::proofs::TallyLemmas::stands))]
     fn sorted(section: &InputSection) -> Standing
-        ensures { result ≡ standing_of (as_turned (as_loaded section.now)) }
+        ensures { (l : Layout) → result ≡ standing_of (as_turned (as_loaded (unread l section.now))) }
     {
         Standing {
             flags: section.flags,
@@ -194,7 +194,7 @@ fn count_section(
 /// The same of a section that stands in a given order.
 #[tactic(auto, using(crate::proofs::TallyLemmas::tallies))]
 fn count_turned(kind: Counted, layout: &Layout, section: &InputSection) -> u64
-    ensures { result ≡ min (2 ^ 64 - 1) (counted_in kind layout.now (as_turned (as_loaded section.now))) }
+    ensures { result ≡ min (2 ^ 64 - 1) (counted_in kind layout.now (as_turned (as_loaded (unread layout.now section.now)))) }
 {
     let standing = Standing::sorted(section);
     if !asks(kind, layout, standing) {
@@ -202,7 +202,7 @@ fn count_turned(kind: Counted, layout: &Layout, section: &InputSection) -> u64
     }
     runs_are_counted();
     let mut tally = Tally::new(kind, layout, standing);
-    match give_turned(section, &mut tally) {
+    match give_turned(layout, section, &mut tally) {
         Ok(()) => tally.count,
         Err(never) => match never {},
     }

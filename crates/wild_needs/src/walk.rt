@@ -93,13 +93,10 @@ fn give_own_in<S: TableSink>(
     symbol: &Symbol,
     sink: &mut S,
 ) -> Result<(), S::Error>
-    ensures { Ran S.goes S.refuses sink.old (if pass.own then own_item index symbol.now else []) result sink.new }
+    ensures { Ran S.goes S.refuses sink.old (own_item pass.own index symbol.now) result sink.new }
 {
-    if pass.own {
-        give_asked(symbol.emit, Named::Itself, index, symbol, sink)
-    } else {
-        Ok(())
-    }
+    let asked = pass.own.takes(symbol) && symbol.emit;
+    give_asked(asked, Named::Itself, index, symbol, sink)
 }
 
 /// Gives all that a symbol has in a pass.
@@ -141,9 +138,9 @@ fn give_pass<S: TableSink>(
 #[inline(always)]
 #[tactic(auto, using(crate::proofs::RunLemmas::runs, crate::proofs::RunLemmas::copied_loops))]
 fn give_symbols<S: TableSink>(layout: &Layout, file: &File, sink: &mut S) -> Result<(), S::Error>
-    ensures { Ran S.goes S.refuses sink.old (items_of layout.now (passes file.now.role) file.now) result sink.new }
+    ensures { Ran S.goes S.refuses sink.old (items_of layout.now (passes layout.now.kind file.now.role) file.now) result sink.new }
 {
-    for pass in passes(file.role) {
+    for pass in passes(layout.kind, file.role) {
         give_pass(layout, *pass, file, sink)?;
     }
     Ok(())

@@ -1,4 +1,7 @@
 -- What the clauses say of a kept item: where it lies, and what its relocations name.
+use Rattle.wild_meaning.specs.World.{IsLoadable}
+use Rattle.wild_geometry.proofs.ReadLemmas.{read_fields, read_written}
+use Rattle.wild_meaning.proofs.OutputLemmas.{not_partial}
 use Rattle.std.proofs.Common.{◌≡◌, ℕ, zero, suc, ◌+◌, ◌-◌, ◌/◌, ◌%◌, ◌^◌, ◌<◌, ◌≤◌, inl, inr, List, [], ◌++◌, length, map, take, drop, get_or, slice_range, true, sym, ap, ◌∙◌, subst, arith, ◌*◌}
 use Rattle.std.specs.Prelude.{All, ◌==◌, ◌&&◌, nat_le, nat_lt, if◌then◌else◌, slice_index}
 use Rattle.std.specs.List.{flat_map, range_with_len}
@@ -63,15 +66,15 @@ record LiesThere (l : Layout) (s : Item) : Type 0 where
   lies : All (FieldLies l.machine (length s.bytes)) s.relocations
   symbols : All (NamesSymbol l) s.relocations
 
-pub item_lies : (l : Layout) (s : Item) → IsLaidOut l → IsKept l s → ItemLies l s
-item_lies l s laid k =
-    let x = kept_laid l s laid k in
+pub item_lies : (l : Layout) (s : Item) → IsLoadable l.kind → IsLaidOut l → IsKept l s → ItemLies l s
+item_lies l s kind laid k =
+    let x = kept_laid l s (not_partial l.kind kind) laid k in
     let t = x.section in
     let lies = each_at (SectionLies l) l t laid.inputs x.kept.input in
-    let full : t.size ≡ length t.bytes = sym (lies.bytes x.kept.reads) in
+    let full : t.size ≡ length t.bytes = sym (lies.bytes (read_written t x.kept.reads)) in
     let there : LiesThere l s = subst (LiesThere l) (sym x.is) (record {
       low = subst (λ (n : ℕ). t.address + n ≤ 2 ^ 62) full lies.small;
-      lies = subst (λ (n : ℕ). All (FieldLies l.machine n) t.relocations) full lies.fields;
+      lies = subst (λ (n : ℕ). All (FieldLies l.machine n) t.relocations) full (lies.fields (read_fields t x.kept.reads));
       symbols = each_at (λ (y : InputSection). All (NamesSymbol l) y.relocations) l t laid.symbols x.kept.input;
     }) in
     record { room = kept_room l s k; low = there.low; lies = there.lies; symbols = there.symbols }

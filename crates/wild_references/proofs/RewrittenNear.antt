@@ -149,7 +149,7 @@ pub address_pair_to_near : StubLaws → RowsOfAArch64Keep → (l : Layout) (w : 
 address_pair_to_near stubs keeps l w m s first start k g inside stands named own moves weak t =
     let here : start + 4 ≤ length s.bytes = omega (arith, inside) in
     let behind : start + 4 + 4 ≤ length s.bytes = omega (arith, inside) in
-    let lies = item_lies l s g.laid g.kept in
+    let lies = item_lies l s g.loadable g.laid g.kept in
     let low = lies.low in
     let second_named : t.second.symbol ≡ Some k = sym t.symbol ∙ named in
     let none : t.second.addend ≡ pos 0 = sym t.addend ∙ t.none in

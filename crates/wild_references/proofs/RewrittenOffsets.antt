@@ -148,7 +148,7 @@ pub record IsOwnOffsetOf (l : Layout) (w : World) (symbol : Option ℕ) (v : ℕ
 pub offset_of_word : TermGives term.PointerOffset → (l : Layout) (w : World) (m : Memory) (s : Item) (i : ℕ) (p : InputRelocation) (k v at : ℕ) → IsLoadedItem machine.AArch64 l w m s → slice_get s.relocations i ≡ Some p → p.symbol ≡ Some k → p.addend ≡ pos 0 → p.offset ≡ at → at + 4 ≤ length s.bytes
     → is_executable l.kind ≡ true → interposable (flags_at l k) ≡ false → IsOffsetValue l p v → IsOwnOffsetOf l w p.symbol v
 offset_of_word law l w m s i p k v at g listed named none place inside program own t =
-    let lies = item_lies l s g.laid g.kept in
+    let lies = item_lies l s g.loadable g.laid g.kept in
     let names = holds_at (NamesSymbol l) s.relocations i p listed lies.symbols in
     let info = tp_off (imm16 0 16) any 1 in
     let low = lies.low in

@@ -50,7 +50,7 @@ use Rattle.wild_layout.proofs.MergedLemmas.{term_plain}
 -- ---- the item
 
 pub lies_there : (l : Layout) (w : World) (m : Memory) (s : Item) → IsLoadedItem machine.X86_64 l w m s → ItemLies l s
-lies_there l w m s h = item_lies l s h.laid h.kept
+lies_there l w m s h = item_lies l s h.loadable h.laid h.kept
 
 -- the symbol of the relocation is one of the layout's
 pub symbol_there : (l : Layout) (w : World) (m : Memory) (s : Item) (i : ℕ) (r : InputRelocation) (row : Row) (v : ℕ) → IsLoadedItem machine.X86_64 l w m s → (p : IsPlacedRow l s i r row v) → p.chosen.symbol < length l.symbols

@@ -40,7 +40,7 @@ placed k l w m s h = record {
 
 item_loaded : (k : Machine) (l : Layout) (w : World) (m : Memory) (s : Item) → Tables → KindLaws → LinkedLaws → ThunksGoOn → IsLoadedItem k l w m s → IsItemLoaded l w m s
 item_loaded k l w m s tables kinds linked go h =
-    let lies = item_lies l s h.laid h.kept in
+    let lies = item_lies l s h.loadable h.laid h.kept in
     let there = placed k l w m s h in
     record {
       tables = tables;

@@ -1,4 +1,5 @@
 pub mod FaultLemmas
+pub mod PartialLemmas
 pub mod PieceLemmas
 pub mod ThunkLemmas
 pub mod ValueLemmas

@@ -1,6 +1,6 @@
 -- Laws of the files of symbols, as a table of their places has them, and of layouts without merged sections.
 use Rattle.std.proofs.Common.{◌≡◌, ℕ, zero, suc, ◌+◌, ◌-◌, ◌<◌, ◌≤◌, inl, inr, Bool, true, false, List, [], ◌∷◌, ◌++◌, length, get_or, refl, sym, ap, ◌∙◌, arith, subst}
-use Rattle.std.specs.Prelude.{All, Option, Some, None, option_and_then, option_map, if◌then◌else◌, slice_get}
+use Rattle.std.specs.Prelude.{All, Option, Some, None, option_and_then, option_map, if◌then◌else◌, not, ◌||◌, slice_get}
 use Rattle.std.specs.Option.{option_or}
 use Rattle.std.specs.List.{list_all}
 use Rattle.std.proofs.lemmas.Bool.{cases_Bool, and_parts}
@@ -18,6 +18,7 @@ use Rattle.wild_types.specs.declared.symbol.Symbol.{Symbol}
 use Rattle.wild_types.specs.declared.file.File.{File}
 use Rattle.wild_types.specs.declared.file.Group.{Group}
 use Rattle.wild_types.specs.declared.layout.Layout.{Layout}
+use Rattle.wild_types.specs.Kinds.{is_partial_link}
 use Rattle.wild_types.specs.Lookups.{file_of, files_of}
 use Rattle.wild_slot.specs.Treatment.{flags_at}
 use Rattle.wild_laid.specs.FrameInputs.{has_symbol}
@@ -25,7 +26,7 @@ use Rattle.wild_layout.specs.Merged.{is_section_symbol, strings_by, strings_of, 
 use Rattle.wild_layout.proofs.MergedLemmas.{HaveNoStrings, none_named, none_merged}
 use Rattle.wild_sections.specs.declared.owner.Owner.{Owner}
 use Rattle.wild_sections.specs.Strings.{offsets_ascend, section_ascends, is_other_slot, is_unmerged, are_unmerged, all_ascend}
-use Rattle.wild_sections.specs.Owners.{owned_by, owner_in, owner_among, file_at, HasOwners}
+use Rattle.wild_sections.specs.Owners.{owned_by, owner_in, owner_among, file_at, asks_owners, HasOwners}
 
 -- ---- places of files
 
@@ -130,11 +131,26 @@ no_symbols l (Some i) h =
     let none = ap (option_and_then (strings_told (files_of l.groups) i)) past in
     rw (none_by (is_plain_own (flags_at l i)) (option_and_then (strings_told (files_of l.groups) i) (slice_get l.symbols i)) none) refl
 
+or_true : (a b : Bool) → b ≡ false → (a || not b) ≡ true
+or_true true b h = refl
+or_true false b h = rw h refl
+
+-- where there are merged sections the files of symbols are looked for
+asked : (l : Layout) → are_unmerged l ≡ false → asks_owners l ≡ true
+asked l h = or_true (is_partial_link l.kind) (are_unmerged l) h
+
+or_left : (a b : Bool) → a ≡ true → (a || b) ≡ true
+or_left a b h = rw h refl
+
+-- and in a relocatable object
+pub owners_asked : (l : Layout) (owners : List (Option Owner)) (i : ℕ) → HasOwners l owners → is_partial_link l.kind ≡ true → i < length l.symbols → i < length owners
+owners_asked l owners i has partial low = let e = has.count (or_left (is_partial_link l.kind) _ partial) in omega (arith, e, low)
+
 pub nothing_merged : (l : Layout) (owners : List (Option Owner)) (o : Option ℕ) → HasOwners l owners → length owners ≡ 0 → names_merged l o ≡ false
 nothing_merged l owners o has empty =
     elim (cases_Bool (are_unmerged l)) [
       | inl t ↦ none_named l o (all_unmerged l.groups t)
-      | inr n ↦ (let e = has.count n in no_symbols l o (omega (arith, e, empty)))
+      | inr n ↦ (let e = has.count (asked l n) in no_symbols l o (omega (arith, e, empty)))
     ]
 
 -- ---- strings in order
@@ -214,5 +230,5 @@ pub merged_past : (l : Layout) (owners : List (Option Owner)) (i : ℕ) → HasO
 merged_past l owners i has past =
     elim (cases_Bool (are_unmerged l)) [
       | inl t ↦ sym (none_merged l i (all_unmerged l.groups t))
-      | inr n ↦ (let e = has.count n in merged_missing l i (slice_get_past l.symbols i (omega (arith, e, past))))
+      | inr n ↦ (let e = has.count (asked l n) in merged_missing l i (slice_get_past l.symbols i (omega (arith, e, past))))
     ]

@@ -1,6 +1,7 @@
 pub mod Decided
 pub mod Fits
 pub mod Homes
+pub mod Indexes
 pub mod Origins
 pub mod Owners
 pub mod Placed

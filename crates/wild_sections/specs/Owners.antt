@@ -2,12 +2,14 @@
 --   owned_by o f k          place o, where the file there has symbol k
 --   owner_among 0 gs k      the place of the first file of the groups that has symbol k
 --   file_at l o             the file in that place
---   HasOwners l owners      a table of these for all symbols, where the layout has merged sections
-use Rattle.std.specs.Prelude.{◌≡◌, ℕ, ◌+◌, ◌<◌, true, false, if◌then◌else◌, List, [], ◌∷◌, length, Option, Some, None, option_and_then, slice_get, slice_index_or}
+--   asks_owners l           the files of symbols are looked for
+--   HasOwners l owners      a table of these for all symbols, where they are
+use Rattle.std.specs.Prelude.{◌≡◌, ℕ, ◌+◌, ◌<◌, Bool, true, not, ◌||◌, if◌then◌else◌, List, [], ◌∷◌, length, Option, Some, None, option_and_then, slice_get, slice_index_or}
 use Rattle.std.specs.Option.{option_or}
 use Rattle.wild_types.specs.declared.file.File.{File}
 use Rattle.wild_types.specs.declared.file.Group.{Group}
 use Rattle.wild_types.specs.declared.layout.Layout.{Layout}
+use Rattle.wild_types.specs.Kinds.{is_partial_link}
 use Rattle.wild_laid.specs.FrameInputs.{has_symbol}
 use Rattle.wild_sections.specs.declared.owner.Owner.{Owner}
 use Rattle.wild_sections.specs.Strings.{are_unmerged}
@@ -30,7 +32,11 @@ owner_among j (g ∷ gs) k = option_or (owner_in j 0 g.files k) (owner_among (j 
 abbrev pub file_at : Layout → Owner → Option File
 file_at l o = option_and_then (λ (g : Group). slice_get g.files o.file) (slice_get l.groups o.group)
 
--- the table of these, where there are merged sections
+-- the files of symbols are looked for where there are merged sections, and in a relocatable object
+abbrev pub asks_owners : Layout → Bool
+asks_owners l = is_partial_link l.kind || not (are_unmerged l)
+
+-- the table of these, where there is one
 pub record HasOwners (l : Layout) (owners : List (Option Owner)) : Type 0 where
-  pub count : are_unmerged l ≡ false → length owners ≡ length l.symbols
+  pub count : asks_owners l ≡ true → length owners ≡ length l.symbols
   pub all : (k : ℕ) → k < length owners → slice_index_or owners k None ≡ owner_among 0 l.groups k

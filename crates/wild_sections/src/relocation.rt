@@ -30,7 +30,7 @@ pub(crate) const ADDRESS: RelocationSize = RelocationSize::ByteSize(Width::Eight
 
 /// A value in the field of a row, where that takes it.
 #[inline]
-pub(crate) fn field(row: &RelocationKindInfo, value: u64) -> Result<Decision, Fault>
+pub fn field(row: &RelocationKindInfo, value: u64) -> Result<Decision, Fault>
     ensures { result ≡ field row.now value }
 {
     if row.allows(value) {

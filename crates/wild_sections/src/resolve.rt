@@ -81,7 +81,7 @@ fn address_among<A: Arch>(
 /// S of a relocation.
 #[inline]
 #[tactic(auto, using(wild_layout::proofs::MergedLemmas::address_plain))]
-pub(crate) fn address_for<A: Arch>(
+pub fn address_for<A: Arch>(
     resolved: &Resolved<A>,
     relocation: &InputRelocation,
 ) -> Result<u64, Fault>
@@ -96,7 +96,7 @@ pub(crate) fn address_for<A: Arch>(
 
 /// S + A.
 #[inline]
-pub(crate) fn sum(symbol: u64, addend: i64) -> u64
+pub fn sum(symbol: u64, addend: i64) -> u64
     ensures { result ≡ sum symbol addend }
 {
     symbol.wrapping_add_signed(addend)
@@ -182,7 +182,8 @@ fn size_of(layout: &Layout, symbol: Option<SymbolIndex>) -> u64
 }
 
 /// An address, as far as there is one, counted from a start.
-fn behind(start: u64, address: Result<u64, Fault>) -> Result<u64, Fault>
+#[inline]
+pub fn behind(start: u64, address: Result<u64, Fault>) -> Result<u64, Fault>
     ensures { result ≡ behind start address }
 {
     match address {
@@ -192,7 +193,7 @@ fn behind(start: u64, address: Result<u64, Fault>) -> Result<u64, Fault>
 }
 
 /// The offset of a symbol from the thread pointer; an undefined one has none, and counts as 0.
-fn pointer_offset<A: Arch>(
+pub fn pointer_offset<A: Arch>(
     resolved: &Resolved<A>,
     symbol: Option<SymbolIndex>,
 ) -> Result<u64, Fault>

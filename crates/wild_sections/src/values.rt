@@ -1,7 +1,9 @@
 //! What is known of all symbols, told once and kept beside their layout: their values, and the files of those that the
 //! dynamic symbol table may have.
 ghost use Rattle.std.specs.Prelude.{◌≡◌, ℕ, ◌<◌, true, false, List, [], length, map, Option, IfOk, IfSome, Some, None, replicate, slice_get, option_copied, option_map, option_and_then};
-ghost use Rattle.wild_types.specs.Kinds.{needs_dynsym};
+ghost use Rattle.std.specs.List.{range_with_len};
+ghost use Rattle.wild_types.specs.Kinds.{needs_dynsym, is_partial_link};
+ghost use Rattle.wild_symbols.specs.SectionSymbols.{symbol_index};
 ghost use Rattle.wild_types.specs.Lookups.{files_of, file_of};
 ghost use Rattle.wild_symbols.specs.DynamicFields.{named_sections};
 ghost use Rattle.wild_sections.specs.Placed.{address_in, decided};
@@ -14,7 +16,8 @@ ghost use Rattle.wild_layout.specs.Merged.{is_plain_own, merged_strings, names_m
 ghost use Rattle.wild_types.specs.declared.input.MergedString.{MergedString};
 ghost use Rattle.wild_types.specs.declared.input.InputSection.{InputSection};
 ghost use Rattle.wild_sections.specs.Strings.{are_unmerged, all_ascend, section_ascends};
-ghost use Rattle.wild_sections.specs.Owners.{HasOwners, owner_among};
+ghost use Rattle.wild_sections.specs.Owners.{HasOwners, owner_among, asks_owners};
+ghost use Rattle.wild_sections.specs.Indexes.{HasIndexes};
 
 use crate::home::Home;
 use crate::merged::{IsUnmerged, StringsAscend, is_plain_own, merged_section, string_place};
@@ -24,7 +27,7 @@ use std::alloc::{AllocError, Global};
 use std::marker::PhantomData;
 use wild_relax::Arch;
 use wild_slot::flags_at;
-use wild_symbols::NamedSections;
+use wild_symbols::{NamedSections, build_sym_index_map};
 use wild_types::{File, InputSection, Layout, Symbol, SymbolIndex, all_pass};
 
 /// The value that was decided of the symbol's definition.
@@ -92,18 +95,36 @@ fn all_ascend(layout: &Layout) -> bool
     all_pass(&StringsAscend, layout.groups.as_slice())
 }
 
-/// Where the files of the symbols of a layout with merged sections are; of another nothing is kept.
+/// Whether the files of symbols are looked for: where there are merged sections, and in a relocatable object.
+fn asks_owners(layout: &Layout) -> bool
+    ensures { result ≡ asks_owners layout.now }
+{
+    layout.kind.is_partial_link() || !are_unmerged(layout)
+}
+
+/// Where the files of symbols are; of a layout in which none is looked for nothing is kept.
 fn owners_of(alloc: Global, layout: &Layout) -> Result<Vec<Option<Owner>>, AllocError>
     ensures { IfOk result (λ v. HasOwners layout.now v.items) }
 {
-    let count = if are_unmerged(layout) {
-        0
-    } else {
+    let count = if asks_owners(layout) {
         layout.symbols.len()
+    } else {
+        0
     };
     let mut owners = vec![in alloc; None; count]?;
     own_groups(layout.groups.as_slice(), &mut owners);
     Ok(owners)
+}
+
+/// The numbers of the symbols of a relocatable object in its table; of another output nothing is kept.
+fn indexes_of(alloc: Global, layout: &Layout) -> Result<Vec<Option<usize>>, AllocError>
+    ensures { IfOk result (λ v. HasIndexes layout.now v.items) }
+{
+    if layout.kind.is_partial_link() {
+        build_sym_index_map(alloc, layout)
+    } else {
+        Ok(Vec::new(alloc))
+    }
 }
 
 /// A layout of that machine with what is known of all its symbols: what the steps of the writer read.
@@ -115,6 +136,7 @@ pub struct Resolved<'a, A: Arch> {
     values: Vec<Option<u64>>,
     homes: Vec<Option<Home>>,
     owners: Vec<Option<Owner>>,
+    indexes: Vec<Option<usize>>,
     ascend: bool,
     arch: PhantomData<A>,
     ghost machine: { layout.now.machine ≡ A.machine },
@@ -122,6 +144,7 @@ pub struct Resolved<'a, A: Arch> {
     ghost values_are: { HasValues layout.now values.items },
     ghost homes_are: { HasHomes layout.now homes.items },
     ghost owners_are: { HasOwners layout.now owners.items },
+    ghost indexes_are: { HasIndexes layout.now indexes.items },
     ghost ascend_is: { ascend ≡ all_ascend layout.now },
     ghost fits: { FieldsFit layout.now },
 }
@@ -136,12 +159,14 @@ impl<'a, A: Arch> Resolved<'a, A> {
         let values = values_of(alloc, layout)?;
         let homes = homes_of(alloc, layout)?;
         let owners = owners_of(alloc, layout)?;
+        let indexes = indexes_of(alloc, layout)?;
         Ok(Resolved {
             layout,
             named: NamedSections::of(layout),
             values,
             homes,
             owners,
+            indexes,
             ascend: all_ascend(layout),
             arch: PhantomData,
         })
@@ -171,7 +196,7 @@ impl<'a, A: Arch> Resolved<'a, A> {
 
     /// The file of a symbol.
     #[tactic(auto, using(crate::proofs::OwnerLemmas::owner_there, crate::proofs::OwnerLemmas::owner_missing))]
-    fn file(&self, symbol: SymbolIndex) -> Option<&'a File>
+    pub(crate) fn file(&self, symbol: SymbolIndex) -> Option<&'a File>
         requires { symbol < length self.now.owners.items }
         ensures { option_copied result ≡ file_of (files_of self.now.layout.now.groups) symbol }
     {
@@ -179,6 +204,14 @@ impl<'a, A: Arch> Resolved<'a, A> {
             Some(owner) => file_at(self.layout, owner),
             None => None,
         }
+    }
+
+    /// The numbers of the symbols of a relocatable object in its table.
+    pub(crate) fn indexes(&self) -> &[Option<usize>]
+        requires { is_partial_link self.now.layout.now.kind ≡ true }
+        ensures { result.now ≡ map (symbol_index self.now.layout.now) (range_with_len 0 (length self.now.layout.now.symbols)) }
+    {
+        &self.indexes
     }
 
     /// The merged section that a symbol, which is the output's own, is the section symbol of.
@@ -223,7 +256,7 @@ impl<'a, A: Arch> Resolved<'a, A> {
     }
 
     /// Whether a symbol is the section symbol of a merged section.
-    pub(crate) fn names_merged(&self, symbol: SymbolIndex) -> bool
+    pub fn names_merged(&self, symbol: SymbolIndex) -> bool
         ensures { result ≡ names_merged self.now.layout.now (Some symbol) }
     {
         self.has_strings() && self.merged_section(symbol).is_some()

@@ -7,3 +7,8 @@ pub mod TableRunLemmas
 pub mod TableLemmas
 pub mod SideLemmas
 pub mod SlotNameLemmas
+pub mod WalkLemmas
+pub mod ItemLemmas
+pub mod NumberLemmas
+pub mod NoteLemmas
+pub mod SectionRunLemmas

@@ -1,6 +1,7 @@
 -- Laws of runs that have room, through a prefix or not.
 use Rattle.std.proofs.Common.{◌≡◌, ℕ, ◌+◌, ◌-◌, ◌*◌, ◌≤◌, Bool, true, false, cond, min, if◌then◌else◌, List, [], ◌∷◌, ◌++◌, length, nat_lt, Result, Ok, Err, refl, sym, ap, ◌∙◌, arith, subst}
 use Rattle.std.specs.List.{filter, flat_map}
+use Rattle.std.specs.Prelude.{Option, Some, None}
 use Rattle.std.proofs.lemmas.Bool.{le-ltb, ltb-false}
 use Rattle.std.proofs.lemmas.List.{append_assoc, append-nil, length-append}
 use Rattle.wild_words.specs.Words.{word}
@@ -9,16 +10,16 @@ use Rattle.wild_records.specs.declared.symtab_entry.SymtabEntry.{SymtabEntry}
 use Rattle.wild_types.specs.declared.fault.Error.{Error}
 use Rattle.wild_types.specs.Lists.{total}
 use Rattle.wild_symbols.specs.Indexes.{Indexes, has_index, index_of, index_room, with_index, indexes_room, kept_indexes, front_indexes, indexes_joined}
-use Rattle.wild_symbols.specs.Strings.{Strings, string, offset_of, kept_strings, front_strings, strings_joined}
+use Rattle.wild_symbols.specs.Strings.{Strings, offset_of, kept_strings, front_strings, strings_joined}
 use Rattle.wild_symbols.specs.Symbols.{Symbols, symbols_used, kept_symbols, front_symbols, symbols_joined}
 use Rattle.wild_symbols.specs.Tables.{placed, list_of, indexes_of, with_fields}
-use Rattle.wild_symbols.specs.TableRoom.{and_then, room_for_prefix, kept_behind, prefix_of, joined}
-use Rattle.wild_symbols.specs.TableEntries.{NamedEntry}
-use Rattle.wild_symbols.specs.Runs.{has_room, called_if, after, is_in, called, taken_if, taken, HasRoomFor, RunsKeepIndexes, RunsWithRoomAreWhole, PrefixesAreTheWriters}
+use Rattle.wild_symbols.specs.TableRoom.{and_then, room_for_name, room_for_prefix, kept_behind, prefix_of, joined}
+use Rattle.wild_symbols.specs.TableEntries.{NamedEntry, name_at}
+use Rattle.wild_symbols.specs.Runs.{has_room, name_room, called_if, after, is_in, called, taken_if, taken, HasRoomFor, RunsKeepIndexes, RunsWithRoomAreWhole, PrefixesAreTheWriters}
 use Rattle.wild_symbols.specs.declared.prefix.KeptBehind.{KeptBehind}
 use Rattle.wild_symbols.specs.declared.table.TableFields.{TableFields}
 use Rattle.wild_symbols.specs.declared.writer.SymbolTableWriter.{SymbolTableWriter}
-use Rattle.wild_symbols.proofs.RunLemmas.{symbols_here, symbols_other, strtab-with_symbol}
+use Rattle.wild_symbols.proofs.RunLemmas.{symbols_here, symbols_other, strtab-with_symbol, length-named, room-with_symbol}
 
 -- ---- one call
 
@@ -26,16 +27,16 @@ is_in-same : (l : Bool) → is_in l l ≡ true
 is_in-same true = refl
 is_in-same false = refl
 
-used_here : (local l : Bool) (name : List ℕ) (t : TableFields) (w : SymbolTableWriter) → is_in local l ≡ true → symbols_used (list_of local (with_fields l name t w)) ≡ symbols_used (list_of local w) + 24
+used_here : (local l : Bool) (name : Option (List ℕ)) (t : TableFields) (w : SymbolTableWriter) → is_in local l ≡ true → symbols_used (list_of local (with_fields l name t w)) ≡ symbols_used (list_of local w) + 24
 used_here local l name t w h =
     let e = ap length (symbols_here local l name t w h) in
-    let n = length-append (list_of local w).symbols (placed (offset_of w.strtab) t.fields ∷ []) in
+    let n = length-append (list_of local w).symbols (placed (name_at (offset_of w.strtab) name) t.fields ∷ []) in
     omega (arith, e, n)
 
-used_other : (local l : Bool) (name : List ℕ) (t : TableFields) (w : SymbolTableWriter) → is_in local l ≡ false → symbols_used (list_of local (with_fields l name t w)) ≡ symbols_used (list_of local w)
+used_other : (local l : Bool) (name : Option (List ℕ)) (t : TableFields) (w : SymbolTableWriter) → is_in local l ≡ false → symbols_used (list_of local (with_fields l name t w)) ≡ symbols_used (list_of local w)
 used_other local l name t w h = ap (λ (es : List SymtabEntry). 24 * length es) (symbols_other local l name t w h)
 
-room_kept : (local l : Bool) (name : List ℕ) (t : TableFields) (w : SymbolTableWriter) → (list_of local (with_fields l name t w)).room ≡ (list_of local w).room
+room_kept : (local l : Bool) (name : Option (List ℕ)) (t : TableFields) (w : SymbolTableWriter) → (list_of local (with_fields l name t w)).room ≡ (list_of local w).room
 room_kept true true name t w = refl
 room_kept true false name t w = refl
 room_kept false true name t w = refl
@@ -54,25 +55,25 @@ length-index_of each n = by_test (has_index each n) n
     by_test true n = length-word 4 n
     by_test false n = refl
 
-indexes_here : (local l : Bool) (name : List ℕ) (t : TableFields) (w : SymbolTableWriter) → is_in local l ≡ true → indexes_of local (with_fields l name t w) ≡ with_index t.long (indexes_of local w)
+indexes_here : (local l : Bool) (name : Option (List ℕ)) (t : TableFields) (w : SymbolTableWriter) → is_in local l ≡ true → indexes_of local (with_fields l name t w) ≡ with_index t.long (indexes_of local w)
 indexes_here true true name t w h = refl
 indexes_here true false name t w h = cc
 indexes_here false true name t w h = cc
 indexes_here false false name t w h = refl
 
-indexes_other : (local l : Bool) (name : List ℕ) (t : TableFields) (w : SymbolTableWriter) → is_in local l ≡ false → indexes_of local (with_fields l name t w) ≡ indexes_of local w
+indexes_other : (local l : Bool) (name : Option (List ℕ)) (t : TableFields) (w : SymbolTableWriter) → is_in local l ≡ false → indexes_of local (with_fields l name t w) ≡ indexes_of local w
 indexes_other true true name t w h = cc
 indexes_other true false name t w h = refl
 indexes_other false true name t w h = refl
 indexes_other false false name t w h = cc
 
-each_kept : (local l : Bool) (name : List ℕ) (t : TableFields) (w : SymbolTableWriter) → (indexes_of local (with_fields l name t w)).each ≡ (indexes_of local w).each
+each_kept : (local l : Bool) (name : Option (List ℕ)) (t : TableFields) (w : SymbolTableWriter) → (indexes_of local (with_fields l name t w)).each ≡ (indexes_of local w).each
 each_kept true true name t w = refl
 each_kept true false name t w = refl
 each_kept false true name t w = refl
 each_kept false false name t w = refl
 
-index_room_kept : (local l : Bool) (name : List ℕ) (t : TableFields) (w : SymbolTableWriter) → (indexes_of local (with_fields l name t w)).room ≡ (indexes_of local w).room
+index_room_kept : (local l : Bool) (name : Option (List ℕ)) (t : TableFields) (w : SymbolTableWriter) → (indexes_of local (with_fields l name t w)).room ≡ (indexes_of local w).room
 index_room_kept true true name t w = refl
 index_room_kept true false name t w = refl
 index_room_kept false true name t w = refl
@@ -82,13 +83,20 @@ index_more : (n k : ℕ) (b : Bool) (f : NamedEntry → ℕ) (xs : List NamedEnt
 index_more n k true f xs c e h = omega (arith, h)
 index_more n k false f xs c e h = cc
 
+-- where a name has room there is a place for it
+name_fits : (name : Option (List ℕ)) (t : Strings) → length t.bytes + name_room name ≤ t.room → (at : ℕ) × (room_for_name name t ≡ Ok at)
+name_fits None t h = (0, refl)
+name_fits (Some name) t h =
+    let b = le-ltb t.room (length t.bytes + (length name + 1)) h in
+    (offset_of t, rw b refl)
+
 has_room-fits : (c : NamedEntry) (w : SymbolTableWriter) → symbols_used (list_of c.local w) + 24 ≤ (list_of c.local w).room → length (indexes_of c.local w).bytes + need_of c.local w c ≤ (indexes_of c.local w).room
-    → length w.strtab.bytes + (length c.name + 1) ≤ w.strtab.room → has_room c w ≡ true
+    → length w.strtab.bytes + name_room c.name ≤ w.strtab.room → has_room c w ≡ true
 has_room-fits c w h i k =
     let a = le-ltb (list_of c.local w).room (symbols_used (list_of c.local w) + 24) h in
     let l = le-ltb (indexes_of c.local w).room (length (indexes_of c.local w).bytes + need_of c.local w c) i in
-    let b = le-ltb w.strtab.room (length w.strtab.bytes + (length c.name + 1)) k in
-    rw (a, l, b) refl
+    let b = name_fits c.name w.strtab k in
+    rw (a, l, b.1) refl
 
 -- the call's own list has room for its symbol
 one_more : (n k : ℕ) (b : Bool) (xs : List NamedEntry) (c : NamedEntry) → b ≡ true → n + 24 * length (cond b (c ∷ xs) xs) ≤ k → n + 24 ≤ k
@@ -128,20 +136,19 @@ indexes_next local c xs w false e h =
     let s = ap (λ (each : Bool). total (λ (d : NamedEntry). index_room each (d.fields.long)) xs) (each_kept local c.local c.name c.fields w) in
     omega (arith, u, r, s, h)
 
-names_next : (c : NamedEntry) (k : ℕ) (w : SymbolTableWriter) → length w.strtab.bytes + (length c.name + 1 + k) ≤ w.strtab.room → length (called_if true c w).strtab.bytes + k ≤ (called_if true c w).strtab.room
+names_next : (c : NamedEntry) (k : ℕ) (w : SymbolTableWriter) → length w.strtab.bytes + (name_room c.name + k) ≤ w.strtab.room → length (called_if true c w).strtab.bytes + k ≤ (called_if true c w).strtab.room
 names_next c k w h =
     let t = strtab-with_symbol c.local c.name c.fields w in
     let b = ap (λ x. length x.bytes) t in
-    let r = ap (λ x. x.room) t in
-    let n = length-append w.strtab.bytes (string c.name) in
-    let m = length-append c.name (0 ∷ []) in
-    omega (arith, b, r, n, m, h)
+    let r = room-with_symbol c.local c.name c.fields w in
+    let n = length-named c.name w.strtab in
+    omega (arith, b, r, n, h)
 
 pub room_next : (c : NamedEntry) (cs : List NamedEntry) (w : SymbolTableWriter) → HasRoomFor (c ∷ cs) w → HasRoomFor cs (called_if true c w)
 room_next c cs w h = record {
   symbols = λ local. symbols_next local c (filter (λ d. is_in local d.local) cs) w (is_in local c.local) refl (h.symbols local);
   indexes = λ local. indexes_next local c (filter (λ d. is_in local d.local) cs) w (is_in local c.local) refl (h.indexes local);
-  names = names_next c (total (λ d. length d.name + 1) cs) w h.names;
+  names = names_next c (total (λ d. name_room d.name) cs) w h.names;
 }
 
 whole_next : (local : Bool) (c : NamedEntry) (cs : List NamedEntry) (w : SymbolTableWriter) (room here : Bool) (xs : List NamedEntry) → room ≡ true → taken local cs (called_if true c w) ≡ xs
@@ -241,9 +248,11 @@ prefix-limited n m w h l i =
     let k = front_strings-less m w.strtab s in
     rw (e, f, p, q, k) refl
 
-limited-with_symbol : (k : KeptBehind) (l : Bool) (name : List ℕ) (t : TableFields) (w : SymbolTableWriter) → with_fields l name t (limited k w) ≡ limited k (with_fields l name t w)
-limited-with_symbol k true name t w = refl
-limited-with_symbol k false name t w = refl
+limited-with_symbol : (k : KeptBehind) (l : Bool) (name : Option (List ℕ)) (t : TableFields) (w : SymbolTableWriter) → with_fields l name t (limited k w) ≡ limited k (with_fields l name t w)
+limited-with_symbol k true None t w = refl
+limited-with_symbol k true (Some name) t w = refl
+limited-with_symbol k false None t w = refl
+limited-with_symbol k false (Some name) t w = refl
 
 -- a writer has room for what it has room for without a part of it
 less_room : (k : KeptBehind) (cs : List NamedEntry) (w : SymbolTableWriter) → HasRoomFor cs (limited k w) → HasRoomFor cs w
@@ -291,7 +300,7 @@ room_after [] w local = refl
 room_after (c ∷ cs) w local = room_after cs (called_if (has_room c w) c w) local ∙ room_if (has_room c w) local c w
 
 strings_room_if : (b : Bool) (c : NamedEntry) (w : SymbolTableWriter) → (called_if b c w).strtab.room ≡ w.strtab.room
-strings_room_if true c w = ap (λ x. x.room) (strtab-with_symbol c.local c.name c.fields w)
+strings_room_if true c w = room-with_symbol c.local c.name c.fields w
 strings_room_if false c w = refl
 
 strings_room_after : (cs : List NamedEntry) (w : SymbolTableWriter) → (after cs w).strtab.room ≡ w.strtab.room

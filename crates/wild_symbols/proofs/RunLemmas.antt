@@ -1,6 +1,6 @@
 -- Laws of whole runs of a writer.
 use Rattle.std.proofs.Common.{◌≡◌, ℕ, zero, suc, ◌+◌, ◌-◌, ◌*◌, ◌<◌, ◌≤◌, ◌^◌, Bool, true, false, if◌then◌else◌, List, [], ◌∷◌, ◌++◌, length, take, get_or, Result, Ok, Err, refl, sym, ap, ◌∙◌, arith, subst}
-use Rattle.std.specs.Prelude.{All}
+use Rattle.std.specs.Prelude.{All, Option, Some, None, option_to_list}
 use Rattle.std.proofs.Math.Seq.{take-append_seam}
 use Rattle.std.proofs.lemmas.Bool.{ltb-false}
 use Rattle.std.proofs.lemmas.List.{append_assoc, append-nil, length-append, get_or_append_left, get_or-append_right}
@@ -11,13 +11,13 @@ use Rattle.wild_words.proofs.RecordLemmas.{Stands-left, Stands-right}
 use Rattle.wild_records.specs.declared.symtab_entry.SymtabEntry.{SymtabEntry}
 use Rattle.wild_records.specs.SymtabEntry.{symtab_entry_fields, symtab_entry_at, SymtabEntryFits, SymtabEntryIsRead}
 use Rattle.wild_types.specs.declared.fault.Error.{Error}
-use Rattle.wild_symbols.specs.Strings.{string, offset_of, with_string}
+use Rattle.wild_symbols.specs.Strings.{Strings, string, offset_of, with_strings}
 use Rattle.wild_symbols.specs.Symbols.{symbol_bytes}
 use Rattle.wild_symbols.specs.Tables.{placed, list_of, with_fields}
-use Rattle.wild_symbols.specs.TableRoom.{and_then}
-use Rattle.wild_symbols.specs.TableEntries.{NamedEntry}
-use Rattle.wild_symbols.specs.TableLaws.{NamedEntryFits, IsEntryOf}
-use Rattle.wild_symbols.specs.Runs.{is_ok, has_room, called_if, called, after, is_in, taken_if, taken, RunsCount, RunsStandBehind}
+use Rattle.wild_symbols.specs.TableRoom.{and_then, room_for_name}
+use Rattle.wild_symbols.specs.TableEntries.{NamedEntry, name_at}
+use Rattle.wild_symbols.specs.TableLaws.{NamedEntryFits, TellsName, IsEntryOf}
+use Rattle.wild_symbols.specs.Runs.{is_ok, has_room, name_room, called_if, called, after, is_in, taken_if, taken, RunsCount, RunsStandBehind}
 use Rattle.wild_symbols.specs.declared.table.TableFields.{TableFields}
 use Rattle.wild_symbols.specs.declared.writer.SymbolTableWriter.{SymbolTableWriter}
 use Rattle.wild_symbols.proofs.SymbolLemmas.{Stands-symbol}
@@ -26,25 +26,62 @@ use Rattle.wild_symbols.proofs.SymbolLemmas.{Stands-symbol}
 
 -- the symbol that a call gives
 abbrev entry_of : NamedEntry → SymbolTableWriter → SymtabEntry
-entry_of c w = placed (offset_of w.strtab) c.fields.fields
+entry_of c w = placed (name_at (offset_of w.strtab) c.name) c.fields.fields
 
-pub symbols_here : (local l : Bool) (name : List ℕ) (t : TableFields) (w : SymbolTableWriter) → is_in local l ≡ true
-    → (list_of local (with_fields l name t w)).symbols ≡ (list_of local w).symbols ++ placed (offset_of w.strtab) t.fields ∷ []
+pub symbols_here : (local l : Bool) (name : Option (List ℕ)) (t : TableFields) (w : SymbolTableWriter) → is_in local l ≡ true
+    → (list_of local (with_fields l name t w)).symbols ≡ (list_of local w).symbols ++ placed (name_at (offset_of w.strtab) name) t.fields ∷ []
 symbols_here true true name t w h = refl
 symbols_here true false name t w h = cc
 symbols_here false true name t w h = cc
 symbols_here false false name t w h = refl
 
-pub symbols_other : (local l : Bool) (name : List ℕ) (t : TableFields) (w : SymbolTableWriter) → is_in local l ≡ false
+pub symbols_other : (local l : Bool) (name : Option (List ℕ)) (t : TableFields) (w : SymbolTableWriter) → is_in local l ≡ false
     → (list_of local (with_fields l name t w)).symbols ≡ (list_of local w).symbols
 symbols_other true true name t w h = cc
 symbols_other true false name t w h = refl
 symbols_other false true name t w h = refl
 symbols_other false false name t w h = cc
 
-pub strtab-with_symbol : (l : Bool) (name : List ℕ) (t : TableFields) (w : SymbolTableWriter) → (with_fields l name t w).strtab ≡ with_string name w.strtab
+pub strtab-with_symbol : (l : Bool) (name : Option (List ℕ)) (t : TableFields) (w : SymbolTableWriter) → (with_fields l name t w).strtab ≡ with_strings (option_to_list name) w.strtab
 strtab-with_symbol true name t w = refl
 strtab-with_symbol false name t w = refl
+
+-- the bytes that a name adds
+abbrev name_bytes : Option (List ℕ) → List ℕ
+name_bytes None = []
+name_bytes (Some name) = string name
+
+pub bytes-named : (name : Option (List ℕ)) (t : Strings) → (with_strings (option_to_list name) t).bytes ≡ t.bytes ++ name_bytes name
+bytes-named None t = sym (append-nil t.bytes)
+bytes-named (Some name) t = refl
+
+pub length-named : (name : Option (List ℕ)) (t : Strings) → length (with_strings (option_to_list name) t).bytes ≡ length t.bytes + name_room name
+length-named None t = omega arith
+length-named (Some name) t =
+    let n = length-append t.bytes (string name) in
+    let m = length-append name (0 ∷ []) in
+    omega (arith, n, m)
+
+pub start-named : (name : Option (List ℕ)) (t : Strings) → (with_strings (option_to_list name) t).start ≡ t.start
+start-named None t = refl
+start-named (Some name) t = refl
+
+pub room-named : (name : Option (List ℕ)) (t : Strings) → (with_strings (option_to_list name) t).room ≡ t.room
+room-named None t = refl
+room-named (Some name) t = refl
+
+-- a call changes neither where the strings begin nor their room
+pub start-with_symbol : (l : Bool) (name : Option (List ℕ)) (t : TableFields) (w : SymbolTableWriter) → (with_fields l name t w).strtab.start ≡ w.strtab.start
+start-with_symbol l name t w = ap (λ (x : Strings). x.start) (strtab-with_symbol l name t w) ∙ start-named name w.strtab
+
+pub room-with_symbol : (l : Bool) (name : Option (List ℕ)) (t : TableFields) (w : SymbolTableWriter) → (with_fields l name t w).strtab.room ≡ w.strtab.room
+room-with_symbol l name t w = ap (λ (x : Strings). x.room) (strtab-with_symbol l name t w) ∙ room-named name w.strtab
+
+pub low_start : (c : NamedEntry) (w : SymbolTableWriter) → w.strtab.start + w.strtab.room < 2 ^ 32 → (called_if true c w).strtab.start + (called_if true c w).strtab.room < 2 ^ 32
+low_start c w h =
+    let s = start-with_symbol c.local c.name c.fields w in
+    let r = room-with_symbol c.local c.name c.fields w in
+    omega (arith, s, r, h)
 
 -- the name ends within the share
 no_less : (r : Result (Unit {0}) Error) (short : Bool) (e : Error) (n : ℕ) → is_ok (and_then r (if short then Err e else Ok n)) ≡ true → short ≡ false
@@ -53,18 +90,20 @@ no_less (Ok t) false e n h = refl
 no_less (Err f) true e n h = cc
 no_less (Err f) false e n h = cc
 
-name_fits : (c : NamedEntry) (w : SymbolTableWriter) → has_room c w ≡ true → length w.strtab.bytes + (length c.name + 1) ≤ w.strtab.room
-name_fits c w h =
-    ltb-false w.strtab.room (length w.strtab.bytes + (length c.name + 1)) (no_less _ _ _ _ h)
+name_low : (name : Option (List ℕ)) (r : Result (Unit {0}) Error) (t : Strings) → is_ok (and_then r (room_for_name name t)) ≡ true → t.start + t.room < 2 ^ 32 → name_at (offset_of t) name < 2 ^ 32
+name_low None r t h low = omega arith
+name_low (Some name) r t h low =
+    let fits = ltb-false t.room (length t.bytes + (length name + 1)) (no_less r _ _ _ h) in
+    omega (arith, fits, low)
 
 -- ---- growth
 
-symbols_more : (local l : Bool) (name : List ℕ) (t : TableFields) (w : SymbolTableWriter)
+symbols_more : (local l : Bool) (name : Option (List ℕ)) (t : TableFields) (w : SymbolTableWriter)
     → (more : List SymtabEntry) × ((list_of local (with_fields l name t w)).symbols ≡ (list_of local w).symbols ++ more)
-symbols_more true true name t w = (placed (offset_of w.strtab) t.fields ∷ [], refl)
+symbols_more true true name t w = (placed (name_at (offset_of w.strtab) name) t.fields ∷ [], refl)
 symbols_more true false name t w = ([], sym (append-nil w.locals.symbols))
 symbols_more false true name t w = ([], sym (append-nil w.globals.symbols))
-symbols_more false false name t w = (placed (offset_of w.strtab) t.fields ∷ [], refl)
+symbols_more false false name t w = (placed (name_at (offset_of w.strtab) name) t.fields ∷ [], refl)
 
 symbols_more_if : (b local : Bool) (c : NamedEntry) (w : SymbolTableWriter) → (more : List SymtabEntry) × ((list_of local (called_if b c w)).symbols ≡ (list_of local w).symbols ++ more)
 symbols_more_if true local c w = symbols_more local c.local c.name c.fields w
@@ -79,7 +118,7 @@ symbols_after (c ∷ cs) w local =
     (p.0 ++ q.0, q.1 ∙ ap (λ (x : List SymtabEntry). x ++ q.0) p.1 ∙ append_assoc (list_of local w).symbols p.0 q.0)
 
 strings_more_if : (b : Bool) (c : NamedEntry) (w : SymbolTableWriter) → (more : List ℕ) × ((called_if b c w).strtab.bytes ≡ w.strtab.bytes ++ more)
-strings_more_if true c w = (string c.name, ap (λ x. x.bytes) (strtab-with_symbol c.local c.name c.fields w))
+strings_more_if true c w = (name_bytes c.name, ap (λ x. x.bytes) (strtab-with_symbol c.local c.name c.fields w) ∙ bytes-named c.name w.strtab)
 strings_more_if false c w = ([], sym (append-nil w.strtab.bytes))
 
 -- a run adds strings behind those that were there
@@ -130,6 +169,11 @@ stands_after strings before more s all start is st =
     (subst (λ (bs : List ℕ). Stands strings start bs) e st)
     (subst (λ (n : ℕ). Stands (before ++ (string s ++ more)) n (string s)) z inner)
 
+-- the name of a call, where it has one, stands where that is told
+name_told : (name : Option (List ℕ)) (strings before more all : List ℕ) (start : ℕ) → all ≡ (before ++ name_bytes name) ++ more → Stands strings start all → TellsName strings (name_at (start + length before) name) name
+name_told None strings before more all start is st = refl
+name_told (Some name) strings before more all start is st = stands_after strings before more name all start is st
+
 -- what the law says of one place
 abbrev IsReadAfter : List NamedEntry → Bool → ℕ → SymbolTableWriter → List NamedEntry → ℕ → Type 0
 IsReadAfter cs local n w calls k =
@@ -145,10 +189,10 @@ first_read read c cs w local room here fits short table strings at st ss =
     let m = symbols_after cs (called_if true c w) local in
     let is = m.1 ∙ ap (λ (x : List SymtabEntry). x ++ m.0) (symbols_here local c.local c.name c.fields w here) in
     let q = strings_after cs (called_if true c w) in
-    let js = q.1 ∙ ap (λ (x : List ℕ). x ++ q.0) (ap (λ x. x.bytes) (strtab-with_symbol c.local c.name c.fields w)) in
-    let n = name_fits c w room in
-    let e = read_behind read table (list_of local w).symbols m.0 (entry_of c w) _ at is (record { name = omega (arith, n, short); info = fits.info; other = fits.other; section = fits.section; value = fits.value; size = fits.size }) st in
-    subst (IsEntryOf strings c) (sym e) (record { name = stands_after strings w.strtab.bytes q.0 c.name _ w.strtab.start js ss; section = refl; value = refl; info = refl; other = refl; size = refl })
+    let js = q.1 ∙ ap (λ (x : List ℕ). x ++ q.0) (ap (λ x. x.bytes) (strtab-with_symbol c.local c.name c.fields w) ∙ bytes-named c.name w.strtab) in
+    let n = name_low c.name _ w.strtab room short in
+    let e = read_behind read table (list_of local w).symbols m.0 (entry_of c w) _ at is (record { name = n; info = fits.info; other = fits.other; section = fits.section; value = fits.value; size = fits.size }) st in
+    subst (IsEntryOf strings c) (sym e) (record { name = name_told c.name strings w.strtab.bytes q.0 _ w.strtab.start js ss; section = refl; value = refl; info = refl; other = refl; size = refl })
 
 -- a call that gave no symbol of the list
 other_read : (cs : List NamedEntry) (local : Bool) (c : NamedEntry) (w : SymbolTableWriter) (k : ℕ) → is_in local c.local ≡ false
@@ -158,9 +202,9 @@ other_read : (cs : List NamedEntry) (local : Bool) (c : NamedEntry) (w : SymbolT
     → IsEntryOf strings (get_or (taken local cs (called_if true c w)) k d) (symtab_entry_at table (at + 24 * (length (list_of local w).symbols + k)))
 other_read cs local c w k other further table strings at d fits short st ss l =
     let e = symbols_other local c.local c.name c.fields w other in
-    let t = strtab-with_symbol c.local c.name c.fields w in
-    let short-on : (called_if true c w).strtab.start + (called_if true c w).strtab.room < 2 ^ 32 = subst (λ x. x.start + x.room < 2 ^ 32) (sym t) short in
-    let ss-on : Stands strings (called_if true c w).strtab.start (after cs (called_if true c w)).strtab.bytes = subst (λ x. Stands strings x.start (after cs (called_if true c w)).strtab.bytes) (sym t) ss in
+    let t = start-with_symbol c.local c.name c.fields w in
+    let short-on = low_start c w short in
+    let ss-on : Stands strings (called_if true c w).strtab.start (after cs (called_if true c w)).strtab.bytes = subst (λ (x : ℕ). Stands strings x (after cs (called_if true c w)).strtab.bytes) (sym t) ss in
     subst (λ (x : List SymtabEntry). IsEntryOf strings (get_or (taken local cs (called_if true c w)) k d) (symtab_entry_at table (at + 24 * (length x + k)))) e
     (further k table strings at d fits short-on st ss-on l)
 
@@ -172,9 +216,9 @@ next_read : (cs : List NamedEntry) (local : Bool) (c : NamedEntry) (w : SymbolTa
     → IsEntryOf strings (get_or (taken local cs (called_if true c w)) k d) (symtab_entry_at table (at + 24 * (length (list_of local w).symbols + suc k)))
 next_read cs local c w k here further table strings at d fits short st ss l =
     let e = symbols_here local c.local c.name c.fields w here in
-    let t = strtab-with_symbol c.local c.name c.fields w in
-    let short-on : (called_if true c w).strtab.start + (called_if true c w).strtab.room < 2 ^ 32 = subst (λ x. x.start + x.room < 2 ^ 32) (sym t) short in
-    let ss-on : Stands strings (called_if true c w).strtab.start (after cs (called_if true c w)).strtab.bytes = subst (λ x. Stands strings x.start (after cs (called_if true c w)).strtab.bytes) (sym t) ss in
+    let t = start-with_symbol c.local c.name c.fields w in
+    let short-on = low_start c w short in
+    let ss-on : Stands strings (called_if true c w).strtab.start (after cs (called_if true c w)).strtab.bytes = subst (λ (x : ℕ). Stands strings x (after cs (called_if true c w)).strtab.bytes) (sym t) ss in
     let n = length-append (list_of local w).symbols (entry_of c w ∷ []) in
     let size = ap length e in
     let place : at + 24 * (length (list_of local (called_if true c w)).symbols + k) ≡ at + 24 * (length (list_of local w).symbols + suc k) = omega (arith, n, size) in

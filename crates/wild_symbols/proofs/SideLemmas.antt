@@ -1,6 +1,6 @@
 -- Where the entries of one side of `.symtab` stand, and their names.
 use Rattle.std.proofs.Common.{◌≡◌, ℕ, zero, suc, ◌+◌, ◌*◌, ◌%◌, ◌<◌, ◌≤◌, ◌^◌, Bool, true, false, cond, if◌then◌else◌, List, [], ◌∷◌, ◌++◌, length, map, get_or, refl, sym, ap, ◌∙◌, arith, subst}
-use Rattle.std.specs.Prelude.{All}
+use Rattle.std.specs.Prelude.{All, Option, Some, None, option_to_list}
 use Rattle.std.specs.List.{filter}
 use Rattle.std.proofs.lemmas.List.{length-append}
 use Rattle.wild_words.specs.Words.{Stands}
@@ -13,8 +13,8 @@ use Rattle.wild_needs.specs.DynamicStrings.{behind_text}
 use Rattle.wild_symbols.specs.Strings.{string, string_bytes}
 use Rattle.wild_symbols.specs.Symbols.{symbol_bytes}
 use Rattle.wild_symbols.specs.DynamicEntries.{entry_at}
-use Rattle.wild_symbols.specs.TableEntries.{NamedEntry, is_side, side_entries}
-use Rattle.wild_symbols.specs.TableLaws.{names_of, TellsAt, SidesStand, NamedEntryFits, IsEntryOf, SidesAreRead}
+use Rattle.wild_symbols.specs.TableEntries.{NamedEntry, name_at, behind_name, is_side, side_entries}
+use Rattle.wild_symbols.specs.TableLaws.{names_of, TellsName, TellsAt, SidesStand, NamedEntryFits, IsEntryOf, SidesAreRead}
 use Rattle.wild_symbols.proofs.SymbolLemmas.{Stands-symbol}
 use Rattle.wild_symbols.proofs.TableLemmas.{length-side_entries}
 
@@ -23,39 +23,46 @@ record Tells (strings : List ℕ) (n : NamedEntry) (e : SymtabEntry) : Type 0 wh
   at : ℕ
   small : at < 2 ^ 32
   is : e ≡ entry_at at n.fields.fields
-  name : Stands strings at (string n.name)
+  name : TellsName strings at n.name
 
 -- the names behind the first one
-names_behind : (strings : List ℕ) (at : ℕ) (n : NamedEntry) (ns : List NamedEntry) → at + length (string_bytes (names_of (n ∷ ns))) ≤ 2 ^ 32 → Stands strings at (string_bytes (names_of (n ∷ ns)))
-    → Stands strings (behind_text at n.name) (string_bytes (names_of ns))
-names_behind strings at n ns small s =
-    let a = length-append (string n.name) (string_bytes (names_of ns)) in
-    let b = length-append n.name (0 ∷ []) in
-    let is : at + (length (string n.name) + 0) ≡ behind_text at n.name = omega (arith, a, b, small) in
-    subst (λ (m : ℕ). Stands strings m (string_bytes (names_of ns))) is
-    (Stands-inner strings (string_bytes (names_of (n ∷ ns))) (string_bytes (names_of ns)) at (length (string n.name) + 0) s
-    (Stands-right (string n.name) (string_bytes (names_of ns)) (string_bytes (names_of ns)) 0 (Stands-whole (string_bytes (names_of ns)))))
+names_behind : (strings : List ℕ) (at : ℕ) (name : Option (List ℕ)) (ss : List (List ℕ)) → at + length (string_bytes (option_to_list name ++ ss)) ≤ 2 ^ 32 → Stands strings at (string_bytes (option_to_list name ++ ss))
+    → Stands strings (behind_name at name) (string_bytes ss)
+names_behind strings at None ss small s = s
+names_behind strings at (Some name) ss small s =
+    let a = length-append (string name) (string_bytes ss) in
+    let b = length-append name (0 ∷ []) in
+    let is : at + (length (string name) + 0) ≡ behind_text at name = omega (arith, a, b, small) in
+    subst (λ (m : ℕ). Stands strings m (string_bytes ss)) is
+    (Stands-inner strings (string_bytes (name ∷ ss)) (string_bytes ss) at (length (string name) + 0) s
+    (Stands-right (string name) (string_bytes ss) (string_bytes ss) 0 (Stands-whole (string_bytes ss))))
 
 -- and their end
-short_behind : (at : ℕ) (n : NamedEntry) (ns : List NamedEntry) → at + length (string_bytes (names_of (n ∷ ns))) ≤ 2 ^ 32 → behind_text at n.name + length (string_bytes (names_of ns)) ≤ 2 ^ 32
-short_behind at n ns small =
-    let a = length-append (string n.name) (string_bytes (names_of ns)) in
-    let b = length-append n.name (0 ∷ []) in
+short_behind : (at : ℕ) (name : Option (List ℕ)) (ss : List (List ℕ)) → at + length (string_bytes (option_to_list name ++ ss)) ≤ 2 ^ 32 → behind_name at name + length (string_bytes ss) ≤ 2 ^ 32
+short_behind at None ss small = small
+short_behind at (Some name) ss small =
+    let a = length-append (string name) (string_bytes ss) in
+    let b = length-append name (0 ∷ []) in
     omega (arith, a, b, small)
+
+-- the first name
+first_low : (at : ℕ) (name : Option (List ℕ)) (ss : List (List ℕ)) → at + length (string_bytes (option_to_list name ++ ss)) ≤ 2 ^ 32 → name_at at name < 2 ^ 32
+first_low at None ss small = omega arith
+first_low at (Some name) ss small =
+    let a = length-append (string name) (string_bytes ss) in
+    let b = length-append name (0 ∷ []) in
+    omega (arith, a, b, small)
+
+first_told : (strings : List ℕ) (at : ℕ) (name : Option (List ℕ)) (ss : List (List ℕ)) → Stands strings at (string_bytes (option_to_list name ++ ss)) → TellsName strings (name_at at name) name
+first_told strings at None ss s = refl
+first_told strings at (Some name) ss s =
+    let z : at + 0 ≡ at = omega arith in
+    subst (λ (m : ℕ). Stands strings m (string name)) z (Stands-inner strings (string_bytes (name ∷ ss)) (string name) at 0 s (Stands-left (string name) (string_bytes ss)))
 
 -- the first symbol
 first_tells : (strings : List ℕ) (at : ℕ) (n : NamedEntry) (ns : List NamedEntry) → at + length (string_bytes (names_of (n ∷ ns))) ≤ 2 ^ 32 → Stands strings at (string_bytes (names_of (n ∷ ns)))
-    → Tells strings n (entry_at at n.fields.fields)
-first_tells strings at n ns small s =
-    let a = length-append (string n.name) (string_bytes (names_of ns)) in
-    let b = length-append n.name (0 ∷ []) in
-    let z : at + 0 ≡ at = omega arith in
-    record {
-      at = at;
-      small = omega (arith, a, b, small);
-      is = refl;
-      name = subst (λ (m : ℕ). Stands strings m (string n.name)) z (Stands-inner strings (string_bytes (names_of (n ∷ ns))) (string n.name) at 0 s (Stands-left (string n.name) (string_bytes (names_of ns))));
-    }
+    → Tells strings n (entry_at (name_at at n.name) n.fields.fields)
+first_tells strings at n ns small s = record { at = name_at at n.name; small = first_low at n.name (names_of ns) small; is = refl; name = first_told strings at n.name (names_of ns) s }
 
 -- symbol k, where the first is of the side or not
 tells_by : (strings : List ℕ) (b : Bool) (n : NamedEntry) (here : SymtabEntry) (ns : List NamedEntry) (es : List SymtabEntry) (k : ℕ) (d : NamedEntry) (e : SymtabEntry) → Tells strings n here
@@ -69,8 +76,8 @@ side_tells : (strings : List ℕ) (local : Bool) (at : ℕ) (ns : List NamedEntr
 unfolding side_entries
 side_tells strings local at [] k d e small s l = absurd (omega (arith, l))
 side_tells strings local at (n ∷ ns) k d e small s l =
-    tells_by strings (is_side local n) n (entry_at at n.fields.fields) (filter (is_side local) ns) (side_entries local (behind_text at n.name) ns) k d e (first_tells strings at n ns small s)
-    (λ j m. side_tells strings local (behind_text at n.name) ns j d e (short_behind at n ns small) (names_behind strings at n ns small s) m) l
+    tells_by strings (is_side local n) n (entry_at (name_at at n.name) n.fields.fields) (filter (is_side local) ns) (side_entries local (behind_name at n.name) ns) k d e (first_tells strings at n ns small s)
+    (λ j m. side_tells strings local (behind_name at n.name) ns j d e (short_behind at n.name (names_of ns) small) (names_behind strings at n.name (names_of ns) small s) m) l
 
 -- ---- laws
 
@@ -96,11 +103,11 @@ fits_filtered local (n ∷ ns) a = kept NamedEntryFits (is_side local n) n (filt
 entry_fits : (at : ℕ) (n : NamedEntry) → NamedEntryFits n → SymtabEntryFits (entry_at at n.fields.fields)
 entry_fits at n h = record { name = omega arith; info = h.info; other = h.other; section = h.section; value = h.value; size = h.size }
 
-is_read : (strings : List ℕ) (n : NamedEntry) (at : ℕ) (e : SymtabEntry) → at < 2 ^ 32 → Stands strings at (string n.name) → e ≡ entry_at at n.fields.fields → IsEntryOf strings n e
+is_read : (strings : List ℕ) (n : NamedEntry) (at : ℕ) (e : SymtabEntry) → at < 2 ^ 32 → TellsName strings at n.name → e ≡ entry_at at n.fields.fields → IsEntryOf strings n e
 is_read strings n at e small s is =
     let low : at % 2 ^ 32 ≡ at = omega (arith, small) in
     record {
-      name = subst (λ (m : ℕ). Stands strings m (string n.name)) (sym (ap (λ (x : SymtabEntry). x.name) is ∙ low)) s;
+      name = subst (λ (m : ℕ). TellsName strings m n.name) (sym (ap (λ (x : SymtabEntry). x.name) is ∙ low)) s;
       info = ap (λ (x : SymtabEntry). x.info) is;
       other = ap (λ (x : SymtabEntry). x.other) is;
       section = ap (λ (x : SymtabEntry). x.section) is;

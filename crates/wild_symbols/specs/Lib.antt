@@ -11,3 +11,7 @@ pub mod SlotNames
 pub mod Runs
 pub mod Laws
 pub mod TableLaws
+pub mod SectionCalls
+pub mod SectionSymbols
+pub mod SectionWalk
+pub mod SymbolNumbers

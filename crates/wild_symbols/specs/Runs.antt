@@ -11,7 +11,7 @@
 --   RunsAreEntries        calls with names and fields leave their entries, as `entries_at` has them
 --   RunsAreTables         calls with the entries of `.symtab` leave these, as `side_entries` has them
 --   PrefixesAreTheWriters what calls write through a prefix, the writer itself would have written
-use Rattle.std.specs.Prelude.{◌≡◌, ℕ, ◌+◌, ◌*◌, ◌<◌, ◌≤◌, ◌^◌, Bool, true, false, not, List, [], ◌∷◌, ◌++◌, length, take, map, All, slice_index_or, Result, Ok, Err}
+use Rattle.std.specs.Prelude.{◌≡◌, ℕ, ◌+◌, ◌*◌, ◌<◌, ◌≤◌, ◌^◌, Bool, true, false, not, List, [], ◌∷◌, ◌++◌, length, take, map, All, slice_index_or, Option, Some, None, Result, Ok, Err}
 use Rattle.std.specs.List.{filter, flat_map}
 use Rattle.wild_words.specs.Words.{Stands}
 use Rattle.wild_records.specs.Abi.Section.{shn_undef}
@@ -34,7 +34,7 @@ use Rattle.wild_symbols.specs.declared.writer.SymbolTableWriter.{SymbolTableWrit
 
 -- what a call is given: a name, whether the symbol is local, and what is said of it
 abbrev pub defined : Bool → List ℕ → SymbolSection → ℕ → SymbolAttributes → NamedEntry
-defined local name s value a = record { name = name; local = local; fields = told s value a }
+defined local name s value a = record { name = Some name; local = local; fields = told s value a }
 
 -- a symbol that no section has, of value 0
 abbrev pub undefined : Bool → List ℕ → SymbolAttributes → NamedEntry
@@ -95,11 +95,16 @@ RunsCount = (cs : List NamedEntry) (w : SymbolTableWriter) (local : Bool) → le
 abbrev pub RunsStandBehind : Type 0
 RunsStandBehind = (cs : List NamedEntry) (w : SymbolTableWriter) (local : Bool) → (take (length (list_of local w).symbols) (list_of local (after cs w)).symbols ≡ (list_of local w).symbols) × (take (length w.strtab.bytes) (after cs w).strtab.bytes ≡ w.strtab.bytes)
 
+-- the bytes of a name, with the zero behind it
+abbrev pub name_room : Option (List ℕ) → ℕ
+name_room None = 0
+name_room (Some name) = length name + 1
+
 -- there is room for the symbols of these calls, for their longer section indexes, and for their names
 pub record HasRoomFor (cs : List NamedEntry) (w : SymbolTableWriter) : Type 0 where
   pub symbols : (local : Bool) → symbols_used (list_of local w) + symtab_entry_size * length (filter (λ c. is_in local c.local) cs) ≤ (list_of local w).room
   pub indexes : (local : Bool) → length (indexes_of local w).bytes + total (λ c. index_room (indexes_of local w).each c.fields.long) (filter (λ c. is_in local c.local) cs) ≤ (indexes_of local w).room
-  pub names : length w.strtab.bytes + total (λ c. length c.name + 1) cs ≤ w.strtab.room
+  pub names : length w.strtab.bytes + total (λ c. name_room c.name) cs ≤ w.strtab.room
 
 -- the longer section indexes of the calls that gave a symbol stand behind those that were there, one of each where each has one
 abbrev pub RunsKeepIndexes : Type 0
@@ -112,7 +117,7 @@ RunsWithRoomAreWhole = (cs : List NamedEntry) (w : SymbolTableWriter) (local : B
 
 -- the call that gives a global symbol with these fields
 abbrev pub call_of : NamedFields → NamedEntry
-call_of n = record { name = n.name; local = false; fields = short n.fields }
+call_of n = record { name = Some n.name; local = false; fields = short n.fields }
 
 -- the writer has the symbols and the strings of w, behind them these entries, and the names of these one behind the other
 pub record HasEntries (ns : List NamedFields) (w v : SymbolTableWriter) : Type 0 where

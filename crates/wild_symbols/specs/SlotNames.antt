@@ -5,7 +5,7 @@
 --   all_offered rs w          the same of each, one after another: the first fault
 --   all_given rs w            the writer with those in front of that
 --   SlotNamesAreItems         they are those of a file's entries
-use Rattle.std.specs.Prelude.{◌≡◌, ℕ, map, Bool, true, if◌then◌else◌, List, [], ◌∷◌, ◌++◌, Result, Ok, Err}
+use Rattle.std.specs.Prelude.{◌≡◌, ℕ, map, Bool, true, if◌then◌else◌, List, [], ◌∷◌, ◌++◌, Some, Result, Ok, Err}
 use Rattle.wild_types.specs.declared.fault.Fault.{Fault}
 use Rattle.wild_types.specs.declared.fault.Error.{Error}
 use Rattle.wild_types.specs.declared.part.Role.TheVariants as role
@@ -30,7 +30,7 @@ slot_fields l i s other = at_part l i (slot_role l s) (got_of s)
 
 abbrev pub local_entry : List ℕ → Result TableFields Fault → Result NamedEntry Fault
 local_entry name (Err f) = Err f
-local_entry name (Ok t) = Ok (record { name = name; local = true; fields = t })
+local_entry name (Ok t) = Ok (record { name = Some name; local = true; fields = t })
 
 -- with its name
 abbrev pub slot_entry : Layout → ℕ → Symbol → Named → Result NamedEntry Fault

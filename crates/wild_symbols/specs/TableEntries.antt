@@ -9,7 +9,7 @@ use Rattle.std.specs.Prelude.{ℕ, ◌+◌, ◌-◌, ◌/◌, ◌%◌, ◌^◌, 
 use Rattle.std.specs.List.{flat_map, filter}
 use Rattle.wild_words.specs.Words.{word}
 use Rattle.wild_records.specs.Abi.Section.{shn_undef, shn_abs}
-use Rattle.wild_records.specs.Abi.Symbol.{stt_func}
+use Rattle.wild_records.specs.Abi.Symbol.{stt_func, stt_section}
 use Rattle.wild_records.specs.SymbolSections.{split_index}
 use Rattle.wild_records.specs.declared.symtab_entry.SymtabEntry.{SymtabEntry}
 use Rattle.wild_types.specs.declared.fault.Fault.{Fault}
@@ -38,8 +38,12 @@ use Rattle.wild_types.specs.Parts.{part_with}
 use Rattle.wild_slot.specs.SlotParts.{begins_block}
 use Rattle.wild_slot.specs.SymbolWords.{slots_of}
 use Rattle.wild_types.specs.SymbolSlots.{got_of, plt_of}
-use Rattle.wild_needs.specs.TableSymbols.{TableSymbol, file_items, item_name, is_local, null_strings, table_strings}
-use Rattle.wild_types.specs.Lookups.{has_table}
+use Rattle.wild_needs.specs.TableSymbols.{TableSymbol, file_items, item_name, is_local, section_symbols}
+use Rattle.wild_types.specs.Kinds.{is_partial_link}
+use Rattle.wild_types.specs.Lookups.{has_table, is_discarded}
+use Rattle.wild_symbols.specs.SectionSymbols.{symbol_section}
+use Rattle.wild_types.specs.declared.input.InputSection.{InputSection}
+use Rattle.std.specs.Option.{option_or}
 use Rattle.wild_symbols.specs.DynamicFields.{with_type, nowhere_with, section_named, some_section, part_section, is_thread_symbol, stands_as_stub, stub_or_zero, common_section}
 use Rattle.wild_symbols.specs.DynamicEntries.{no_fields, entry_at}
 use Rattle.wild_symbols.specs.declared.writer.SymbolAttributes.{SymbolAttributes}
@@ -79,20 +83,37 @@ abbrev pub at_address : Layout → ℕ → Symbol → Option ℕ → Option ℕ 
 at_address l i s section None a = Err (faults.MissingResolution missing.Address i)
 at_address l i s section (Some v) a = in_table_section i section (counted_from l s v) a
 
+-- where a symbol of an input section stands in the output section of a relocatable object (gABI, "Symbol Table", st_value: an offset from
+-- the beginning of the section)
+abbrev pub offset_within : Layout → ℕ → ℕ → InputSection → Option ℕ
+offset_within l i value s = if is_some s.singleton then Some value else option_or (raw_value l i) (if is_discarded s.slot then None else Some ((s.address + value) % 2 ^ 64))
+
+abbrev pub offset_by : Layout → ℕ → ℕ → Option InputSection → Option ℕ
+offset_by l i value None = raw_value l i
+offset_by l i value (Some s) = offset_within l i value s
+
+-- the value of symbol i
+abbrev pub table_value : Layout → ℕ → Symbol → Option ℕ
+table_value l i s = if is_partial_link l.kind then offset_by l i s.value (symbol_section l i) else raw_value l i
+
 -- in its section, or as its stub
 abbrev pub table_placed : Layout → ℕ → FileRole → Symbol → Option ℕ → Result TableFields Fault
 table_placed l i r s section =
     if stands_as_stub l s
     then in_table_section i (part_section (part_with role.PltGot l.parts)) (stub_or_zero s) (with_function (table_attributes r s))
-    else at_address l i s section (raw_value l i) (table_attributes r s)
+    else at_address l i s section (table_value l i s) (table_attributes r s)
 
 -- what stands in the headers, in front of all sections, is told of the first of them
 abbrev pub first_or : ℕ → ℕ
 first_or k = if k == 0 then 1 else k
 
+-- in a relocatable object an undefined symbol has no size
+abbrev pub undefined_attributes : Layout → FileRole → Symbol → SymbolAttributes
+undefined_attributes l role s = if is_partial_link l.kind then record (table_attributes role s) { size = 0 } else table_attributes role s
+
 -- by its place; section is that of its input section
 abbrev pub table_at : Layout → ℕ → FileRole → Symbol → ℕ → Place → Result TableFields Fault
-table_at l i role s section at.Undefined = Ok (short (nowhere_with (table_attributes role s)))
+table_at l i role s section at.Undefined = Ok (short (nowhere_with (undefined_attributes l role s)))
 table_at l i role s section at.Absolute = Ok (short (record { section = shn_abs; value = s.value; attributes = table_attributes role s }))
 table_at l i role s section at.Common = table_placed l i role s (common_section l s)
 table_at l i role s section (at.Output k) = table_placed l i role s (Some (first_or k))
@@ -149,9 +170,9 @@ table_fields l f x = fields_of l f x.named x.index x.symbol
 
 -- ---- entries
 
--- a name, whether it is local, and what the entry says
+-- a name, none for a section's symbol, whether it is local, and what the entry says
 pub record NamedEntry : Type 0 where
-  pub name : List ℕ
+  pub name : Option (List ℕ)
   pub local : Bool
   pub fields : TableFields
 
@@ -163,14 +184,21 @@ or_none_in_table (Ok fields) = fields
 or_none_in_table (Err f) = no_table_fields
 
 abbrev pub named_entry : Layout → File → TableSymbol → NamedEntry
-named_entry l f x = record { name = item_name x; local = is_local x; fields = or_none_in_table (table_fields l f x) }
+named_entry l f x = record { name = Some (item_name x); local = is_local x; fields = or_none_in_table (table_fields l f x) }
 
 -- the table begins with an entry of zeros, whose name is the empty string
 abbrev pub null_entry : NamedEntry
-null_entry = record { name = []; local = true; fields = no_table_fields }
+null_entry = record { name = Some []; local = true; fields = no_table_fields }
+
+-- the symbol of a section: local, without a name, at its beginning (gABI, "Symbol Table": STB_LOCAL, STT_SECTION)
+abbrev pub section_fields : ℕ → TableFields
+section_fields k = record { fields = record { section = (split_index k).0; value = 0; attributes = record { info = stt_section; other = 0; size = 0 } }; long = (split_index k).1 % 2 ^ 32 }
+
+abbrev pub section_entry : ℕ → NamedEntry
+section_entry k = record { name = None; local = true; fields = section_fields k }
 
 abbrev pub null_entries : Layout → File → List NamedEntry
-null_entries l f = if has_table l && is_prelude f.role then null_entry ∷ [] else []
+null_entries l f = if has_table l && is_prelude f.role then null_entry ∷ map section_entry (section_symbols l) else []
 
 -- the symbols of a file's entries
 abbrev pub file_table : Layout → File → List NamedEntry
@@ -184,10 +212,19 @@ abbrev pub is_side : Bool → NamedEntry → Bool
 is_side true n = n.local
 is_side false n = not n.local
 
+-- where a name stands, and where the one behind it does; without one it is told as the empty string, with which the strings begin
+abbrev pub name_at : ℕ → Option (List ℕ) → ℕ
+name_at at None = 0
+name_at at (Some name) = at
+
+abbrev pub behind_name : ℕ → Option (List ℕ) → ℕ
+behind_name at None = at
+behind_name at (Some name) = behind_text at name
+
 -- the entries of the local ones, or of the others; the names of all stand one behind the other
 unfoldable pub side_entries : Bool → ℕ → List NamedEntry → List SymtabEntry
 side_entries local at [] = []
-side_entries local at (n ∷ ns) = (if is_side local n then entry_at at n.fields.fields ∷ [] else []) ++ side_entries local (behind_text at n.name) ns
+side_entries local at (n ∷ ns) = (if is_side local n then entry_at (name_at at n.name) n.fields.fields ∷ [] else []) ++ side_entries local (behind_name at n.name) ns
 
 -- the entries of a group, whose strings begin where the layout says
 unfoldable pub table_entries : Layout → Bool → Group → List SymtabEntry

@@ -8,7 +8,7 @@
 --   LengthsOfTexts          a file's strings have their bytes and a zero each
 --   SidesStand              entry k of a side stands at 24 k, and its name where it tells
 --   SidesAreRead            there it is read
-use Rattle.std.specs.Prelude.{◌≡◌, ℕ, ◌+◌, ◌*◌, ◌<◌, ◌≤◌, ◌^◌, Bool, true, false, List, length, map, All, slice_index_or}
+use Rattle.std.specs.Prelude.{◌≡◌, ℕ, ◌+◌, ◌*◌, ◌<◌, ◌≤◌, ◌^◌, Bool, true, false, List, length, Option, Some, None, option_to_list, All, slice_index_or}
 use Rattle.std.specs.List.{filter, flat_map}
 use Rattle.wild_words.specs.Words.{Stands}
 use Rattle.wild_words.specs.Record.{spell}
@@ -55,7 +55,7 @@ IndexesHave4Bytes = (ns : List ℕ) → length (index_bytes ns) ≡ 4 * length n
 -- ---- names
 
 abbrev pub names_of : List NamedEntry → List (List ℕ)
-names_of ns = map (λ (n : NamedEntry). n.name) ns
+names_of ns = flat_map (λ (n : NamedEntry). option_to_list n.name) ns
 
 -- the names of a file's entries are its strings
 abbrev pub NamesOfFiles : Type 0
@@ -71,12 +71,17 @@ LengthsOfTexts = (l : Layout) (f : File) → length (string_bytes (table_strings
 
 -- ---- reading
 
--- the entry at an offset says that of a symbol, and the symbol's name stands where it tells, with a zero behind it
+-- a name stands there, with a zero behind it; where there is none, the empty string is told, with which the strings begin
+abbrev pub TellsName : List ℕ → ℕ → Option (List ℕ) → Type 0
+TellsName strings at None = at ≡ 0
+TellsName strings at (Some name) = Stands strings at (string name)
+
+-- the entry at an offset says that of a symbol, and the symbol's name stands where it tells
 pub record TellsAt (table : List ℕ) (place : ℕ) (strings : List ℕ) (n : NamedEntry) : Type 0 where
   pub at : ℕ
   pub small : at < 2 ^ 32
   pub entry : Stands table place (spell (symtab_entry_fields (entry_at at n.fields.fields)))
-  pub name : Stands strings at (string n.name)
+  pub name : TellsName strings at n.name
 
 -- where the entries of a side stand, and the names of all from an offset below 2^32 on, entry k stands at 24 k, and its name
 -- where it tells
@@ -93,9 +98,9 @@ pub record NamedEntryFits (n : NamedEntry) : Type 0 where
   pub value : n.fields.fields.value < 2 ^ 64
   pub size : n.fields.fields.attributes.size < 2 ^ 64
 
--- the entry has the fields of the symbol, and the symbol's name stands at st_name, with a zero behind it
+-- the entry has the fields of the symbol, and the symbol's name stands at st_name
 pub record IsEntryOf (strings : List ℕ) (n : NamedEntry) (e : SymtabEntry) : Type 0 where
-  pub name : Stands strings e.name (string n.name)
+  pub name : TellsName strings e.name n.name
   pub info : e.info ≡ n.fields.fields.attributes.info
   pub other : e.other ≡ n.fields.fields.attributes.other
   pub section : e.section ≡ n.fields.fields.section

@@ -4,10 +4,10 @@
 --   room_for_prefix n m w         there is room for n global symbols and m bytes of strings, or InsufficientAllocation
 --   prefix_of n m w               the writer with that room alone; kept_behind n m w is what that leaves behind
 --   joined kept w                 the room behind is the writer's again
-use Rattle.std.specs.Prelude.{ℕ, Bool, List, Result, Ok, Err}
+use Rattle.std.specs.Prelude.{ℕ, Bool, List, Option, Some, None, Result, Ok, Err}
 use Rattle.wild_records.specs.declared.symbol_section.SymbolSection.{SymbolSection}
 use Rattle.wild_types.specs.declared.fault.Error.{Error}
-use Rattle.wild_symbols.specs.Strings.{room_for_string, left_of_strings, room_for_bytes, kept_strings, front_strings, strings_joined}
+use Rattle.wild_symbols.specs.Strings.{Strings, room_for_string, left_of_strings, room_for_bytes, kept_strings, front_strings, strings_joined}
 use Rattle.wild_symbols.specs.Indexes.{room_for_index, left_of_indexes, room_for_indexes, kept_indexes, front_indexes, indexes_joined}
 use Rattle.wild_symbols.specs.Symbols.{room_for_entry, left_of_symbols, room_for_entries, kept_symbols, front_symbols, symbols_joined}
 use Rattle.wild_symbols.specs.declared.prefix.KeptBehind.{KeptBehind}
@@ -24,12 +24,17 @@ and_then (Ok t) (Ok x) = Ok tt
 abbrev pub room_in_lists : Bool → ℕ → SymbolTableWriter → Result (Unit {0}) Error
 room_in_lists local n w = and_then (room_for_entry (list_of local w)) (room_for_index n (indexes_of local w))
 
+-- there is room for a name, where there is one
+abbrev pub room_for_name : Option (List ℕ) → Strings → Result ℕ Error
+room_for_name None t = Ok 0
+room_for_name (Some name) t = room_for_string name t
+
 -- and for its name
-abbrev pub room_for_fields : Bool → List ℕ → ℕ → SymbolTableWriter → Result (Unit {0}) Error
-room_for_fields local name n w = and_then (room_in_lists local n w) (room_for_string name w.strtab)
+abbrev pub room_for_fields : Bool → Option (List ℕ) → ℕ → SymbolTableWriter → Result (Unit {0}) Error
+room_for_fields local name n w = and_then (room_in_lists local n w) (room_for_name name w.strtab)
 
 abbrev pub room_for_symbol : Bool → List ℕ → SymbolSection → SymbolTableWriter → Result (Unit {0}) Error
-room_for_symbol local name s w = room_for_fields local name (long_of s) w
+room_for_symbol local name s w = room_for_fields local (Some name) (long_of s) w
 
 -- no table has room left; else the first that has, in the order of roles
 abbrev pub left_over : SymbolTableWriter → Result (Unit {0}) Error

@@ -6,7 +6,7 @@
 --   with_fields local name t w    one symbol, its longer index and its name more
 --   with_symbol local name s value a w    the same of a symbol in that section, at that value
 --   with_copied name section value s w    a symbol of the layout and its name more
-use Rattle.std.specs.Prelude.{ℕ, ◌/◌, ◌%◌, ◌==◌, ◌||◌, if◌then◌else◌, Bool, true, false, List, [], Option, Some, None, slice_get}
+use Rattle.std.specs.Prelude.{ℕ, ◌/◌, ◌%◌, ◌==◌, ◌||◌, if◌then◌else◌, Bool, true, false, List, [], Option, Some, None, option_to_list, slice_get}
 use Rattle.wild_records.specs.Abi.Section.{shn_undef}
 use Rattle.wild_records.specs.Abi.Symbol.{stb_local}
 use Rattle.wild_records.specs.SymbolSections.{split_index}
@@ -21,9 +21,10 @@ use Rattle.wild_types.specs.declared.layout.Layout.{Layout}
 use Rattle.wild_types.specs.Flags.{has_flag, downgrade_to_local}
 use Rattle.wild_types.specs.Shares.{part_of, share_of}
 use Rattle.wild_needs.specs.TableSymbols.{has_long}
-use Rattle.wild_symbols.specs.Strings.{offset_of, with_string}
+use Rattle.wild_symbols.specs.Strings.{offset_of, with_strings}
 use Rattle.wild_symbols.specs.Indexes.{Indexes, with_index}
 use Rattle.wild_symbols.specs.Symbols.{Symbols, with_entry}
+use Rattle.wild_symbols.specs.TableEntries.{name_at}
 use Rattle.wild_symbols.specs.declared.dynamic.SymbolFields.{SymbolFields}
 use Rattle.wild_symbols.specs.declared.table.TableFields.{TableFields}
 use Rattle.wild_symbols.specs.declared.writer.SymbolAttributes.{SymbolAttributes}
@@ -117,16 +118,16 @@ abbrev pub with_listed : Bool → SymtabEntry → ℕ → SymbolTableWriter → 
 with_listed true e n w = record w { locals = with_entry e w.locals; local_indexes = with_index n w.local_indexes }
 with_listed false e n w = record w { globals = with_entry e w.globals; global_indexes = with_index n w.global_indexes }
 
--- one string more
-abbrev pub with_name : List ℕ → SymbolTableWriter → SymbolTableWriter
-with_name name w = record w { strtab = with_string name w.strtab }
+-- one string more, where there is a name
+abbrev pub with_name : Option (List ℕ) → SymbolTableWriter → SymbolTableWriter
+with_name name w = record w { strtab = with_strings (option_to_list name) w.strtab }
 
--- one symbol more of which that is said, whose name is the next string
-abbrev pub with_fields : Bool → List ℕ → TableFields → SymbolTableWriter → SymbolTableWriter
-with_fields local name t w = with_listed local (placed (offset_of w.strtab) t.fields) t.long (with_name name w)
+-- one symbol more of which that is said, whose name, where it has one, is the next string
+abbrev pub with_fields : Bool → Option (List ℕ) → TableFields → SymbolTableWriter → SymbolTableWriter
+with_fields local name t w = with_listed local (placed (name_at (offset_of w.strtab) name) t.fields) t.long (with_name name w)
 
 abbrev pub with_symbol : Bool → List ℕ → SymbolSection → ℕ → SymbolAttributes → SymbolTableWriter → SymbolTableWriter
-with_symbol local name s value a w = with_fields local name (told s value a) w
+with_symbol local name s value a w = with_fields local (Some name) (told s value a) w
 
 -- a symbol that no section has, of value 0
 abbrev pub with_undefined : Bool → List ℕ → SymbolAttributes → SymbolTableWriter → SymbolTableWriter

@@ -4,7 +4,11 @@
 mod dynamic;
 mod index_table;
 mod laws;
+mod map;
+mod numbers;
 mod prefix;
+mod section_index;
+mod section_walk;
 mod strtab;
 mod symbol_table;
 mod table;
@@ -18,8 +22,10 @@ pub use laws::{
     entries_are_counted, names_are_strings, prefixes_are_the_writers, runs_are_read,
     sides_are_read, strings_stand, symbols_are_read,
 };
+pub use map::{build_sym_index_map, named_index};
 pub use prefix::{KeptBehind, SymbolTablePrefix};
+pub use section_walk::{SectionSink, give_section_symbols};
 pub use strtab::StrTabWriter;
 pub use symbol_table::SymbolTable;
-pub use table::{TableFields, null_table_fields, table_fields};
+pub use table::{TableFields, null_table_fields, section_fields, table_fields};
 pub use writer::{SymbolAttributes, SymbolTableWriter, dynstr_start, strtab_start};

@@ -1,14 +1,17 @@
 //! What the entries of `.symtab` say of symbols (gABI, "Symbol Table").
-ghost use Rattle.std.specs.Prelude.{◌≡◌, ◌%◌, ◌^◌, Some, slice_get};
+ghost use Rattle.std.specs.Prelude.{◌≡◌, ℕ, ◌%◌, ◌^◌, true, Some, slice_get, option_copied};
 ghost use Rattle.wild_records.specs.SymbolSections.{split_index};
+ghost use Rattle.wild_types.specs.declared.layout.Layout.{Layout};
 ghost use Rattle.wild_types.specs.Addresses.{raw_value};
+ghost use Rattle.wild_types.specs.Kinds.{is_partial_link};
+ghost use Rattle.wild_symbols.specs.SectionSymbols.{symbol_section};
 ghost use Rattle.wild_needs.specs.DynamicSymbols.{output_section};
 ghost use Rattle.wild_slot.specs.SlotParts.{begins_block};
 ghost use Rattle.wild_slot.specs.SymbolWords.{slots_of};
 ghost use Rattle.wild_types.specs.SymbolSlots.{got_of, plt_of};
 ghost use Rattle.wild_types.specs.Parts.{part_with};
 ghost use Rattle.wild_symbols.specs.DynamicFields.{named_sections, part_section};
-ghost use Rattle.wild_symbols.specs.TableEntries.{table_info, table_attributes, with_function, short, in_table_section, counted_from, at_address, table_placed, first_or, table_at, table_canonical, table_by, no_attributes, slot_role, thunk_attributes, thunk_fields, fields_of, no_table_fields};
+ghost use Rattle.wild_symbols.specs.TableEntries.{table_info, table_attributes, with_function, short, in_table_section, counted_from, at_address, offset_within, offset_by, table_value, table_placed, undefined_attributes, section_fields, first_or, table_at, table_canonical, table_by, no_attributes, slot_role, thunk_attributes, thunk_fields, fields_of, no_table_fields};
 ghost use Rattle.wild_symbols.specs.SlotNames.{slot_fields};
 
 use crate::dynamic::{
@@ -18,9 +21,9 @@ use crate::dynamic::{
 use crate::writer::SymbolAttributes;
 use wild_needs::Named;
 use wild_records::abi::section::{SHN_ABS, SHN_LORESERVE, SHN_UNDEF};
-use wild_records::abi::symbol::STT_FUNC;
+use wild_records::abi::symbol::{STT_FUNC, STT_SECTION};
 use wild_slot::{SlotWord, SymbolSlots};
-use wild_types::{Fault, File, FileRole, Layout, Missing, Place, Symbol, THUNK_SIZE};
+use wild_types::{Fault, File, FileRole, InputSection, Layout, Missing, Place, Symbol, THUNK_SIZE};
 
 /// What an entry of `.symtab` says of a symbol besides its name.
 #[derive(Clone, Copy)]
@@ -153,6 +156,19 @@ fn no_attributes() -> SymbolAttributes
     }
 }
 
+/// Where a symbol at an offset of an input section stands in the output section of a relocatable object.
+fn offset_within(section: &InputSection, value: u64, raw: Option<u64>) -> Option<u64>
+    ensures { (l : Layout) (i : ℕ) → raw ≡ raw_value l i → result ≡ offset_within l i value section.now }
+{
+    if section.singleton.is_some() {
+        Some(value)
+    } else if section.slot.is_discarded() {
+        raw
+    } else {
+        raw.or(Some(section.address.wrapping_add(value)))
+    }
+}
+
 /// A symbol that a table has, and what is known of it.
 #[derive(Drop)]
 struct Subject<'a> {
@@ -162,8 +178,10 @@ struct Subject<'a> {
     index: usize,
     symbol: &'a Symbol,
     raw: Option<u64>,
+    within: Option<&'a InputSection>,
     ghost sections_are: { sections.now ≡ named_sections layout.now },
     ghost raw_is: { raw ≡ raw_value layout.now index },
+    ghost within_is: { is_partial_link layout.now.kind ≡ true → option_copied within ≡ symbol_section layout.now index },
 }
 
 impl Subject<'_> {
@@ -174,11 +192,47 @@ impl Subject<'_> {
         table_attributes(self.role, self.symbol)
     }
 
-    /// What is said of it at its address, in a section.
-    fn at_address(&self, section: Option<usize>) -> Result<TableFields, Fault>
-        ensures { result ≡ at_address self.now.layout.now self.now.index self.now.symbol.now section (raw_value self.now.layout.now self.now.index) (table_attributes self.now.role self.now.symbol.now) }
+    /// What is said of it where nothing defines it: in a relocatable object no size.
+    fn undefined_attributes(&self) -> SymbolAttributes
+        ensures { result ≡ undefined_attributes self.now.layout.now self.now.role self.now.symbol.now }
     {
-        match self.raw {
+        let attributes = self.attributes();
+        if self.layout.kind.is_partial_link() {
+            SymbolAttributes {
+                size: 0,
+                ..attributes
+            }
+        } else {
+            attributes
+        }
+    }
+
+    /// Where it stands in the output section of a relocatable object.
+    fn offset(&self) -> Option<u64>
+        ensures { option_copied self.now.within ≡ symbol_section self.now.layout.now self.now.index → result ≡ offset_by self.now.layout.now self.now.index self.now.symbol.now.value (symbol_section self.now.layout.now self.now.index) }
+    {
+        match self.within {
+            Some(section) => offset_within(section, self.symbol.value, self.raw),
+            None => self.raw,
+        }
+    }
+
+    /// Its value.
+    fn value(&self) -> Option<u64>
+        ensures { result ≡ table_value self.now.layout.now self.now.index self.now.symbol.now }
+    {
+        if self.layout.kind.is_partial_link() {
+            self.offset()
+        } else {
+            self.raw
+        }
+    }
+
+    /// What is said of it at a value, in a section.
+    fn at(&self, value: Option<u64>, section: Option<usize>) -> Result<TableFields, Fault>
+        ensures { result ≡ at_address self.now.layout.now self.now.index self.now.symbol.now section value (table_attributes self.now.role self.now.symbol.now) }
+    {
+        match value {
             Some(address) => in_table_section(
                 self.index,
                 section,
@@ -205,7 +259,7 @@ impl Subject<'_> {
                 with_function(self.attributes()),
             )
         } else {
-            self.at_address(section)
+            self.at(self.value(), section)
         }
     }
 
@@ -214,7 +268,7 @@ impl Subject<'_> {
         ensures { result ≡ table_at self.now.layout.now self.now.index self.now.role self.now.symbol.now section self.now.symbol.now.place }
     {
         match self.symbol.place {
-            Place::Undefined => Ok(short(nowhere_with(self.attributes()))),
+            Place::Undefined => Ok(short(nowhere_with(self.undefined_attributes()))),
             Place::Absolute => Ok(short(SymbolFields {
                 section: SHN_ABS,
                 value: self.symbol.value,
@@ -251,7 +305,7 @@ impl Subject<'_> {
         if self.role.is_library() && self.symbol.flags.needs_canonical_plt() {
             self.canonical()
         } else if self.role.is_library() && self.symbol.flags.needs_copy_relocation() {
-            self.at_address(self.sections.bss)
+            self.at(self.raw, self.sections.bss)
         } else {
             self.by_place(section)
         }
@@ -316,8 +370,28 @@ fn thunk_fields(layout: &Layout, index: usize, address: u64) -> Result<TableFiel
     in_table_section(index, thunk_section(layout), address, thunk_attributes())
 }
 
+/// What the symbol of a section says: it is local, and stands at the section's beginning.
+pub fn section_fields(section: usize) -> TableFields
+    ensures { result ≡ section_fields section }
+{
+    let attributes = SymbolAttributes {
+        info: STT_SECTION,
+        other: 0,
+        size: 0,
+    };
+    TableFields {
+        fields: SymbolFields {
+            section: section_number(section),
+            value: 0,
+            attributes,
+        },
+        long: long_index(section),
+    }
+}
+
 /// What the entry of a symbol says, or of the name of its slot, its stub or a thunk to it. The symbol has that number, stands in the
-/// output section with that header index (0: in none), and has the address `raw`.
+/// output section with that header index (0: in none), and has the address `raw`; in a relocatable object it stands in the input
+/// section `within`.
 ///
 /// # Errors
 ///
@@ -331,10 +405,12 @@ pub fn table_fields(
     symbol: &Symbol,
     section: usize,
     raw: Option<u64>,
+    within: Option<&InputSection>,
     sections: &NamedSections,
 ) -> Result<TableFields, Fault>
     requires section { section ≡ output_section layout.now (Some file.now) symbol.now.place }
     requires address { raw ≡ raw_value layout.now index }
+    requires within { is_partial_link layout.now.kind ≡ true → option_copied within ≡ symbol_section layout.now index }
     requires sections { sections.now ≡ named_sections layout.now }
     ensures { result ≡ fields_of layout.now file.now named index symbol.now }
 {
@@ -347,6 +423,7 @@ pub fn table_fields(
                 index,
                 symbol,
                 raw,
+                within,
             };
             subject.fields(section)
         }

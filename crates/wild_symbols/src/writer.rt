@@ -1,5 +1,5 @@
 //! The writer of a group's symbol tables.
-ghost use Rattle.std.specs.Prelude.{false, ◌≡◌, ℕ, ◌+◌, ◌*◌, ◌^◌, ◌<◌, ◌≤◌, true, ◌++◌, length, take, OnOk, OnErr, IfOk, slice_index_or};
+ghost use Rattle.std.specs.Prelude.{false, ◌≡◌, ℕ, ◌+◌, ◌*◌, ◌^◌, ◌<◌, ◌≤◌, true, ◌++◌, length, take, OnOk, OnErr, IfOk, Some, None, slice_index_or};
 ghost use Rattle.wild_types.specs.declared.part.Role.TheVariants.{Dynstr, Strtab};
 ghost use Rattle.wild_records.specs.SymtabEntry.{symtab_entry_size, symtab_entry_at};
 ghost use Rattle.wild_records.specs.declared.symtab_entry.SymtabEntry.{SymtabEntry as Entry};
@@ -9,17 +9,19 @@ ghost use Rattle.wild_records.specs.declared.symbol_section.SymbolSection.TheVar
 ghost use Rattle.wild_records.specs.Abi.Section.{shn_abs, shn_undef};
 ghost use Rattle.wild_symbols.specs.Symbols.{symbol_bytes, symbols_used};
 ghost use Rattle.wild_symbols.specs.Indexes.{index_room};
-ghost use Rattle.wild_symbols.specs.Tables.{dynstr_start, strtab_start, symbols_with, indexes_with, no_dynamic_symbols, no_symbols, section_number, long_of, told, list_of, indexes_of, with_listed, with_fields, with_symbol, with_undefined, is_local, copied_attributes, with_copied};
+ghost use Rattle.wild_symbols.specs.Tables.{dynstr_start, placed, strtab_start, symbols_with, indexes_with, no_dynamic_symbols, no_symbols, section_number, long_of, told, list_of, indexes_of, with_listed, with_fields, with_symbol, with_undefined, is_local, copied_attributes, with_copied};
 ghost use Rattle.wild_symbols.specs.TableRoom.{room_in_lists, room_for_fields, room_for_symbol, left_over};
 ghost use Rattle.wild_symbols.specs.DynamicFields.{named_sections};
 ghost use Rattle.wild_symbols.specs.SlotNames.{slot_entry, slot_names, offered, given, all_offered, all_given};
+ghost use Rattle.wild_symbols.specs.SectionCalls.{section_calls};
 ghost use Rattle.wild_symbols.specs.Runs.{defined, undefined, called};
 
 use crate::dynamic::{NamedSections, SymbolFields};
 use crate::index_table::IndexTable;
+use crate::section_walk::{SectionSink, give_section_symbols};
 use crate::strtab::StrTabWriter;
 use crate::symbol_table::SymbolTable;
-use crate::table::{TableFields, slot_fields};
+use crate::table::{TableFields, section_fields, slot_fields};
 use std::alloc::{AllocError, Global};
 use wild_needs::{Named, has_long, suffix};
 use wild_records::abi::section::{SHN_ABS, SHN_UNDEF};
@@ -108,6 +110,20 @@ fn section_number(section: SymbolSection) -> u16
     }
 }
 
+/// The entry of a symbol, by the offset of its name.
+fn placed(name: u32, fields: SymbolFields) -> SymtabEntry
+    ensures { result ≡ placed name fields }
+{
+    SymtabEntry {
+        name,
+        info: fields.attributes.info,
+        other: fields.attributes.other,
+        section: fields.section,
+        value: fields.value,
+        size: fields.attributes.size,
+    }
+}
+
 /// Whether a table has the symbol as a local one: by its binding, or since it was made one.
 fn is_local(symbol: &Symbol) -> bool
     ensures { result ≡ is_local symbol.now }
@@ -173,6 +189,22 @@ fn no_indexes(
     ensures { IfOk result (λ t. t ≡ indexes_with layout.now group role 0 false) }
 {
     IndexTable::new(alloc, part_of(layout, role), group, 0, false)
+}
+
+/// The symbol of a section is written as a local one without a name.
+impl SectionSink for SymbolTableWriter {
+    ghost use Rattle.wild_symbols.specs.SectionCalls.{SectionWritten, SectionRefused};
+
+    type Error = Error;
+
+    ghost goes = { SectionWritten };
+
+    ghost refuses = { SectionRefused };
+
+    #[tactic(auto, using(crate::proofs::SectionRunLemmas::one_section))]
+    fn take(&mut self, header: usize) -> Result<(), Error> {
+        self.write_unnamed(true, section_fields(header))
+    }
 }
 
 impl SymbolTableWriter {
@@ -250,19 +282,12 @@ impl SymbolTableWriter {
         told: TableFields,
     ) -> Result<(), Error>
         requires { length suffix.now ≤ 4 }
-        ensures answered { result ≡ room_for_fields is_local (name.now ++ suffix.now) told.long self.old }
-        ensures written { OnOk result (self.new ≡ with_fields is_local (name.now ++ suffix.now) told self.old) }
+        ensures answered { result ≡ room_for_fields is_local (Some (name.now ++ suffix.now)) told.long self.old }
+        ensures written { OnOk result (self.new ≡ with_fields is_local (Some (name.now ++ suffix.now)) told self.old) }
         ensures kept { OnErr result (self.new ≡ self.old) }
     {
         self.check_room(is_local, told.long)?;
-        let entry = SymtabEntry {
-            name: self.strtab.write_joined(name, suffix)?,
-            info: told.fields.attributes.info,
-            other: told.fields.attributes.other,
-            section: told.fields.section,
-            value: told.fields.value,
-            size: told.fields.attributes.size,
-        };
+        let entry = placed(self.strtab.write_joined(name, suffix)?, told.fields);
         self.push(is_local, entry, told.long);
         Ok(())
     }
@@ -281,12 +306,44 @@ impl SymbolTableWriter {
         name: &[u8],
         told: TableFields,
     ) -> Result<(), Error>
-        ensures answered { result ≡ room_for_fields is_local name.now told.long self.old }
-        ensures written { OnOk result (self.new ≡ with_fields is_local name.now told self.old) }
+        ensures answered { result ≡ room_for_fields is_local (Some name.now) told.long self.old }
+        ensures written { OnOk result (self.new ≡ with_fields is_local (Some name.now) told self.old) }
         ensures kept { OnErr result (self.new ≡ self.old) }
-        ensures call { self.new ≡ called (record { name = name.now; local = is_local; fields = told }) self.old }
+        ensures call { self.new ≡ called (record { name = Some name.now; local = is_local; fields = told }) self.old }
     {
         self.write_named(is_local, name, b"", told)
+    }
+
+    /// Writes a symbol without a name behind the others of its list, and its longer section index, where each symbol has one or its
+    /// section needs it, behind the others of that list. Its name is told as the empty string, with which the strings of all begin.
+    ///
+    /// # Errors
+    ///
+    /// `InsufficientAllocation` exactly where the symbol, or else its longer section index, does not fit what is left of its share;
+    /// nothing changes then.
+    pub fn write_unnamed(&mut self, is_local: bool, told: TableFields) -> Result<(), Error>
+        ensures answered { result ≡ room_for_fields is_local None told.long self.old }
+        ensures written { OnOk result (self.new ≡ with_fields is_local None told self.old) }
+        ensures kept { OnErr result (self.new ≡ self.old) }
+        ensures call { self.new ≡ called (record { name = None; local = is_local; fields = told }) self.old }
+    {
+        self.check_room(is_local, told.long)?;
+        self.push(is_local, placed(0, told.fields), told.long);
+        Ok(())
+    }
+
+    /// Writes the symbols of the sections of a relocatable object as local ones without names, in their order. No memory is taken.
+    ///
+    /// # Errors
+    ///
+    /// `InsufficientAllocation` exactly where a symbol, or else its longer section index, does not fit what is left of its share; only
+    /// what stands in front is written then.
+    #[tactic(auto, using(crate::proofs::SectionRunLemmas::sections_written))]
+    pub fn write_section_symbols(&mut self, layout: &Layout) -> Result<(), Error>
+        ensures answered { result ≡ all_offered (section_calls layout.now) self.old }
+        ensures left { self.new ≡ all_given (section_calls layout.now) self.old }
+    {
+        give_section_symbols(layout, self)
     }
 
     /// Writes the name of a symbol's stub, or else of its slot, as a local symbol.

@@ -48,6 +48,8 @@ impl Job<Reads> for Marks {
 
     ghost counts_of = { λ _ g. (1, read_by g) ∷ [] };
 
+    ghost ready = { λ _. Unit {0} };
+
     fn groups(&self) -> u32 {
         3
     }

@@ -3,7 +3,8 @@ use crate::layouts::layout_of;
 use std::alloc::Global;
 use std::test::*;
 use wild_plan::{
-    File, FileRole, Group, Layout, Options, Part, Role, Symbol, VersionDefinition, VersionNeeds,
+    File, FileRole, Group, InputSection, Layout, Options, Part, Role, Section, SectionIndex, Slot,
+    Symbol, VersionDefinition, VersionNeeds,
 };
 
 const ROLES: [(&str, Role); 25] = [
@@ -45,6 +46,52 @@ fn words_of_roles(rt: HostRuntime) -> Result<(), Fail> {
         let plan = format!(in rt.alloc(); r#"{{"parts":[{{"role":"{word}"}}]}}"#)?;
         assert!(rt;
             holds(rt.alloc(), plan.as_str(), Case::Role(*role))?,
+            "{word}"
+        );
+    }
+    Ok(())
+}
+
+const SLOTS: [Slot; 8] = [
+    Slot::Discard,
+    Slot::Loaded,
+    Slot::Sorted,
+    Slot::Debug,
+    Slot::Frame,
+    Slot::Merge,
+    Slot::Rela,
+    Slot::Group,
+];
+
+fn word_of(slot: Slot) -> &'static str {
+    match slot {
+        Slot::Discard => "discard",
+        Slot::Loaded => "loaded",
+        Slot::Sorted => "sorted",
+        Slot::Debug => "debug",
+        Slot::Frame => "frame",
+        Slot::Merge => "merge",
+        Slot::Rela => "rela",
+        Slot::Group => "group",
+    }
+}
+
+/// Whether the layout has one input section, of that slot.
+fn has_slot(layout: &Layout, slot: Slot) -> bool {
+    matches!(layout.groups.as_slice(), [group]
+        if matches!(group.files.as_slice(), [file]
+            if matches!(file.sections.as_slice(), [section] if word_of(section.slot) == word_of(slot))))
+}
+
+#[test]
+fn words_of_slots(rt: HostRuntime) -> Result<(), Fail> {
+    for slot in &SLOTS {
+        let word = word_of(*slot);
+        let plan = format!(in rt.alloc();
+            r#"{{"groups":[{{"files":[{{"sections":[{{"slot":"{word}"}}]}}]}}]}}"#
+        )?;
+        assert!(rt;
+            holds(rt.alloc(), plan.as_str(), Case::Slot(*slot))?,
             "{word}"
         );
     }
@@ -209,8 +256,49 @@ fn members_of_symbols_and_files(rt: HostRuntime) -> Result<(), Fail> {
     Ok(())
 }
 
+/// What a relocatable object alone has, and the options of debug sections.
+const PARTIAL: &str =
+    r#"{"kind":"partial","options":{"only_keep_debug":true,"new_tombstones":true},"sections":[{},{"section_symbol":true}],"groups":[{"files":[{"sections":[{"slot":"loaded","singleton":0},{"slot":"rela","target":7},{"slot":"group","members":[3,1]}]}]}]}"#;
+
+fn have_symbols(sections: &[Section]) -> bool {
+    matches!(sections, [none, code] if !none.section_symbol && code.section_symbol)
+}
+
+fn is_alone(section: &InputSection) -> bool {
+    section.singleton == Some(SectionIndex(0)) && section.target == 0
+}
+
+fn is_of_target(section: &InputSection) -> bool {
+    section.singleton.is_none() && section.target == 7 && section.members.len() == 0
+}
+
+fn has_its_members(section: &InputSection) -> bool {
+    matches!(section.members.as_slice(), [a, b] if *a == SectionIndex(3) && *b == SectionIndex(1))
+}
+
+fn are_kept(sections: &[InputSection]) -> bool {
+    matches!(sections, [code, table, group] if is_alone(code) && is_of_target(table) && has_its_members(group))
+}
+
+fn has_kept(groups: &[Group]) -> bool {
+    matches!(groups, [group] if matches!(group.files.as_slice(), [file] if are_kept(file.sections.as_slice())))
+}
+
+fn is_partial(layout: &Layout) -> bool {
+    layout.kind.is_partial_link()
+        && layout.options.only_keep_debug
+        && layout.options.new_tombstones
+        && have_symbols(layout.sections.as_slice())
+}
+
+#[test]
+fn members_of_relocatable_objects(rt: HostRuntime) -> Result<(), Fail> {
+    assert!(rt; holds(rt.alloc(), PARTIAL, Case::Partial)?);
+    Ok(())
+}
+
 fn asks_nothing(asked: &Options) -> bool {
-    !asked.strip_all && !asked.versions && !asked.got_plt_syms
+    !asked.strip_all && !asked.versions && !asked.new_tombstones
 }
 
 fn has_nothing(layout: &Layout) -> bool {
@@ -233,7 +321,9 @@ enum Case {
     Role(Role),
     Flags(u32),
     Output,
+    Slot(Slot),
     Files,
+    Partial,
     Absent,
 }
 
@@ -244,7 +334,9 @@ fn has_members(layout: &Layout, case: Case) -> bool {
         Case::Output => {
             has_output(layout) && has_addresses(layout) && has_tables(layout) && has_asked(layout)
         }
+        Case::Slot(slot) => has_slot(layout, slot),
         Case::Files => has_symbols(layout) && has_groups(layout),
+        Case::Partial => is_partial(layout) && has_kept(layout.groups.as_slice()),
         Case::Absent => has_nothing(layout),
     }
 }

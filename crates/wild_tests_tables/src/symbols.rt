@@ -221,6 +221,9 @@ fn put_told(
     file: &File,
     index: usize,
 ) -> Result<(), Fail> {
+    if layout.kind.is_partial_link() {
+        return Err("a relocatable object".into());
+    }
     let sections = NamedSections::of(layout);
     let symbol = symbol_of(layout, index)?;
     let section = section_of(symbol)?;
@@ -233,6 +236,7 @@ fn put_told(
         symbol,
         section,
         raw,
+        None,
         &sections,
     )
     .ok()

@@ -5,7 +5,7 @@ use std::test::*;
 use wild_text::{PlanFault, no_plan_answer, read_plan};
 
 /// Values, each with the path of its first wrong member.
-const WRONG: [(&str, &str); 59] = [
+const WRONG: [(&str, &str); 66] = [
     ("[]", ""),
     (r#"{"options":7}"#, "/options"),
     (r#"{"options":{"strip_all":0}}"#, "/options/strip_all"),
@@ -33,8 +33,17 @@ const WRONG: [(&str, &str); 59] = [
         r#"{"options":{"strip_all":true,"auxiliary":["61",null]}}"#,
         "/options/auxiliary/1",
     ),
+    (
+        r#"{"options":{"new_tombstones":0,"only_keep_debug":1}}"#,
+        "/options/only_keep_debug",
+    ),
+    (
+        r#"{"options":{"new_tombstones":"-1","rpath":0}}"#,
+        "/options/new_tombstones",
+    ),
     (r#"{"machine":"aarch32"}"#, "/machine"),
-    (r#"{"kind":"partial","machine":"x86_64"}"#, "/kind"),
+    (r#"{"kind":"relocatable","machine":"x86_64"}"#, "/kind"),
+    (r#"{"kind":"partial","page_size":null}"#, "/page_size"),
     (r#"{"page_size":-1}"#, "/page_size"),
     (r#"{"page_size":-0}"#, "/page_size"),
     (r#"{"page_size":1e3}"#, "/page_size"),
@@ -69,6 +78,10 @@ const WRONG: [(&str, &str); 59] = [
     (r#"{"sections":[{"name":"0"}]}"#, "/sections/0/name"),
     (r#"{"sections":[{"kind":4294967296}]}"#, "/sections/0/kind"),
     (r#"{"sections":[{"fill":0}]}"#, "/sections/0/fill"),
+    (
+        r#"{"sections":[{"fill":null,"section_symbol":1}]}"#,
+        "/sections/0/section_symbol",
+    ),
     (r#"{"segments":[{"flags":null}]}"#, "/segments/0/flags"),
     (r#"{"symbols":[{"info":256}]}"#, "/symbols/0/info"),
     (r#"{"symbols":[{"place":{}}]}"#, "/symbols/0/place"),
@@ -108,6 +121,18 @@ const WRONG: [(&str, &str); 59] = [
     (
         r#"{"groups":[{"files":[{"sections":[{"slot":"frames"}]}]}]}"#,
         "/groups/0/files/0/sections/0/slot",
+    ),
+    (
+        r#"{"groups":[{"files":[{"sections":[{"singleton":"1","target":null}]}]}]}"#,
+        "/groups/0/files/0/sections/0/singleton",
+    ),
+    (
+        r#"{"groups":[{"files":[{"sections":[{"singleton":null,"target":null,"members":0}]}]}]}"#,
+        "/groups/0/files/0/sections/0/target",
+    ),
+    (
+        r#"{"groups":[{"files":[{"sections":[{"members":[3,-1],"bytes":0}]}]}]}"#,
+        "/groups/0/files/0/sections/0/members/1",
     ),
     (
         r#"{"groups":[{"files":[{"sections":[{"bytes":"0g"}]}]}]}"#,

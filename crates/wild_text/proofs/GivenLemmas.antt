@@ -1,12 +1,11 @@
--- What holds of the values that readers give, because it holds of each item, word or default.
-use Rattle.std.proofs.Common.{◌≡◌, ℕ, ◌+◌, List, [], ◌∷◌, Result, Ok, Err, Option, Some, None, refl, subst, Bool, true, false, cond, inl, inr, decimal}
-use Rattle.std.specs.Prelude.{◌⊎◌, All, is_some, option_and_then}
-use Rattle.std.specs.Str.{bytes_eq}
-use Rattle.std.proofs.lemmas.List.Elements.{All-nil, All-cons, All-head, All-tail}
+-- What holds of the values that readers give, because it holds of each item or default.
+use Rattle.std.proofs.Common.{◌≡◌, ℕ, ◌+◌, List, [], ◌∷◌, Result, Ok, Err, Option, Some, None, refl, subst, Bool, true, false, decimal}
+use Rattle.std.specs.Prelude.{All, is_some}
+use Rattle.std.proofs.lemmas.List.Elements.{All-nil, All-cons}
 use Rattle.serde_json.specs.Data.{Data, Items, no_items, item}
-use Rattle.serde_json.specs.Find.{get, as_array, as_null, as_str}
-use Rattle.wild_text.specs.Reads.{◌>>=◌, under, from_option}
-use Rattle.wild_text.specs.Values.{look_up, word_in, unless_null, nullable, items_from, all_items, list_in}
+use Rattle.serde_json.specs.Find.{get, as_array, as_null}
+use Rattle.wild_text.specs.Reads.{◌>>=◌, under}
+use Rattle.wild_text.specs.Values.{unless_null, nullable, items_from, all_items, list_in}
 use Rattle.wild_text.specs.Members.{field, or_default}
 
 -- a step that gave a value had one to start with
@@ -69,27 +68,3 @@ unless_null_given P r each false found e x is =
 pub nullable_given : {X : Type 0} (P : X → Type 0) (read : Data → Result X (List ℕ)) → ((d : Data) (x : X) → read d ≡ Ok x → P x)
     → (d : Data) (found : Option X) → nullable read d ≡ Ok found → (x : X) → found ≡ Some x → P x
 nullable_given P read each d = unless_null_given P (read d) (each d) (is_some (as_null d))
-
--- ---- words
-
-here_or_later : {X : Type 0} (same : Bool) (x y : X) (rest : Option X) → from_option (cond same (Some x) rest) ≡ Ok y → (x ≡ y) ⊎ (from_option rest ≡ Ok y)
-here_or_later true x y rest e = inl cc
-here_or_later false x y rest e = inr e
-
-looked_up : {X : Type 0} (P : X → Type 0) (table : List (List ℕ × X)) → All (λ (p : List ℕ × X). P p.1) table
-    → (word : List ℕ) (x : X) → from_option (look_up table word) ≡ Ok x → P x
-looked_up P [] each word x e = absurd cc
-looked_up P (p ∷ ps) each word x e = elim (here_or_later (bytes_eq p.0 word) p.1 x (look_up ps word) e) [
-  | inl same ↦ subst P same (All-head (λ (q : List ℕ × _). P q.1) p ps each)
-  | inr later ↦ looked_up P ps (All-tail (λ (q : List ℕ × _). P q.1) p ps each) word x later
-]
-
-text_given : {X : Type 0} (P : X → Type 0) (table : List (List ℕ × X)) → All (λ (p : List ℕ × X). P p.1) table
-    → (text : Option (List ℕ)) (x : X) → from_option (option_and_then (look_up table) text) ≡ Ok x → P x
-text_given P table each None x e = absurd cc
-text_given P table each (Some word) x e = looked_up P table each word x e
-
--- a word stands for one of the values of its table
-pub word_given : {X : Type 0} (P : X → Type 0) (table : List (List ℕ × X)) → All (λ (p : List ℕ × X). P p.1) table
-    → (d : Data) (x : X) → word_in table d ≡ Ok x → P x
-word_given P table each d = text_given P table each (as_str d)

@@ -32,7 +32,7 @@ output_options d = do
     execstack = execstack;
   })
 
--- options that the dynamic section tells (gABI, "Dynamic Section")
+-- options that the dynamic section tells (gABI, "Dynamic Section"), and of what debuggers read
 unfoldable pub dynamic_options : Options → Data → Result Options (List ℕ)
 dynamic_options before d = do
   new_dtags ← field (codes "new_dtags") bool_in false d
@@ -42,6 +42,8 @@ dynamic_options before d = do
   textrel ← field (codes "textrel") bool_in false d
   static_tls ← field (codes "static_tls") bool_in false d
   variant_pcs ← field (codes "variant_pcs") bool_in false d
+  only_keep_debug ← field (codes "only_keep_debug") bool_in false d
+  new_tombstones ← field (codes "new_tombstones") bool_in false d
   rpath ← field (codes "rpath") (nullable hex_in) None d
   soname ← field (codes "soname") (nullable hex_in) None d
   auxiliary ← field (codes "auxiliary") (list_in hex_in) [] d
@@ -53,6 +55,8 @@ dynamic_options before d = do
     textrel = textrel;
     static_tls = static_tls;
     variant_pcs = variant_pcs;
+    only_keep_debug = only_keep_debug;
+    new_tombstones = new_tombstones;
     rpath = rpath;
     soname = soname;
     auxiliary = auxiliary;
@@ -61,7 +65,7 @@ dynamic_options before d = do
 -- the members of options
 abbrev pub option_members : List (List ℕ)
 option_members = codes "relax" ∷ codes "relr" ∷ codes "strip_all" ∷ codes "eh_frame_hdr" ∷ codes "terminator" ∷ codes "bti" ∷ codes "versions"
-    ∷ codes "got_plt_syms" ∷ codes "execstack" ∷ codes "new_dtags" ∷ codes "origin" ∷ codes "nodelete" ∷ codes "interpose" ∷ codes "textrel" ∷ codes "static_tls" ∷ codes "variant_pcs" ∷ codes "rpath" ∷ codes "soname" ∷ codes "auxiliary" ∷ []
+    ∷ codes "got_plt_syms" ∷ codes "execstack" ∷ codes "new_dtags" ∷ codes "origin" ∷ codes "nodelete" ∷ codes "interpose" ∷ codes "textrel" ∷ codes "static_tls" ∷ codes "variant_pcs" ∷ codes "only_keep_debug" ∷ codes "new_tombstones" ∷ codes "rpath" ∷ codes "soname" ∷ codes "auxiliary" ∷ []
 
 -- what the link was asked for
 unfoldable pub options_in : Data → Result Options (List ℕ)

@@ -19,7 +19,7 @@ impl Planned for SortedSection {
             group: 0,
             file: 0,
             section: 0,
-        } rest {})
+        })
     }
 }
 
@@ -31,7 +31,7 @@ impl Planned for Merged {
         members!(alloc, json; Merged {
             part: 0,
             strings: Items::new(alloc),
-        } rest {})
+        })
     }
 }
 
@@ -43,7 +43,7 @@ impl Planned for Identity {
         members!(alloc, json; Identity {
             part: 0,
             bytes: Bytes::new(alloc),
-        } rest {})
+        })
     }
 }
 

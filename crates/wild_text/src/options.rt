@@ -38,7 +38,7 @@ fn output_options(alloc: Global, json: &Value) -> std::result::Result<Options, P
     })
 }
 
-/// Options that the dynamic section tells, added to those before.
+/// Options that the dynamic section tells and those of what debuggers read, added to those before.
 #[tactic(auto, unfolding(crate::specs::Options::dynamic_options))]
 fn dynamic_options(
     alloc: Global,
@@ -54,6 +54,8 @@ fn dynamic_options(
     let textrel = member(alloc, json, "textrel", false)?;
     let static_tls = member(alloc, json, "static_tls", false)?;
     let variant_pcs = member(alloc, json, "variant_pcs", false)?;
+    let only_keep_debug = member(alloc, json, "only_keep_debug", false)?;
+    let new_tombstones = member(alloc, json, "new_tombstones", false)?;
     let rpath = member(alloc, json, "rpath", None)?;
     let soname = member(alloc, json, "soname", None)?;
     let auxiliary = member(alloc, json, "auxiliary", Items::new(alloc))?;
@@ -65,6 +67,8 @@ fn dynamic_options(
         textrel,
         static_tls,
         variant_pcs,
+        only_keep_debug,
+        new_tombstones,
         rpath,
         soname,
         auxiliary,
@@ -100,6 +104,8 @@ impl Planned for Options {
                 "textrel",
                 "static_tls",
                 "variant_pcs",
+                "only_keep_debug",
+                "new_tombstones",
                 "rpath",
                 "soname",
                 "auxiliary",

@@ -14,7 +14,7 @@ impl Planned for SysvHash {
     fn read(alloc: Global, json: &Value) -> std::result::Result<SysvHash, PlanFault> {
         members!(alloc, json; SysvHash {
             buckets: 0,
-        } rest {})
+        })
     }
 }
 
@@ -28,7 +28,7 @@ impl Planned for GnuHash {
             bloom_count: 0,
             bloom_shift: 0,
             base: 0,
-        } rest {})
+        })
     }
 }
 
@@ -40,6 +40,6 @@ impl Planned for Thunk {
         members!(alloc, json; Thunk {
             symbol: SymbolIndex(0),
             address: 0,
-        } rest {})
+        })
     }
 }

@@ -16,7 +16,7 @@ impl Planned for VersionDefinition {
         members!(alloc, json; VersionDefinition {
             name: Bytes::new(alloc),
             parent: None,
-        } rest {})
+        })
     }
 }
 
@@ -28,7 +28,7 @@ impl Planned for NeededVersion {
         members!(alloc, json; NeededVersion {
             name: Bytes::new(alloc),
             index: 0,
-        } rest {})
+        })
     }
 }
 
@@ -40,6 +40,6 @@ impl Planned for VersionNeeds {
         members!(alloc, json; VersionNeeds {
             last: false,
             versions: Items::new(alloc),
-        } rest {})
+        })
     }
 }

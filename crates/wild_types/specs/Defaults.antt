@@ -22,6 +22,7 @@ no_options = record {
   static_tls = false;
   variant_pcs = false;
   only_keep_debug = false;
+  new_tombstones = false;
   rpath = None;
   soname = None;
   auxiliary = [];

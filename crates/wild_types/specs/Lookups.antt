@@ -4,8 +4,9 @@
 --   is_allocated_part l p  the part lies in a section other than section 0 that is allocated (SHF_ALLOC)
 --   is_without_data s      the section has no bytes in the file
 --   takes_file_bytes l k   the section with header index k has
---   is_filled l s          the input section is loaded and owns bytes of the image
---   is_read s              its relocations are read, where it stands as it is or is one of frames; is_counted s they are counted
+--   is_filled l s          the input section stands in its part's range and owns bytes of the image
+--   is_read s              a loader may apply its relocations, where it stands as it is or is one of frames; is_written s they are written into
+--                          its bytes; is_counted s they are counted
 --   image_size l           the greatest end of a file range of a part or a section
 --   has_address l s        the input section has an address
 --   canonical l i          the symbol that defines symbol i
@@ -19,7 +20,7 @@ use Rattle.wild_types.specs.declared.input.InputRelocation.{InputRelocation}
 use Rattle.wild_types.specs.declared.input.InputSection.{InputSection}
 use Rattle.wild_types.specs.declared.file.File.{File}
 use Rattle.wild_types.specs.declared.layout.Layout.{Layout}
-use Rattle.wild_types.specs.Kinds.{is_position_independent}
+use Rattle.wild_types.specs.Kinds.{is_position_independent, is_partial_link}
 use Rattle.std.specs.Int.RustNames.{bit_and}
 use Rattle.wild_records.specs.Abi.Section.{sht_null, sht_nobits, shf_write, shf_alloc, shf_execinstr, shf_tls, shn_loreserve}
 use Rattle.wild_types.specs.declared.part.Part.{Part}
@@ -100,15 +101,43 @@ abbrev pub is_discarded : Slot → Bool
 is_discarded slot.Discard = true
 is_discarded other = false
 
--- there are bytes of the input section, or in a section with data zeros where it has none
+abbrev pub is_debug : Slot → Bool
+is_debug slot.Debug = true
+is_debug other = false
+
+-- a table of relocations, in a relocatable object (gABI, "Sections": SHT_RELA)
+abbrev pub is_rela : Slot → Bool
+is_rela slot.Rela = true
+is_rela other = false
+
+-- what is loaded, what is loaded in a given order, and what debuggers read: with data it has bytes or zeros, and its relocations are counted
+abbrev pub has_counted : Slot → Bool
+has_counted slot.Loaded = true
+has_counted slot.Sorted = true
+has_counted slot.Debug = true
+has_counted other = false
+
+-- there are bytes of the input section, or in a section with data zeros where it has none; those of a table of relocations are made
 abbrev pub has_bytes : Layout → InputSection → Bool
-has_bytes l s = if s.nobits then not (s.size == 0) && takes_file_bytes l (section_of l s.part) else not (length s.bytes == 0)
+has_bytes l s =
+    if s.nobits then has_counted s.slot && (not (s.size == 0) && takes_file_bytes l (section_of l s.part))
+    else if is_rela s.slot then not (s.size == 0)
+    else not (length s.bytes == 0)
 
--- the input section is loaded and owns bytes of the image: its own, or zeros where it has none
+-- the section stands in its part's range in the order of the files: what is loaded, what debuggers read, and in a relocatable object a
+-- table of relocations and a group (gABI, "Sections": SHT_RELA, SHT_GROUP)
+abbrev pub has_range : Slot → Bool
+has_range slot.Loaded = true
+has_range slot.Debug = true
+has_range slot.Rela = true
+has_range slot.Group = true
+has_range other = false
+
+-- the input section stands so and owns bytes of the image: its own, zeros where it has none, or what is made of it
 abbrev pub is_filled : Layout → InputSection → Bool
-is_filled l s = is_loaded s.slot && has_bytes l s
+is_filled l s = has_range s.slot && has_bytes l s
 
--- of a section that stands in the output as it is, or of frames, the relocations are read
+-- of a section that is loaded as it is, or of frames, a loader may apply relocations
 abbrev pub has_relocations : Slot → Bool
 has_relocations slot.Loaded = true
 has_relocations slot.Frame = true
@@ -118,18 +147,23 @@ has_relocations other = false
 abbrev pub is_read : InputSection → Bool
 is_read s = has_relocations s.slot && not s.nobits
 
--- they are counted for the output section, of a loaded section and of one in a given order
-abbrev pub has_counted : Slot → Bool
-has_counted slot.Loaded = true
-has_counted slot.Sorted = true
-has_counted other = false
+-- and those of a section that debuggers read are written into its bytes, as they are
+abbrev pub has_fields : Slot → Bool
+has_fields slot.Loaded = true
+has_fields slot.Frame = true
+has_fields slot.Debug = true
+has_fields other = false
 
+abbrev pub is_written : InputSection → Bool
+is_written s = has_fields s.slot && not s.nobits
+
+-- they are counted for the output section
 abbrev pub is_counted : InputSection → Bool
 is_counted s = has_counted s.slot && not s.nobits
 
--- such a section owns bytes of the image
+-- a section that stands in its part's range, or in a given order, owns bytes of the image
 abbrev pub owns_bytes : Layout → InputSection → Bool
-owns_bytes l s = has_counted s.slot && has_bytes l s
+owns_bytes l s = (has_range s.slot || has_counted s.slot) && has_bytes l s
 
 abbrev pub file_end : Bool → ℕ → ℕ → ℕ
 file_end takes offset size = if takes && not (size == 0) then offset + size else 0
@@ -175,9 +209,9 @@ packs l place = l.options.relr && place % 2 == 0
 abbrev pub has_moved : Layout → InputSection → Bool
 has_moved l s = is_position_independent l.kind && is_read s
 
--- the output has a table of all its symbols
+-- the output has a table of all its symbols: a relocatable object has one in any case (gABI, "Symbol Table")
 abbrev pub has_table : Layout → Bool
-has_table l = not l.options.strip_all
+has_table l = is_partial_link l.kind || not l.options.strip_all
 
 -- more sections than have an index of 16 bits (gABI, "Special Section Indexes", SHN_LORESERVE)
 abbrev pub has_many_sections : Layout → Bool

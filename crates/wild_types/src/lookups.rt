@@ -2,7 +2,7 @@
 ghost use Rattle.std.specs.Prelude.{◌≡◌, ◌+◌, ◌^◌, ◌%◌, ◌<◌, true, length, drop, take, slice_range};
 ghost use Rattle.wild_types.specs.FileSymbols.{range_of, own_symbols, loaded_symbols};
 ghost use Rattle.wild_types.specs.FileThunks.{block_of, thunks_of};
-ghost use Rattle.wild_types.specs.Lookups.{place_of, packs, has_moved, writable, allocated, executable, thread_local, kind_at, section_of, is_allocated_section, is_allocated_part, is_without_data, takes_file_bytes, is_loaded, is_discarded, is_filled, is_read, is_frame, is_counted, has_bytes, owns_bytes, has_address, canonical, has_table, has_many_sections};
+ghost use Rattle.wild_types.specs.Lookups.{place_of, packs, has_moved, writable, allocated, executable, thread_local, kind_at, section_of, is_allocated_section, is_allocated_part, is_without_data, takes_file_bytes, is_loaded, is_discarded, is_filled, is_read, is_written, is_frame, is_debug, is_counted, has_range, has_counted, has_bytes, owns_bytes, has_address, canonical, has_table, has_many_sections};
 ghost use Rattle.wild_types.specs.SymbolSlots.{names_slot, names_stub};
 
 use crate::file::File;
@@ -60,6 +60,27 @@ impl Slot {
         ensures { result ≡ is_frame self }
     {
         matches!(self, Slot::Frame)
+    }
+
+    /// Whether the section is one that debuggers read.
+    pub fn is_debug(self) -> bool
+        ensures { result ≡ is_debug self }
+    {
+        matches!(self, Slot::Debug)
+    }
+
+    /// Whether the section stands in its part's range in the order of the files.
+    pub fn has_range(self) -> bool
+        ensures { result ≡ has_range self }
+    {
+        matches!(self, Slot::Loaded | Slot::Debug | Slot::Rela | Slot::Group)
+    }
+
+    /// Whether its relocations are counted, where it has data.
+    fn has_counted(self) -> bool
+        ensures { result ≡ has_counted self }
+    {
+        matches!(self, Slot::Loaded | Slot::Sorted | Slot::Debug)
     }
 
     /// Whether the section is left out.
@@ -190,7 +211,7 @@ impl Layout {
     pub fn has_table(&self) -> bool
         ensures { result ≡ has_table self.now }
     {
-        !self.options.strip_all
+        self.kind.is_partial_link() || !self.options.strip_all
     }
 
     /// The symbols of a file that is loaded.
@@ -253,29 +274,33 @@ impl Section {
 }
 
 impl InputSection {
-    /// Whether there are bytes of the section, or in a section with data zeros where it has none.
+    /// Whether there are bytes of the section, or in a section with data zeros where it has none; those of a table of relocations are made.
     pub fn has_bytes(&self, layout: &Layout) -> bool
         ensures { result ≡ has_bytes layout.now self.now }
     {
         if self.nobits {
-            self.size != 0 && layout.takes_file_bytes(layout.section_of(self.part))
+            self.slot.has_counted()
+                && self.size != 0
+                && layout.takes_file_bytes(layout.section_of(self.part))
+        } else if matches!(self.slot, Slot::Rela) {
+            self.size != 0
         } else {
             self.bytes.len() != 0
         }
     }
 
-    /// Whether the section is loaded and owns bytes of the image: its own, or zeros where it has none.
+    /// Whether the section stands in its part's range and owns bytes of the image: its own, zeros where it has none, or what is made of it.
     pub fn is_filled(&self, layout: &Layout) -> bool
         ensures { result ≡ is_filled layout.now self.now }
     {
-        self.slot.is_loaded() && self.has_bytes(layout)
+        self.slot.has_range() && self.has_bytes(layout)
     }
 
-    /// The same of a loaded section or one that stands in a given order.
+    /// The same of such a section or one that stands in a given order.
     pub fn owns_bytes(&self, layout: &Layout) -> bool
         ensures { result ≡ owns_bytes layout.now self.now }
     {
-        matches!(self.slot, Slot::Loaded | Slot::Sorted) && self.has_bytes(layout)
+        (self.slot.has_range() || self.slot.has_counted()) && self.has_bytes(layout)
     }
 
     /// Whether the relocations are read: those of a loaded section with data are, and those of frames.
@@ -285,12 +310,20 @@ impl InputSection {
         matches!(self.slot, Slot::Loaded | Slot::Frame) && !self.nobits
     }
 
-    /// Whether the relocations are counted for the output section: those of a loaded section with data are, and those of one that
-    /// stands in a given order.
+    /// Whether the relocations are written into the section's bytes: those of a loaded section with data are, those of frames, and those of
+    /// a debug section.
+    pub fn is_written(&self) -> bool
+        ensures { result ≡ is_written self.now }
+    {
+        matches!(self.slot, Slot::Loaded | Slot::Frame | Slot::Debug) && !self.nobits
+    }
+
+    /// Whether the relocations are counted for the output section: those of a loaded section with data are, those of one that
+    /// stands in a given order, and those of a debug section.
     pub fn is_counted(&self) -> bool
         ensures { result ≡ is_counted self.now }
     {
-        matches!(self.slot, Slot::Loaded | Slot::Sorted) && !self.nobits
+        self.slot.has_counted() && !self.nobits
     }
 
     /// Whether the section has an address: one that is not discarded has, where that is not 0 or its part is not

@@ -42,6 +42,8 @@ pub struct Options {
     pub variant_pcs: bool,
     /// An image of debug sections alone.
     pub only_keep_debug: bool,
+    /// Debug sections tell of discarded code by -1 and -2 (DWARF, "Tombstone Values").
+    pub new_tombstones: bool,
     /// The search path of the dynamic linker.
     pub rpath: Option<Bytes>,
     /// `DT_SONAME`.
@@ -73,6 +75,7 @@ impl Options {
             static_tls: false,
             variant_pcs: false,
             only_keep_debug: false,
+            new_tombstones: false,
             rpath: None,
             soname: None,
             auxiliary: Items::new(alloc),

@@ -1,5 +1,5 @@
 -- Legal worlds are there.
-use Rattle.std.proofs.Common.{◌≡◌, ℕ, ℤ, ◌+◌, ◌-◌, ◌%◌, ◌^◌, ◌<◌, [], ◌∷◌, refl, sym, ap, ◌∙◌, arith, subst}
+use Rattle.std.proofs.Common.{◌≡◌, ℕ, ℤ, ◌+◌, ◌-◌, ◌%◌, ◌^◌, ◌<◌, ◌≤◌, inl, inr, [], ◌∷◌, ◌++◌, length, get_or, refl, sym, ap, ◌∙◌, arith, subst}
 use Rattle.std.specs.Int.{w64, cast_unsigned, cast_signed}
 use Rattle.std.specs.Int.RustNames.{FitsSigned}
 use Rattle.std.proofs.Math.Nat.{zero-mod}
@@ -14,7 +14,13 @@ use Rattle.wild_loader.specs.Changes.{distance_of}
 use Rattle.std.specs.Prelude.{Result, Ok}
 use Rattle.wild_meaning.specs.Thread.{thread_pointer, IsOwnDistance}
 use Rattle.wild_meaning.specs.World.{IsExecutable, IsFirstModule, IsLegal, AnswersSymbols, first_module}
-use Rattle.wild_layout.proofs.FaultLemmas.{laid_out}
+use Rattle.std.proofs.lemmas.Bool.{cases_Bool, eqb-true}
+use Rattle.wild_types.specs.declared.section.Segment.{Segment}
+use Rattle.wild_types.specs.Kinds.{is_partial_link}
+use Rattle.wild_clauses.specs.WellFormed.{first_clause}
+use Rattle.wild_layout.specs.Faults.{flat_map_from, clause_errors, part_errors, group_errors, errors}
+use Rattle.wild_layout.proofs.FaultLemmas.{clause_holds, first_empty, rest_empty, laid_out}
+use Rattle.wild_geometry.proofs.LaidLemmas.{Laid, Laid-from_clauses}
 use Rattle.wild_worlds.specs.Worlds.{KnowsModule, AreAddresses, Others, AreNumbers, IsTold, ZeroIsLegal, MovedIsLegal, HasWorld, WorldsAreThere, other_module}
 use Rattle.wild_worlds.specs.Symbols.{OffsetsCount}
 use Rattle.wild_worlds.proofs.Premises.{apart_kinds}
@@ -27,12 +33,28 @@ use Rattle.wild_references.specs.Laws.{ThreadPlacesAreKnown}
 zero_divides : (base page : ℕ) → base ≡ 0 → base % page ≡ 0
 zero_divides base page z = ap (λ (b : ℕ). b % page) z ∙ zero-mod page
 
+clauses_hold : (l : Layout) → errors l ≡ [] → Laid l
+unfolding errors
+clauses_hold l none =
+    let clauses = clause_errors (first_clause l) in
+    let shares = flat_map_from (part_errors l) 0 l.parts in
+    let front = first_empty (clauses ++ shares) (flat_map_from (group_errors l) 0 l.groups) none in
+    Laid-from_clauses l (clause_holds (first_clause l) (first_empty clauses shares front)) (rest_empty clauses shares front)
+
+-- each segment stands low; a relocatable object has none
+segment_low : (l : Layout) → IsLaidOut l → errors l ≡ [] → (k : ℕ) (d : Segment) → k < length l.segments → (get_or l.segments k d).address + (get_or l.segments k d).mem_size ≤ 2 ^ 62
+segment_low l laid none k d lt =
+    elim (cases_Bool (is_partial_link l.kind)) [
+      | inl t ↦ (let empty : length l.segments ≡ 0 = eqb-true (length l.segments) 0 (rw t at (clauses_hold l none).partial.segments) in absurd (omega (arith, lt, empty)))
+      | inr f ↦ ((laid.loadable f).each k d lt).low
+    ]
+
 pub zero_legal : LayoutsAreLaidOut → ZeroIsLegal
 zero_legal laws = λ l w none z first resolvers symbols.
     let laid = laid_out laws l none in
     record {
       aligned = zero_divides w.base l.page_size z;
-      ends = λ k d lt loads. (let low = (laid.loadable.each k d lt).low in omega (arith, z, low));
+      ends = λ k d lt loads. (let low = segment_low l laid none k d lt in omega (arith, z, low));
       fixed = λ f. z;
       first = first;
       resolvers = resolvers;

@@ -12,4 +12,4 @@ returns c = λ l w k needs numbers legal laid slots. linker_told l w.base (recor
   found = c.dynamic_sections_are_read.ensures.found;
   stand = c.dynamic_sections_stand.ensures;
   tables = c.tables_are_found.ensures.found;
-}) needs numbers laid slots (are_loadable l w legal laid) (headers_read c.file_header_is_read.ensures c.program_header_is_read.ensures l (has_headers l k numbers laid))
+}) needs numbers laid slots (are_loadable l w k legal laid) (headers_read c.file_header_is_read.ensures c.program_header_is_read.ensures l (has_headers l k numbers laid))

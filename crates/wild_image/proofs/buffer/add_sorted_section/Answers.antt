@@ -5,19 +5,20 @@ use Rattle.wild_types.specs.Lookups.{is_read}
 use Rattle.wild_laid.specs.Stood.{Stood, inputs}
 use Rattle.wild_layout.specs.Content.{frame_bytes_of}
 use Rattle.wild_layout.specs.SectionPlaces.{SectionLies}
-use Rattle.wild_image.specs.Stood.{IsWhole, StoodApart}
-use Rattle.wild_image.proofs.StoodLemmas.{sorted_whole, sorted_apart, sorted_no_frames, one_stands}
+use Rattle.wild_image.specs.Stood.{IsWhole, HasOrigins, StoodApart}
+use Rattle.wild_image.specs.Append.{IsOfKind}
+use Rattle.wild_image.proofs.StoodLemmas.{sorted_whole, sorted_apart, sorted_kind, sorted_origins, sorted_no_frames, one_stands}
 use Rattle.wild_image.proofs.buffer.add_sorted_section.Goals as goal
 
 pub add_stood-requires-clause-whole : goal.add_stood-requires-clause-whole
-add_stood-requires-clause-whole g c = subst (λ (x : Stood). IsWhole x.section) (sym c.in_ok-laid-in-Some.ensures) (sorted_whole c.in-Some.input.section.now)
+add_stood-requires-clause-whole g c = subst (λ (x : Stood). IsWhole x.section) (sym c.in_ok-laid-in-Some.ensures) (sorted_whole c.args.resolved.now.layout.now c.in-Some.input.section.now)
 
 pub add_stood-requires-clause-moves : goal.add_stood-requires-clause-moves
 add_stood-requires-clause-moves g c =
     let l = c.args.resolved.now.layout.now in
     let f = c.in-Some.input.file.now in
     let s = c.in-Some.input.section.now in
-    let is = sym c.sorted_input.ensures ∙ ap inputs c.in-Some.is in
+    let is = sym c.sorted_input.ensures ∙ ap (inputs c.args.resolved.now.layout.now) c.in-Some.is in
     let stands = one_stands l c.args.entry.now f s is c.requires.stands in
     subst (λ (x : Stood). is_read x.section ≡ true → StoodApart l f x) (sym c.in_ok-laid-in-Some.ensures) (sorted_apart l f s stands.turned)
 
@@ -26,7 +27,7 @@ add_stood-requires-clause-lies g c =
     let l = c.args.resolved.now.layout.now in
     let f = c.in-Some.input.file.now in
     let s = c.in-Some.input.section.now in
-    let is = sym c.sorted_input.ensures ∙ ap inputs c.in-Some.is in
+    let is = sym c.sorted_input.ensures ∙ ap (inputs c.args.resolved.now.layout.now) c.in-Some.is in
     let stands = one_stands l c.args.entry.now f s is c.requires.stands in
     subst (λ (x : Stood). SectionLies l x.section) (sym c.in_ok-laid-in-Some.ensures) stands.lies
 
@@ -37,3 +38,11 @@ returns-in_ok-laid-in-Some-clause-frames g c =
     let old = c.args.bytes.now.frames in
     let none = ap (λ (x : Stood). frame_bytes_of l f x.section) c.in_ok-laid-in-Some.ensures ∙ sorted_no_frames l f c.in-Some.input.section.now in
     subst (λ (ys : List ℕ). OnOk c.add_stood.result (c.add_stood.new.bytes.frames ≡ ys)) (ap (λ (ys : List ℕ). old ++ ys) none ∙ append-nil old) c.add_stood.ensures.frames
+
+pub add_stood-requires-clause-kind : goal.add_stood-requires-clause-kind
+add_stood-requires-clause-kind g c =
+    let l = c.args.resolved.now.layout.now in
+    subst (λ (x : Stood). IsOfKind l x.section) (sym c.in_ok-laid-in-Some.ensures) (sorted_kind l c.in-Some.input.section.now)
+
+pub add_stood-requires-clause-origins : goal.add_stood-requires-clause-origins
+add_stood-requires-clause-origins g c = subst HasOrigins (sym c.in_ok-laid-in-Some.ensures) (sorted_origins c.args.resolved.now.layout.now c.in-Some.input.section.now)

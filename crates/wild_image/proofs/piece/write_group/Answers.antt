@@ -61,7 +61,7 @@ returns g c =
 pub piece_of-requires-clause-stands : goal.piece_of-requires-clause-stands
 piece_of-requires-clause-stands g c =
     let l = c.args.layout.now in
-    let all = each_stands l (c.layouts_are_laid_out.ensures l c.requires.clauses c.requires.shares) in
+    let all = each_stands l c.requires.clauses (c.layouts_are_laid_out.ensures l c.requires.clauses c.requires.shares) in
     let found = c.index-as_slice-group.result in
     let at : slice_get l.groups c.args.group ≡ Some found = slice_get_read l.groups (length l.groups) c.args.group found (search rules) c.requires.group (search rules) in
     subst (λ (m : Layout). GroupStands m found) (sym c.in_ok-resolved.ensures) (holds_at (GroupStands l) l.groups c.args.group found at all)

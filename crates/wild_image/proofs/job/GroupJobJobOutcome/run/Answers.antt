@@ -17,16 +17,16 @@ bytes_of_batch-bytes-requires-clause-stands g c =
     let l = c.args.self.now.resolved.layout.now in
     let bs = c.args.self.now.batches.now in
     let found = get_or bs c.args.group c.index-self-group.result in
-    let at : slice_get bs c.args.group ≡ Some found = slice_get-get_or bs c.args.group c.index-self-group.result c.requires in
+    let at : slice_get bs c.args.group ≡ Some found = slice_get-get_or bs c.args.group c.index-self-group.result c.requires.group in
     let within = batches_within l.groups l.groups 0 bs c.args.group found refl (cut_of l.groups bs c.args.self.now.batches_are) at in
-    holds_within (GroupStands l) l.groups found within (each_stands l (c.layouts_are_laid_out.ensures l c.args.self.now.clauses c.args.self.now.shares))
+    holds_within (GroupStands l) l.groups found within (each_stands l c.args.self.now.clauses (c.layouts_are_laid_out.ensures l c.args.self.now.clauses c.args.self.now.shares))
 
 pub bytes_of_batch-bytes-requires-clause-gives : goal.bytes_of_batch-bytes-requires-clause-gives
 bytes_of_batch-bytes-requires-clause-gives g c =
     let l = c.args.self.now.resolved.layout.now in
     let bs = c.args.self.now.batches.now in
     let found = get_or bs c.args.group c.index-self-group.result in
-    let at : slice_get bs c.args.group ≡ Some found = slice_get-get_or bs c.args.group c.index-self-group.result c.requires in
+    let at : slice_get bs c.args.group ≡ Some found = slice_get-get_or bs c.args.group c.index-self-group.result c.requires.group in
     let within = batches_within l.groups l.groups 0 bs c.args.group found refl (cut_of l.groups bs c.args.self.now.batches_are) at in
     holds_within (GivesItsShares l) l.groups found within (all_give l (c.layouts_are_laid_out.ensures l c.args.self.now.clauses c.args.self.now.shares).parts)
 
@@ -35,7 +35,7 @@ bytes_of_batch-bytes-requires-clause-few g c =
     let l = c.args.self.now.resolved.layout.now in
     let bs = c.args.self.now.batches.now in
     let found = get_or bs c.args.group c.index-self-group.result in
-    let at : slice_get bs c.args.group ≡ Some found = slice_get-get_or bs c.args.group c.index-self-group.result c.requires in
+    let at : slice_get bs c.args.group ≡ Some found = slice_get-get_or bs c.args.group c.index-self-group.result c.requires.group in
     let within = batches_within l.groups l.groups 0 bs c.args.group found refl (cut_of l.groups bs c.args.self.now.batches_are) at in
     holds_within NeedsFit l.groups found within (needs_fit l (c.layouts_are_laid_out.ensures l c.args.self.now.clauses c.args.self.now.shares))
 
@@ -44,7 +44,7 @@ bytes_of_batch-bytes-requires-clause-small g c =
     let l = c.args.self.now.resolved.layout.now in
     let bs = c.args.self.now.batches.now in
     let found = get_or bs c.args.group c.index-self-group.result in
-    let at : slice_get bs c.args.group ≡ Some found = slice_get-get_or bs c.args.group c.index-self-group.result c.requires in
+    let at : slice_get bs c.args.group ≡ Some found = slice_get-get_or bs c.args.group c.index-self-group.result c.requires.group in
     let ends = batches_end l.groups 0 bs c.args.group found (cut_of l.groups bs c.args.self.now.batches_are) at in
     let few = few_groups l c.args.self.now.clauses in
     omega (arith, ends, few)
@@ -54,7 +54,7 @@ returns g c =
     let l = c.args.self.now.resolved.layout.now in
     let bs = c.args.self.now.batches.now in
     let found = get_or bs c.args.group c.index-self-group.result in
-    let at : slice_get bs c.args.group ≡ Some found = slice_get-get_or bs c.args.group c.index-self-group.result c.requires in
+    let at : slice_get bs c.args.group ≡ Some found = slice_get-get_or bs c.args.group c.index-self-group.result c.requires.group in
     (gives_found l bs c.args.group found _ at c.bytes_of_batch-bytes.ensures.faults c.bytes_of_batch-bytes.ensures.bytes, pairs_found l bs c.args.group found _ at c.in_ok-counts.ensures)
 
 pub bytes_of_batch-bytes-requires-clause-table : goal.bytes_of_batch-bytes-requires-clause-table

@@ -1,0 +1,14 @@
+-- What holds of the rule of a section that debuggers read.
+--   rule_small l s   a field is at most 10 wide
+--   rule_keeps l s   a field has as many bytes as before
+use Rattle.wild_types.specs.declared.input.InputSection.{InputSection}
+use Rattle.wild_types.specs.declared.layout.Layout.{Layout}
+use Rattle.wild_shards.specs.InOrder.{AreSmall, KeepsLength}
+use Rattle.wild_layout.specs.Debug.{debug_rule, nowhere_at}
+use Rattle.wild_layout.proofs.DebugLemmas.{debug_small, debug_keeps}
+
+pub rule_small : (l : Layout) (s : InputSection) → AreSmall (debug_rule l nowhere_at s)
+rule_small l s = debug_small l nowhere_at s
+
+pub rule_keeps : (l : Layout) (s : InputSection) → KeepsLength (debug_rule l nowhere_at s)
+rule_keeps l s = debug_keeps l nowhere_at s

@@ -1,0 +1,11 @@
+//! The relocations of sections that debuggers read: each writes a value as the output is linked, or a tombstone.
+#![tactic(auto)]
+
+mod apply;
+mod decide;
+mod faults;
+mod pass;
+mod step;
+
+pub use apply::{apply_debug_rela_relocations, apply_debug_relocations};
+pub use decide::DebugStep;

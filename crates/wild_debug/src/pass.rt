@@ -1,0 +1,80 @@
+//! The relocations of a section that debuggers read, one after another.
+ghost use Rattle.std.specs.Prelude.{◌≡◌, ◌+◌, length, All, Ok, slice_range};
+ghost use Rattle.wild_words.specs.Words.{place};
+ghost use Rattle.wild_reloc.specs.Field.{size_width, size_written};
+ghost use Rattle.wild_shards.specs.InOrder.{in_order, step_on, Came};
+ghost use Rattle.wild_layout.specs.Debug.{debug_decided, debug_rule, nowhere_at};
+ghost use Rattle.wild_layout.specs.SectionPlaces.{FieldLies};
+ghost use Rattle.wild_debug.specs.Fields.{LiesAt};
+
+use crate::decide::DebugStep;
+use crate::step::nowhere_at;
+use wild_layout::Decision;
+use wild_relax::Arch;
+use wild_reloc::RelocationSize;
+use wild_types::{Error, InputRelocation};
+
+/// Writes a value into a field, where that has bytes.
+#[inline]
+fn write_sized(size: RelocationSize, value: u64, out: &mut [u8], offset: u64)
+    requires lies { LiesAt offset (size_width size) (length out.old) }
+    ensures { out.new ≡ place offset (size_written size value (slice_range out.old offset (offset + size_width size))) out.old }
+{
+    if size.width() != 0 {
+        size.write_at(value, out, offset as usize);
+    }
+}
+
+/// Writes the field of a relocation over the bytes of its section, as it was decided.
+#[inline]
+fn write_decided<A: Arch>(
+    _step: &DebugStep<A>,
+    relocation: &InputRelocation,
+    decision: Decision,
+    out: &mut [u8],
+)
+    requires decided { debug_decided _step.now.resolved.now.layout.now _step.now.section.now relocation.now ≡ Ok decision }
+    requires lies { FieldLies _step.now.resolved.now.layout.now.machine (length out.old) relocation.now }
+    ensures written { step_on (debug_rule _step.now.resolved.now.layout.now nowhere_at _step.now.section.now) 0 relocation.now out.old ≡ Ok out.new }
+    ensures long { length out.new ≡ length out.old }
+{
+    match decision {
+        Decision::Field { size, value } => write_sized(size, value, out, relocation.offset),
+        _ => {}
+    }
+}
+
+/// Applies a relocation.
+#[inline]
+fn apply<A: Arch>(
+    step: &DebugStep<A>,
+    relocation: &InputRelocation,
+    out: &mut [u8],
+) -> Result<(), Error>
+    requires lies { FieldLies step.now.resolved.now.layout.now.machine (length out.old) relocation.now }
+    ensures came { Came result out.new (step_on (debug_rule step.now.resolved.now.layout.now nowhere_at step.now.section.now) 0 relocation.now out.old) }
+    ensures long { length out.new ≡ length out.old }
+{
+    match step.decided(relocation) {
+        Ok(decision) => {
+            write_decided(step, relocation, decision, out);
+            Ok(())
+        }
+        Err(fault) => Err(Error {
+            fault,
+            at: nowhere_at(relocation.offset),
+        }),
+    }
+}
+
+/// Applies the relocations of a section one after another, or answers a fault.
+pub(crate) fn apply_in_order<A: Arch>(step: &DebugStep<A>, out: &mut [u8]) -> Result<(), Error>
+    requires lies { All (FieldLies step.now.resolved.now.layout.now.machine (length out.old)) step.now.section.now.relocations }
+    ensures { Came result out.new (in_order (debug_rule step.now.resolved.now.layout.now nowhere_at step.now.section.now) 0 step.now.section.now.relocations out.old) }
+{
+    let relocations = step.section.relocations.as_slice();
+    for relocation in relocations {
+        apply(step, relocation, out)?;
+    }
+    Ok(())
+}

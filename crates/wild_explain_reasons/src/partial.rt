@@ -1,0 +1,66 @@
+//! Tests of what only relocatable objects have, and of what they have not.
+
+use crate::tests::{InputTest, PlanTest};
+use crate::verdict::{Verdict, due, plain};
+use wild_records::Rela;
+use wild_types::{File, InputSection, Layout, SectionIndex, Slot};
+
+/// Whether a relocatable object has what a test asks for.
+pub(crate) fn test_object(layout: &Layout, test: PlanTest) -> bool {
+    match test {
+        PlanTest::Segmented => layout.segments.len() != 0,
+        PlanTest::Paired => layout.tlsld.is_some(),
+        _ => layout.dynsyms.len() != 0,
+    }
+}
+
+/// Whether a header index names no output section.
+fn is_no_section(layout: &Layout, index: SectionIndex) -> bool {
+    index.0 >= layout.sections.len()
+}
+
+/// Whether the output section of its own, or a member, is not there.
+pub(crate) fn names_no_section(layout: &Layout, section: &InputSection, test: InputTest) -> bool {
+    if let (InputTest::Singleton, Some(index)) = (test, section.singleton) {
+        return is_no_section(layout, index);
+    }
+    if let InputTest::Members = test {
+        for member in section.members.as_slice() {
+            if is_no_section(layout, *member) {
+                return true;
+            }
+        }
+    }
+    false
+}
+
+/// Whether an input section has what the other kind of output has, or lacks its data.
+pub(crate) fn is_of_other(layout: &Layout, section: &InputSection, test: InputTest) -> bool {
+    let is_partial = layout.kind.is_partial_link();
+    let is_made = matches!(section.slot, Slot::Rela | Slot::Group);
+    match test {
+        InputTest::Debug => is_partial && section.slot.is_debug(),
+        InputTest::Partial => !is_partial && (is_made || section.singleton.is_some()),
+        _ => is_made && section.nobits,
+    }
+}
+
+/// Whether a table of relocations or a group has another size than what is made of it.
+pub(crate) fn test_made(file: &File, section: &InputSection, test: InputTest) -> Verdict {
+    match (section.slot, test) {
+        (Slot::Rela, InputTest::Target) => {
+            let Some(target) = file.sections.as_slice().get(section.target) else {
+                return plain(true);
+            };
+            let count = target.relocations.len() as u64;
+            let size = count.saturating_mul(Rela::SIZE as u64);
+            due(section.size != size, size)
+        }
+        (Slot::Group, InputTest::Group) => {
+            let count = section.members.len() as u64;
+            let size = count.saturating_mul(4).saturating_add(4);
+            due(section.size != size, size)
+        }
+        _ => plain(false),
+    }
+}

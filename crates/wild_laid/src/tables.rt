@@ -1,0 +1,107 @@
+//! Tables of relocations of a relocatable object (gABI, "Relocation").
+ghost use Rattle.std.specs.Prelude.{◌≡◌, IfOk, map, option_copied, slice_get};
+ghost use Rattle.wild_laid.specs.Laid.{base_of, counted_from, target_relocations, tabled};
+ghost use Rattle.wild_laid.specs.Stood.{turned_in, placed_at};
+
+use crate::words::turned_offset;
+use std::alloc::{AllocError, Global};
+use wild_types::{File, InputRelocation, InputSection, Slot};
+use wild_words::{Bytes, Items};
+
+/// Where an input section begins in its output section; one that the object keeps by itself begins it.
+fn base_of(section: &InputSection) -> u64
+    ensures { result ≡ base_of section.now }
+{
+    match section.singleton {
+        Some(_) => 0,
+        None => section.address,
+    }
+}
+
+/// A relocation of a section that begins there in its output section, modulo 2^64.
+fn counted_from(base: u64, relocation: InputRelocation) -> InputRelocation
+    ensures { result ≡ counted_from base relocation }
+{
+    InputRelocation {
+        offset: base.wrapping_add(relocation.offset),
+        ..relocation
+    }
+}
+
+/// A relocation of a section at the place of its word, where that is another.
+fn turned_in(section: &InputSection, relocation: InputRelocation) -> InputRelocation
+    ensures { result ≡ turned_in section.now relocation }
+{
+    if section.reversed {
+        turned_offset(section.size, relocation)
+    } else {
+        relocation
+    }
+}
+
+/// A relocation of the target of a table, as the table has it.
+pub(crate) fn placed_at(target: &InputSection, relocation: InputRelocation) -> InputRelocation
+    ensures { result ≡ placed_at target.now relocation }
+{
+    counted_from(base_of(target), turned_in(target, relocation))
+}
+
+/// The relocations of a target, as a table has them.
+fn placed(alloc: Global, target: &InputSection) -> Result<Vec<InputRelocation>, AllocError>
+    ensures { IfOk result (λ v. v.items ≡ map (placed_at target.now) target.now.relocations) }
+{
+    let mut placed = target.relocations.as_slice().to_vec(alloc)?;
+    for i in 0..placed.len() {
+        placed[i] = placed_at(target, placed[i]);
+    }
+    Ok(placed)
+}
+
+/// The section that a table is about, in its file.
+pub(crate) fn target_of<'a>(file: &'a File, section: &InputSection) -> Option<&'a InputSection>
+    ensures { option_copied result ≡ slice_get file.now.sections section.now.target }
+{
+    file.sections.as_slice().get(section.target)
+}
+
+/// The relocations of the target of a table, as the table has them.
+#[tactic(auto, using(crate::proofs::TableLemmas::target_placed, crate::proofs::TableLemmas::target_missing))]
+fn target_relocations(
+    alloc: Global,
+    file: &File,
+    section: &InputSection,
+) -> Result<Vec<InputRelocation>, AllocError>
+    ensures { IfOk result (λ v. v.items ≡ target_relocations file.now section.now) }
+{
+    match target_of(file, section) {
+        Some(target) => placed(alloc, target),
+        None => Ok(Vec::new(alloc)),
+    }
+}
+
+/// A table of relocations, with those of its target.
+pub(crate) fn tabled(
+    alloc: Global,
+    file: &File,
+    section: &InputSection,
+) -> Result<InputSection, AllocError>
+    ensures { IfOk result (λ s. s ≡ tabled file.now section.now) }
+{
+    let relocations = target_relocations(alloc, file, section)?;
+    Ok(InputSection {
+        slot: Slot::Rela,
+        name: Bytes::new(alloc),
+        part: section.part,
+        address: section.address,
+        size: section.size,
+        flags: section.flags,
+        nobits: section.nobits,
+        reversed: false,
+        singleton: None,
+        target: section.target,
+        members: Items::new(alloc),
+        bytes: Bytes::new(alloc),
+        strings: Items::new(alloc),
+        relocations: Items::from_vec(relocations),
+    })
+}

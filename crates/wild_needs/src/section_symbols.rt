@@ -1,0 +1,65 @@
+//! How many symbols of sections a relocatable object has (gABI, "Symbol Table": `STT_SECTION`).
+ghost use Rattle.std.specs.Prelude.{◌≡◌, ◌-◌, ◌^◌, ◌≤◌, min, length};
+ghost use Rattle.wild_needs.specs.TableSymbols.{asked_from, section_symbols};
+ghost use Rattle.wild_needs.specs.SectionSymbols.{alone_of, alone_of_group, alone_count};
+
+use wild_types::{File, Group, Layout, Section};
+
+/// How many sections ask for a symbol.
+fn asked_count(sections: &[Section]) -> usize
+    ensures { result ≡ length (asked_from 0 sections.now) }
+{
+    let mut count = 0;
+    for section in sections {
+        if section.section_symbol {
+            count += 1;
+        }
+    }
+    count
+}
+
+/// How many sections of a file the object keeps by themselves.
+fn alone_of(file: &File) -> usize
+    ensures { result ≡ alone_of file.now }
+{
+    let mut count = 0;
+    for section in file.sections.as_slice() {
+        if section.singleton.is_some() {
+            count += 1;
+        }
+    }
+    count
+}
+
+/// How many of a group, at most 2^64 - 1.
+fn alone_of_group(group: &Group) -> usize
+    ensures { result ≡ min (2 ^ 64 - 1) (alone_of_group group.now) }
+{
+    let mut count: usize = 0;
+    for file in group.files.as_slice() {
+        count = count.saturating_add(alone_of(file));
+    }
+    count
+}
+
+/// How many of all files, at most 2^64 - 1.
+fn alone_count(layout: &Layout) -> usize
+    ensures { result ≡ min (2 ^ 64 - 1) (alone_count layout.now) }
+{
+    let mut count: usize = 0;
+    for group in layout.groups.as_slice() {
+        count = count.saturating_add(alone_of_group(group));
+    }
+    count
+}
+
+/// How many sections a relocatable object has symbols for, at most 2^64 - 1.
+#[tactic(auto, unfolding(crate::specs::TableSymbols::section_symbols), using(crate::proofs::SectionSymbolLemmas::section_symbols_counted))]
+pub fn section_symbol_count(layout: &Layout) -> usize
+    ensures { result ≡ min (2 ^ 64 - 1) (length (section_symbols layout.now)) }
+{
+    if !layout.kind.is_partial_link() {
+        return 0;
+    }
+    asked_count(layout.sections.as_slice()).saturating_add(alone_count(layout))
+}

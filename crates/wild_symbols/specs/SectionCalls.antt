@@ -1,0 +1,26 @@
+-- The symbols of the sections of a relocatable object, written one after another.
+--   section_calls l          what the writer is given of each
+--   SectionWritten a k b     the symbol of section k is written; SectionRefused a k e b: there is no room for it
+use Rattle.std.specs.Prelude.{◌≡◌, ℕ, List, map, Result, Ok, Err}
+use Rattle.wild_types.specs.declared.fault.Fault.{Fault}
+use Rattle.wild_types.specs.declared.fault.Error.{Error}
+use Rattle.wild_types.specs.declared.layout.Layout.{Layout}
+use Rattle.wild_needs.specs.TableSymbols.{section_symbols}
+use Rattle.wild_symbols.specs.TableEntries.{NamedEntry, section_entry}
+use Rattle.wild_symbols.specs.Runs.{called}
+use Rattle.wild_symbols.specs.SlotNames.{offered}
+use Rattle.wild_symbols.specs.declared.writer.SymbolTableWriter.{SymbolTableWriter}
+
+abbrev pub section_call : ℕ → Result NamedEntry Fault
+section_call k = Ok (section_entry k)
+
+abbrev pub section_calls : Layout → List (Result NamedEntry Fault)
+section_calls l = map section_call (section_symbols l)
+
+pub record SectionWritten (a : SymbolTableWriter) (k : ℕ) (b : SymbolTableWriter) : Type 0 where
+  pub fits : offered (section_call k) a ≡ Ok tt
+  pub is : b ≡ called (section_entry k) a
+
+pub record SectionRefused (a : SymbolTableWriter) (k : ℕ) (e : Error) (b : SymbolTableWriter) : Type 0 where
+  pub fault : offered (section_call k) a ≡ Err e
+  pub kept : b ≡ a

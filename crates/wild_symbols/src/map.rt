@@ -1,0 +1,123 @@
+//! The numbers that relocations tell of symbols in the tables of a relocatable object (gABI, "Relocation": `r_info`).
+ghost use Rattle.std.specs.Prelude.{◌≡◌, ℕ, ◌<◌, [], ◌∷◌, map, length, IfOk, OnOk, None, replicate, slice_index_or};
+ghost use Rattle.std.specs.List.{range_with_len};
+ghost use Rattle.std.specs.Option.{option_or};
+ghost use Rattle.wild_types.specs.Lookups.{files_of};
+ghost use Rattle.wild_symbols.specs.SectionSymbols.{symbol_index, named_index, front_count};
+ghost use Rattle.wild_symbols.specs.SymbolNumbers.{HasOwnNumbers, number_told, found};
+
+use crate::numbers::own_numbers;
+use crate::section_index::SectionNumbers;
+use std::alloc::{AllocError, Global};
+use wild_types::{File, Layout, SymbolIndex};
+
+impl SectionNumbers<'_> {
+    /// The number of the section symbol of the symbol with that number, as one of a file.
+    fn tell_of(&self, index: usize, file: &File) -> Result<Option<usize>, AllocError>
+        ensures { IfOk result (λ n. n ≡ number_told self.now.layout.now index file.now) }
+    {
+        match self.layout.symbols.as_slice().get(index) {
+            Some(symbol) => self.tell(file, symbol),
+            None => Ok(None),
+        }
+    }
+
+    /// Notes those of a file that no earlier file has.
+    fn note_file(&self, file: &File, notes: &mut [Option<Option<usize>>]) -> Result<(), AllocError>
+        ensures { OnOk result ((k : ℕ) → k < length notes.old → slice_index_or notes.new k None
+            ≡ option_or (slice_index_or notes.old k None) (found (number_told self.now.layout.now) (file.now ∷ []) k)) }
+    {
+        let first = file.first_symbol.0;
+        let end = first.saturating_add(file.symbol_count).min(notes.len());
+        for i in first..end {
+            notes[i] = notes[i].or(Some(self.tell_of(i, file)?));
+        }
+        Ok(())
+    }
+
+    /// Notes those of some files.
+    fn note_files(
+        &self,
+        files: &[File],
+        notes: &mut [Option<Option<usize>>],
+    ) -> Result<(), AllocError>
+        ensures { OnOk result ((k : ℕ) → k < length notes.old → slice_index_or notes.new k None
+            ≡ option_or (slice_index_or notes.old k None) (found (number_told self.now.layout.now) files.now k)) }
+    {
+        for file in files {
+            self.note_file(file, notes)?;
+        }
+        Ok(())
+    }
+
+    /// Notes those of all symbols.
+    fn note_groups(&self, notes: &mut [Option<Option<usize>>]) -> Result<(), AllocError>
+        ensures { OnOk result ((k : ℕ) → k < length notes.old → slice_index_or notes.new k None
+            ≡ option_or (slice_index_or notes.old k None) (found (number_told self.now.layout.now) (files_of self.now.layout.now.groups) k)) }
+    {
+        for group in self.layout.groups.as_slice() {
+            self.note_files(group.files.as_slice(), notes)?;
+        }
+        Ok(())
+    }
+}
+
+/// The numbers that stand for symbols: of their own entries, else those that were noted.
+fn joined(
+    alloc: Global,
+    layout: &Layout,
+    own: &[Option<usize>],
+    notes: &[Option<Option<usize>>],
+) -> Result<Vec<Option<usize>>, AllocError>
+    requires own { HasOwnNumbers layout.now own.now }
+    requires count { length notes.now ≡ length layout.now.symbols }
+    requires notes { (k : ℕ) → k < length notes.now → slice_index_or notes.now k None ≡ found (number_told layout.now) (files_of layout.now.groups) k }
+    ensures { IfOk result (λ v. v.items ≡ map (symbol_index layout.now) (range_with_len 0 (length layout.now.symbols))) }
+{
+    let mut numbers = Vec::with_capacity(alloc, own.len())?;
+    for i in 0..own.len() {
+        numbers.push(own[i].or(notes[i].flatten()))?;
+    }
+    Ok(numbers)
+}
+
+/// The numbers that stand for all symbols of a relocatable object in its table: of each its own entry's, or of a section symbol that
+/// of the section that it stands for. It takes one walk over files for the entries, and one for section symbols.
+///
+/// # Errors
+///
+/// Only for want of memory; more entries than 2^64 are none that memory has room for.
+pub fn build_sym_index_map(alloc: Global, layout: &Layout) -> Result<Vec<Option<usize>>, AllocError>
+    ensures { IfOk result (λ v. v.items ≡ map (symbol_index layout.now) (range_with_len 0 (length layout.now.symbols))) }
+{
+    let sections = SectionNumbers::of(alloc, layout)?;
+    let own = own_numbers(alloc, layout, sections.front_count())?;
+    let mut notes = vec![in alloc; None; layout.symbols.len()]?;
+    sections.note_groups(&mut notes)?;
+    joined(alloc, layout, &own, &notes)
+}
+
+/// The number that stands for a symbol, by such a map.
+#[tactic(auto, using(crate::proofs::NoteLemmas::looked_up))]
+fn number_of(numbers: &[Option<usize>], layout: &Layout, symbol: SymbolIndex) -> Option<usize>
+    requires { numbers.now ≡ map (symbol_index layout.now) (range_with_len 0 (length layout.now.symbols)) }
+    ensures { result ≡ symbol_index layout.now symbol }
+{
+    match numbers.get(symbol.0) {
+        Some(number) => *number,
+        None => None,
+    }
+}
+
+/// The number that a relocation tells: that of its symbol, else that of what defines the symbol; 0 where there is none.
+pub fn named_index(numbers: &[Option<usize>], layout: &Layout, symbol: Option<SymbolIndex>) -> usize
+    requires { numbers.now ≡ map (symbol_index layout.now) (range_with_len 0 (length layout.now.symbols)) }
+    ensures { result ≡ named_index layout.now symbol }
+{
+    let Some(symbol) = symbol else {
+        return 0;
+    };
+    number_of(numbers, layout, symbol)
+        .or(number_of(numbers, layout, layout.canonical(symbol)))
+        .unwrap_or(0)
+}

@@ -1,0 +1,256 @@
+//! The numbers of sections' symbols in the `.symtab` of a relocatable object (gABI, "Symbol Table": `STT_SECTION`).
+ghost use Rattle.std.specs.Prelude.{◌≡◌, ℕ, ◌+◌, ◌<◌, ◌==◌, IfOk, Some, None, if◌then◌else◌, unwrap_or, length, slice_index_or};
+ghost use Rattle.std.specs.Option.{option_or};
+ghost use Rattle.wild_types.specs.Kinds.{is_partial_link};
+ghost use Rattle.wild_needs.specs.TableSymbols.{asked_from, kept_alone};
+ghost use Rattle.wild_symbols.specs.SectionSymbols.{number_from, section_at, section_index, section_number, front_count};
+ghost use Rattle.wild_symbols.specs.SymbolNumbers.{SectionNumbered, SectionSought, HasAskedNumbers, HasAloneNumbers, told_of};
+
+use crate::numbers::note;
+use crate::section_walk::{SectionSink, give_asked_sections, give_kept_alone};
+use std::alloc::{AllocError, Global};
+use wild_records::abi::symbol::STT_SECTION;
+use wild_types::{File, InputSection, Layout, Place, Symbol};
+
+/// The number behind a number. One without is more than memory has room for.
+fn behind(number: usize) -> Result<usize, AllocError>
+    ensures { IfOk result (λ n. n ≡ number + 1) }
+{
+    number.checked_add(1).ok_or(AllocError)
+}
+
+/// The numbers of symbols of sections so far, by the sections' header indexes, and the next number.
+#[derive(Drop)]
+struct SectionTable {
+    numbers: Vec<Option<usize>>,
+    next: usize,
+}
+
+impl SectionTable {
+    /// Notes the next number of a section, where none is noted of it.
+    fn note(&mut self, header: usize)
+        ensures noted { (k : ℕ) → k < length self.old.numbers.items → slice_index_or self.new.numbers.items k None
+            ≡ option_or (slice_index_or self.old.numbers.items k None) (if header == k then Some self.old.next else None) }
+        ensures count { length self.new.numbers.items ≡ length self.old.numbers.items }
+        ensures next { self.new.next ≡ self.old.next }
+    {
+        note(true, header, self.next, &mut self.numbers);
+    }
+
+    /// The next symbol has the next number.
+    fn step(&mut self) -> Result<(), AllocError>
+        ensures numbers { self.new.numbers ≡ self.old.numbers }
+        ensures next { IfOk result (λ u. self.new.next ≡ self.old.next + 1) }
+    {
+        self.next = behind(self.next)?;
+        Ok(())
+    }
+}
+
+impl SectionSink for SectionTable {
+    ghost use Rattle.wild_symbols.specs.SymbolNumbers.{SectionNumbered};
+
+    type Error = AllocError;
+
+    ghost goes = { SectionNumbered };
+
+    ghost refuses = { λ a x e b. Unit {0} };
+
+    fn take(&mut self, header: usize) -> Result<(), AllocError> {
+        self.note(header);
+        self.step()
+    }
+}
+
+/// The number of the first symbol of the section with a header index, as far as it is found, and the next number.
+#[derive(Drop)]
+struct SectionSearch {
+    header: usize,
+    found: Option<usize>,
+    next: usize,
+}
+
+impl SectionSearch {
+    /// What was found, with one symbol more.
+    fn found_with(&self, header: usize) -> Option<usize>
+        ensures { result ≡ (if header == self.now.header then option_or self.now.found (Some self.now.next) else self.now.found) }
+    {
+        if header == self.header {
+            self.found.or(Some(self.next))
+        } else {
+            self.found
+        }
+    }
+
+    /// The next symbol has the next number.
+    fn step(&mut self, found: Option<usize>) -> Result<(), AllocError>
+        ensures found { self.new.found ≡ found }
+        ensures header { self.new.header ≡ self.old.header }
+        ensures next { IfOk result (λ u. self.new.next ≡ self.old.next + 1) }
+    {
+        self.found = found;
+        self.next = behind(self.next)?;
+        Ok(())
+    }
+}
+
+impl SectionSink for SectionSearch {
+    ghost use Rattle.wild_symbols.specs.SymbolNumbers.{SectionSought};
+
+    type Error = AllocError;
+
+    ghost goes = { SectionSought };
+
+    ghost refuses = { λ a x e b. Unit {0} };
+
+    fn take(&mut self, header: usize) -> Result<(), AllocError> {
+        let found = self.found_with(header);
+        self.step(found)
+    }
+}
+
+/// The numbers of the sections that ask for a symbol, and the number behind these.
+#[tactic(auto, using(crate::proofs::NumberLemmas::asked_numbers))]
+fn asked_numbers(alloc: Global, layout: &Layout) -> Result<(Vec<Option<usize>>, usize), AllocError>
+    ensures numbers { IfOk result (λ r. HasAskedNumbers layout.now r.0.items) }
+    ensures behind { IfOk result (λ r. r.1 ≡ 1 + length (asked_from 0 layout.now.sections)) }
+{
+    let sections = layout.sections.as_slice();
+    let mut table = SectionTable {
+        numbers: vec![in alloc; None; sections.len()]?,
+        next: 1,
+    };
+    give_asked_sections(sections, &mut table)?;
+    Ok((table.numbers, table.next))
+}
+
+/// The numbers of the sections that the object keeps by themselves, and the number behind these.
+#[tactic(auto, using(crate::proofs::NumberLemmas::alone_numbers))]
+fn alone_numbers(
+    alloc: Global,
+    layout: &Layout,
+    front: usize,
+) -> Result<(Vec<Option<usize>>, usize), AllocError>
+    ensures numbers { IfOk result (λ r. HasAloneNumbers layout.now front r.0.items) }
+    ensures behind { IfOk result (λ r. r.1 ≡ front + length (kept_alone layout.now)) }
+{
+    let mut table = SectionTable {
+        numbers: vec![in alloc; None; layout.sections.len()]?,
+        next: front,
+    };
+    give_kept_alone(layout, &mut table)?;
+    Ok((table.numbers, table.next))
+}
+
+/// The numbers of the symbols of sections, by the sections' header indexes.
+#[derive(Drop)]
+pub(crate) struct SectionNumbers<'a> {
+    pub(crate) layout: &'a Layout,
+    asked: Vec<Option<usize>>,
+    alone: Vec<Option<usize>>,
+    front: usize,
+    behind: usize,
+    ghost asked_are: { HasAskedNumbers layout.now asked.items },
+    ghost front_is: { front ≡ 1 + length (asked_from 0 layout.now.sections) },
+    ghost alone_are: { HasAloneNumbers layout.now front alone.items },
+    ghost behind_is: { behind ≡ front + length (kept_alone layout.now) },
+}
+
+impl<'a> SectionNumbers<'a> {
+    /// Those of a layout.
+    pub(crate) fn of(alloc: Global, layout: &'a Layout) -> Result<SectionNumbers<'a>, AllocError>
+        ensures { IfOk result (λ n. n.layout.now ≡ layout.now) }
+    {
+        let (asked, front) = asked_numbers(alloc, layout)?;
+        let (alone, behind) = alone_numbers(alloc, layout, front)?;
+        Ok(SectionNumbers {
+            layout,
+            asked,
+            alone,
+            front,
+            behind,
+        })
+    }
+
+    /// How many entries stand in front of those of names: that of zeros, and in a relocatable object those of sections.
+    #[tactic(auto, unfolding(wild_needs::specs::TableSymbols::section_symbols), using(crate::proofs::NumberLemmas::front_counted))]
+    pub(crate) fn front_count(&self) -> usize
+        ensures { result ≡ front_count self.now.layout.now }
+    {
+        if self.layout.kind.is_partial_link() {
+            self.behind
+        } else {
+            1
+        }
+    }
+
+    /// The number of a section that asks for a symbol.
+    #[tactic(auto, using(crate::proofs::NumberLemmas::asked_looked_up))]
+    fn asked_number(&self, header: usize) -> Option<usize>
+        ensures { result ≡ number_from header 1 (asked_from 0 self.now.layout.now.sections) }
+    {
+        match self.asked.get(header) {
+            Some(number) => *number,
+            None => None,
+        }
+    }
+
+    /// The number of a section that the object keeps by itself, found by a walk over all.
+    #[tactic(auto, using(crate::proofs::NumberLemmas::sought))]
+    fn sought_number(&self, header: usize) -> Result<Option<usize>, AllocError>
+        ensures { IfOk result (λ n. n ≡ number_from header self.now.front (kept_alone self.now.layout.now)) }
+    {
+        let mut search = SectionSearch {
+            header,
+            found: None,
+            next: self.front,
+        };
+        give_kept_alone(self.layout, &mut search)?;
+        Ok(search.found)
+    }
+
+    /// The same by the table; a header index that no section has is sought.
+    #[tactic(auto, using(crate::proofs::NumberLemmas::alone_looked_up))]
+    fn alone_number(&self, header: usize) -> Result<Option<usize>, AllocError>
+        ensures { IfOk result (λ n. n ≡ number_from header self.now.front (kept_alone self.now.layout.now)) }
+    {
+        match self.alone.get(header) {
+            Some(number) => Ok(*number),
+            None => self.sought_number(header),
+        }
+    }
+
+    /// The number of the symbol of the section that an input section stands in; 0 where there is none.
+    fn section_index(&self, section: &InputSection) -> Result<usize, AllocError>
+        ensures { IfOk result (λ n. n ≡ section_index self.now.layout.now section.now) }
+    {
+        let number = match section.singleton {
+            Some(header) => self.alone_number(header.0)?,
+            None => self.asked_number(self.layout.section_of(section.part).0),
+        };
+        Ok(number.unwrap_or(0))
+    }
+
+    /// The same; of a section that is left out there is none.
+    fn section_number(&self, section: &InputSection) -> Result<Option<usize>, AllocError>
+        ensures { IfOk result (λ n. n ≡ section_number self.now.layout.now section.now) }
+    {
+        if section.slot.is_discarded() {
+            return Ok(None);
+        }
+        Ok(Some(self.section_index(section)?))
+    }
+
+    /// The number of the section symbol of a symbol, as one of a file.
+    pub(crate) fn tell(&self, file: &File, symbol: &Symbol) -> Result<Option<usize>, AllocError>
+        ensures { IfOk result (λ n. n ≡ told_of self.now.layout.now file.now symbol.now) }
+    {
+        let Place::Section(index) = symbol.place else {
+            return Ok(None);
+        };
+        match file.sections.as_slice().get(index) {
+            Some(section) if symbol.info % 16 == STT_SECTION => self.section_number(section),
+            _ => Ok(None),
+        }
+    }
+}
