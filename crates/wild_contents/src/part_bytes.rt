@@ -12,7 +12,8 @@ ghost use Rattle.wild_layout.specs.SectionPlaces.{FieldLies};
 
 use std::alloc::{AllocError, Global};
 use std::marker::Model;
-use wild_debug::apply_debug_relocations;
+use std::thread::Threads;
+use wild_debug::{ShardedArch, Workers};
 use wild_relax::Arch;
 use wild_sections::{Origin, Resolved, write_data, write_group_section, write_rela_section};
 use wild_types::{Error, InputSection, ItemRef};
@@ -83,9 +84,10 @@ impl PartBytes {
     }
 
     /// Adds the bytes of a section that debuggers read, which stands so, with its relocations, or answers its first fault, with the place
-    /// that it has in the input.
-    pub fn add_debug<A: Arch>(
+    /// that it has in the input; by so many workers.
+    pub fn add_debug<A: ShardedArch, R: Threads + Sync>(
         &mut self,
+        by: &Workers<R>,
         resolved: &Resolved<A>,
         origin: &Origin,
         section: &InputSection,
@@ -97,7 +99,8 @@ impl PartBytes {
     {
         let from = self.entries.len();
         self.entries.extend_from_slice(section.bytes.as_slice())?;
-        apply_debug_relocations(
+        A::apply_by_workers(
+            by,
             resolved,
             origin.place,
             origin.relocations,

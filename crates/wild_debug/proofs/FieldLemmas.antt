@@ -1,25 +1,27 @@
 -- What the code writes of a relocation is what the rule makes of its field.
-use Rattle.std.proofs.Common.{◌≡◌, ℕ, ◌+◌, ◌-◌, inl, inr, List, [], ◌∷◌, ◌++◌, length, take, drop, slice_range, replicate, refl, sym, ap, ◌∙◌, arith, subst}
-use Rattle.std.specs.Prelude.{Result, Ok, Err, IfOk}
+use Rattle.std.proofs.Common.{◌≡◌, ℕ, get_or, ◌+◌, ◌-◌, inl, inr, List, [], ◌∷◌, ◌++◌, length, take, drop, slice_range, replicate, refl, sym, ap, ◌∙◌, arith, subst}
+use Rattle.std.specs.Prelude.{Result, Ok, Err, IfOk, All, ◌≤◌, ◌⊎◌}
 use Rattle.std.proofs.lemmas.List.{append-nil, drop_all, take_all, take-append-drop, drop-drop, length-replicate}
 use Rattle.wild_words.specs.Words.{place}
 use Rattle.wild_words.proofs.Basics.{length-range}
 use Rattle.wild_words.proofs.OverlayLemmas.{length-place}
 use Rattle.wild_types.specs.declared.fault.At.{At}
 use Rattle.wild_types.specs.declared.fault.Fault.{Fault}
+use Rattle.wild_types.specs.declared.kind.Machine.{Machine}
+use Rattle.wild_types.specs.Rows.{field_bytes}
 use Rattle.wild_types.specs.declared.input.InputRelocation.{InputRelocation}
 use Rattle.wild_types.specs.declared.input.InputSection.{InputSection}
 use Rattle.wild_types.specs.declared.layout.Layout.{Layout}
 use Rattle.wild_reloc.specs.Field.{size_width, size_written}
 use Rattle.wild_reloc.specs.declared.info.RelocationSize.{RelocationSize}
 use Rattle.wild_reloc.proofs.PlaceLemmas.{length-size_written}
-use Rattle.wild_shards.specs.InOrder.{Rule, width, step_on, then_on}
+use Rattle.wild_shards.specs.InOrder.{Rule, width, step_on, then_on, FieldWithin}
 use Rattle.wild_layout.specs.declared.decision.Decision.{Decision}
 use Rattle.wild_layout.specs.declared.decision.Decision.TheVariants.{Field}
 use Rattle.wild_layout.specs.SectionPlaces.{FieldLies}
 use Rattle.wild_layout.specs.Debug.{debug_decided, debug_field, debug_written, debug_rule, nowhere_at}
 use Rattle.wild_layout.proofs.DebugLemmas.{decided_leaves, debug_width}
-use Rattle.wild_debug.specs.Fields.{LiesAt}
+use Rattle.wild_debug.specs.Fields.{LiesAt, FieldLiesFrom}
 
 -- ---- fields by themselves
 
@@ -93,26 +95,29 @@ decided_width l s r z v is =
     let long : length old ≡ w = length-replicate w 0 in
     size_is z v w old (debug_decided l s r) is long (λ e has. decided_keeps l s r e old long has)
 
--- where a field lies, as the rule has its width
-lies_by : (l : Layout) (s : InputSection) (r : InputRelocation) (n w : ℕ) → w ≡ width (debug_rule l nowhere_at s) r → FieldLies l.machine n r → LiesAt r.offset w n
-lies_by l s r n w e (inl h) = inl (e ∙ (debug_width l nowhere_at s r ∙ h))
-lies_by l s r n w e (inr h) = let k = debug_width l nowhere_at s r in inr (omega (arith, e, k, h))
+-- where a field lies in bytes that begin at b, as the rule has its width
+lies_in : (l : Layout) (s : InputSection) (r : InputRelocation) (b n w : ℕ) → w ≡ width (debug_rule l nowhere_at s) r → b ≤ r.offset → (field_bytes l.machine r.number ≡ 0) ⊎ (r.offset + field_bytes l.machine r.number ≤ b + n)
+    → LiesAt (r.offset - b) w n
+lies_in l s r b n w e low (inl h) = inl (e ∙ (debug_width l nowhere_at s r ∙ h))
+lies_in l s r b n w e low (inr h) = let k = debug_width l nowhere_at s r in inr (omega (arith, e, k, low, h))
 
-pub field_lies_at : (l : Layout) (s : InputSection) (r : InputRelocation) (z : RelocationSize) (v n : ℕ) → debug_decided l s r ≡ Ok (Field z v) → FieldLies l.machine n r → LiesAt r.offset (size_width z) n
-field_lies_at l s r z v n is h = lies_by l s r n (size_width z) (decided_width l s r z v is) h
+lies_by : (l : Layout) (s : InputSection) (r : InputRelocation) (b n w : ℕ) → w ≡ width (debug_rule l nowhere_at s) r → FieldLiesFrom l.machine b n r → LiesAt (r.offset - b) w n
+lies_by l s r b n w e h = lies_in l s r b n w e h.0 h.1
+
+pub field_lies_at : (l : Layout) (s : InputSection) (r : InputRelocation) (z : RelocationSize) (v b n : ℕ) → debug_decided l s r ≡ Ok (Field z v) → FieldLiesFrom l.machine b n r → LiesAt (r.offset - b) (size_width z) n
+field_lies_at l s r z v b n is h = lies_by l s r b n (size_width z) (decided_width l s r z v is) h
 
 step_by : (to : ℕ → At) (r : InputRelocation) (d : Result Decision Fault) (e : Decision) (a : ℕ) (old xs : List ℕ) → d ≡ Ok e → then_on (debug_written to r d old) (λ ys. Ok (place a ys xs)) ≡ Ok (place a (debug_field e old) xs)
 step_by to r d e a old xs is = rw is refl
 
 -- a relocation that writes a field
-pub step_field : (l : Layout) (s : InputSection) (r : InputRelocation) (z : RelocationSize) (v : ℕ) (xs ys : List ℕ) → debug_decided l s r ≡ Ok (Field z v)
-    → ys ≡ place r.offset (size_written z v (slice_range xs r.offset (r.offset + size_width z))) xs → step_on (debug_rule l nowhere_at s) 0 r xs ≡ Ok ys
-step_field l s r z v xs ys is e =
+pub step_field : (l : Layout) (s : InputSection) (r : InputRelocation) (z : RelocationSize) (v b : ℕ) (xs ys : List ℕ) → debug_decided l s r ≡ Ok (Field z v)
+    → ys ≡ place (r.offset - b) (size_written z v (slice_range xs (r.offset - b) (r.offset - b + size_width z))) xs → step_on (debug_rule l nowhere_at s) b r xs ≡ Ok ys
+step_field l s r z v b xs ys is e =
     let rule : Rule = debug_rule l nowhere_at s in
-    let at : r.offset - 0 ≡ r.offset = omega arith in
-    step_by nowhere_at r (debug_decided l s r) (Field z v) (r.offset - 0) (slice_range xs (r.offset - 0) (r.offset - 0 + width rule r)) xs is
-    ∙ (ap (λ (a : ℕ). Ok (place a (size_written z v (slice_range xs a (a + width rule r))) xs)) at
-    ∙ (ap (λ (w : ℕ). Ok (place r.offset (size_written z v (slice_range xs r.offset (r.offset + w))) xs)) (sym (decided_width l s r z v is)) ∙ ap (λ (zs : List ℕ). Ok zs) (sym e)))
+    let a : ℕ = r.offset - b in
+    step_by nowhere_at r (debug_decided l s r) (Field z v) a (slice_range xs a (a + width rule r)) xs is
+    ∙ (ap (λ (w : ℕ). Ok (place a (size_written z v (slice_range xs a (a + w))) xs)) (sym (decided_width l s r z v is)) ∙ ap (λ (zs : List ℕ). Ok zs) (sym e))
 
 -- what is no field leaves the bytes as they are
 pub not_field : (d : Decision) → ((z : RelocationSize) (v : ℕ) → d ≡ Field z v → ⊥) → (old : List ℕ) → debug_field d old ≡ old
@@ -120,16 +125,35 @@ not_field (Field z v) unlike old = absurd (unlike z v refl)
 not_field other unlike old = refl
 
 -- one that writes nothing
-pub step_nothing : (l : Layout) (s : InputSection) (r : InputRelocation) (d : Decision) (xs ys : List ℕ) → debug_decided l s r ≡ Ok d → ((old : List ℕ) → debug_field d old ≡ old) → FieldLies l.machine (length xs) r → ys ≡ xs
-    → step_on (debug_rule l nowhere_at s) 0 r xs ≡ Ok ys
-step_nothing l s r d xs ys is plain h e =
+pub step_nothing : (l : Layout) (s : InputSection) (r : InputRelocation) (d : Decision) (b : ℕ) (xs ys : List ℕ) → debug_decided l s r ≡ Ok d → ((old : List ℕ) → debug_field d old ≡ old) → FieldLiesFrom l.machine b (length xs) r → ys ≡ xs
+    → step_on (debug_rule l nowhere_at s) b r xs ≡ Ok ys
+step_nothing l s r d b xs ys is plain h e =
     let rule : Rule = debug_rule l nowhere_at s in
-    let at : r.offset - 0 ≡ r.offset = omega arith in
+    let a : ℕ = r.offset - b in
     let w : ℕ = width rule r in
-    step_by nowhere_at r (debug_decided l s r) d (r.offset - 0) (slice_range xs (r.offset - 0) (r.offset - 0 + w)) xs is
-    ∙ (ap (λ (a : ℕ). Ok (place a (debug_field d (slice_range xs a (a + w))) xs)) at
-    ∙ (ap (λ (zs : List ℕ). Ok (place r.offset zs xs)) (plain (slice_range xs r.offset (r.offset + w)))
-    ∙ (ap (λ (zs : List ℕ). Ok zs) (place_same r.offset w xs (lies_by l s r (length xs) w refl h)) ∙ ap (λ (zs : List ℕ). Ok zs) (sym e))))
+    step_by nowhere_at r (debug_decided l s r) d a (slice_range xs a (a + w)) xs is
+    ∙ (ap (λ (zs : List ℕ). Ok (place a zs xs)) (plain (slice_range xs a (a + w)))
+    ∙ (ap (λ (zs : List ℕ). Ok zs) (place_same a w xs (lies_by l s r b (length xs) w refl h)) ∙ ap (λ (zs : List ℕ). Ok zs) (sym e)))
+
+-- ---- all relocations of a section, or of a shard
+
+from_start : (m : Machine) (n : ℕ) (r : InputRelocation) → FieldLies m n r → FieldLiesFrom m 0 n r
+from_start m n r (inl h) = (omega arith, inl h)
+from_start m n r (inr h) = (omega arith, inr (omega (arith, h)))
+
+-- a section's bytes begin at offset 0
+pub lie_from_start : (m : Machine) (n : ℕ) (rs : List InputRelocation) → All (FieldLies m n) rs → All (FieldLiesFrom m 0 n) rs
+lie_from_start m n rs h = λ k d i. from_start m n (get_or rs k d) (h k d i)
+
+in_part : (l : Layout) (s : InputSection) (b n : ℕ) (r : InputRelocation) → FieldWithin (debug_rule l nowhere_at s) b (b + n) r → FieldLiesFrom l.machine b n r
+in_part l s b n r h =
+    let k = debug_width l nowhere_at s r in
+    let end = h.1 in
+    (h.0, inr (omega (arith, k, end)))
+
+-- a shard's where it tells
+pub lie_in_part : (l : Layout) (s : InputSection) (b n : ℕ) (rs : List InputRelocation) → All (FieldWithin (debug_rule l nowhere_at s) b (b + n)) rs → All (FieldLiesFrom l.machine b n) rs
+lie_in_part l s b n rs h = λ k d i. in_part l s b n (get_or rs k d) (h k d i)
 
 -- ---- lengths
 

@@ -5,7 +5,8 @@ mod apply;
 mod decide;
 mod faults;
 mod pass;
+mod sharded;
 mod step;
 
-pub use apply::{apply_debug_rela_relocations, apply_debug_relocations};
+pub use apply::{ShardedArch, Workers, apply_debug_rela_relocations, apply_debug_relocations};
 pub use decide::DebugStep;

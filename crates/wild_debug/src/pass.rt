@@ -4,8 +4,7 @@ ghost use Rattle.wild_words.specs.Words.{place};
 ghost use Rattle.wild_reloc.specs.Field.{size_width, size_written};
 ghost use Rattle.wild_shards.specs.InOrder.{in_order, step_on, Came};
 ghost use Rattle.wild_layout.specs.Debug.{debug_decided, debug_rule, nowhere_at};
-ghost use Rattle.wild_layout.specs.SectionPlaces.{FieldLies};
-ghost use Rattle.wild_debug.specs.Fields.{LiesAt};
+ghost use Rattle.wild_debug.specs.Fields.{LiesAt, FieldLiesFrom};
 
 use crate::decide::DebugStep;
 use crate::step::nowhere_at;
@@ -25,39 +24,43 @@ fn write_sized(size: RelocationSize, value: u64, out: &mut [u8], offset: u64)
     }
 }
 
-/// Writes the field of a relocation over the bytes of its section, as it was decided.
+/// Writes the field of a relocation over bytes that begin at offset `base`, as it was decided.
 #[inline]
 fn write_decided<A: Arch>(
     _step: &DebugStep<A>,
     relocation: &InputRelocation,
     decision: Decision,
+    base: u64,
     out: &mut [u8],
 )
     requires decided { debug_decided _step.now.resolved.now.layout.now _step.now.section.now relocation.now ≡ Ok decision }
-    requires lies { FieldLies _step.now.resolved.now.layout.now.machine (length out.old) relocation.now }
-    ensures written { step_on (debug_rule _step.now.resolved.now.layout.now nowhere_at _step.now.section.now) 0 relocation.now out.old ≡ Ok out.new }
+    requires lies { FieldLiesFrom _step.now.resolved.now.layout.now.machine base (length out.old) relocation.now }
+    ensures written { step_on (debug_rule _step.now.resolved.now.layout.now nowhere_at _step.now.section.now) base relocation.now out.old ≡ Ok out.new }
     ensures long { length out.new ≡ length out.old }
 {
     match decision {
-        Decision::Field { size, value } => write_sized(size, value, out, relocation.offset),
+        Decision::Field { size, value } => {
+            write_sized(size, value, out, relocation.offset - base)
+        }
         _ => {}
     }
 }
 
-/// Applies a relocation.
+/// Applies a relocation over bytes that begin at offset `base`.
 #[inline]
 fn apply<A: Arch>(
     step: &DebugStep<A>,
     relocation: &InputRelocation,
+    base: u64,
     out: &mut [u8],
 ) -> Result<(), Error>
-    requires lies { FieldLies step.now.resolved.now.layout.now.machine (length out.old) relocation.now }
-    ensures came { Came result out.new (step_on (debug_rule step.now.resolved.now.layout.now nowhere_at step.now.section.now) 0 relocation.now out.old) }
+    requires lies { FieldLiesFrom step.now.resolved.now.layout.now.machine base (length out.old) relocation.now }
+    ensures came { Came result out.new (step_on (debug_rule step.now.resolved.now.layout.now nowhere_at step.now.section.now) base relocation.now out.old) }
     ensures long { length out.new ≡ length out.old }
 {
     match step.decided(relocation) {
         Ok(decision) => {
-            write_decided(step, relocation, decision, out);
+            write_decided(step, relocation, decision, base, out);
             Ok(())
         }
         Err(fault) => Err(Error {
@@ -67,14 +70,18 @@ fn apply<A: Arch>(
     }
 }
 
-/// Applies the relocations of a section one after another, or answers a fault.
-pub(crate) fn apply_in_order<A: Arch>(step: &DebugStep<A>, out: &mut [u8]) -> Result<(), Error>
-    requires lies { All (FieldLies step.now.resolved.now.layout.now.machine (length out.old)) step.now.section.now.relocations }
-    ensures { Came result out.new (in_order (debug_rule step.now.resolved.now.layout.now nowhere_at step.now.section.now) 0 step.now.section.now.relocations out.old) }
+/// Applies relocations one after another over bytes that begin at offset `base`, or answers a fault.
+pub(crate) fn apply_in_order<A: Arch>(
+    step: &DebugStep<A>,
+    relocations: &[InputRelocation],
+    base: u64,
+    out: &mut [u8],
+) -> Result<(), Error>
+    requires lies { All (FieldLiesFrom step.now.resolved.now.layout.now.machine base (length out.old)) relocations.now }
+    ensures { Came result out.new (in_order (debug_rule step.now.resolved.now.layout.now nowhere_at step.now.section.now) base relocations.now out.old) }
 {
-    let relocations = step.section.relocations.as_slice();
     for relocation in relocations {
-        apply(step, relocation, out)?;
+        apply(step, relocation, base, out)?;
     }
     Ok(())
 }

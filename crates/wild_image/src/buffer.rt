@@ -24,10 +24,12 @@ ghost use Rattle.wild_image.specs.Batches.{HasBatch, batch_errors};
 use crate::append::table_size;
 use crate::batch::Batch;
 use std::alloc::{AllocError, Global};
+use std::thread::Threads;
 use wild_contents::{
     Beside, PartBytes, SearchTable, add_content, add_thunks, behind_frames, check_entries,
     check_symbol_tables,
 };
+use wild_debug::{ShardedArch, Workers};
 use wild_laid::{LaidSection, frames_at, lay, lay_sorted, sorted_input};
 use wild_relax::Arch;
 use wild_sections::{InputPlace, Origin, Resolved, write_data};
@@ -180,7 +182,8 @@ fn add_read<A: Arch>(
 
 /// Adds the bytes of a section with data that debuggers read, as it stands, to those of the file's sections, or answers its first fault.
 #[tactic(auto, using(crate::proofs::MadeLemmas::debug_answers, crate::proofs::MadeLemmas::debug_added))]
-fn add_debug<A: Arch>(
+fn add_debug<A: ShardedArch, R: Threads + Sync>(
+    by: &Workers<R>,
     resolved: &Resolved<A>,
     place: InputPlace,
     laid: &LaidSection<'_>,
@@ -193,7 +196,7 @@ fn add_debug<A: Arch>(
     ensures faults { (f : File) → Answers result (stood_faults resolved.now.layout.now place.group place.file place.section f laid.now) }
     ensures bytes { OnOk result ((f : File) → bytes.new ≡ bytes.old ++ section_owned resolved.now.layout.now f laid.now.section) }
 {
-    bytes.add_debug(resolved, &origin_of(place, laid), laid.section())
+    bytes.add_debug(by, resolved, &origin_of(place, laid), laid.section())
 }
 
 /// Whether a section is a table of relocations.
@@ -225,8 +228,8 @@ fn add_made<A: Arch>(
 
 /// Adds the bytes of a section with data that is not loaded, as it stands, to those of the file's sections, or answers its first fault.
 #[tactic(auto, using(crate::proofs::MadeLemmas::no_faults, crate::proofs::MadeLemmas::nothing_added))]
-fn add_unread<A: Arch>(
-    alloc: Global,
+fn add_unread<A: ShardedArch, R: Threads + Sync>(
+    by: &Workers<R>,
     resolved: &Resolved<A>,
     place: InputPlace,
     file: &File,
@@ -243,18 +246,18 @@ fn add_unread<A: Arch>(
 {
     let section = laid.section();
     if section.slot.is_debug() {
-        return add_debug(resolved, place, laid, bytes);
+        return add_debug(by, resolved, place, laid, bytes);
     }
     if section.is_filled(resolved.layout) {
-        add_made(alloc, resolved, section, bytes)?;
+        add_made(by.alloc, resolved, section, bytes)?;
     }
     Ok(())
 }
 
 /// Adds the bytes of a section of that file, as it stands, or answers its first fault.
 #[tactic(auto, using(crate::proofs::StoodLemmas::zeros_owned), unfolding(crate::specs::Stood::stood_faults))]
-fn add_stood<A: Arch>(
-    alloc: Global,
+fn add_stood<A: ShardedArch, R: Threads + Sync>(
+    by: &Workers<R>,
     resolved: &Resolved<A>,
     place: InputPlace,
     file: &File,
@@ -273,19 +276,19 @@ fn add_stood<A: Arch>(
 {
     let section = laid.section();
     if section.is_read() {
-        return add_read(alloc, resolved, place, file, laid, bytes);
+        return add_read(by.alloc, resolved, place, file, laid, bytes);
     }
     if section.nobits {
-        return Ok(add_zeros(alloc, resolved.layout, section, &mut bytes.files)?);
+        return Ok(add_zeros(by.alloc, resolved.layout, section, &mut bytes.files)?);
     }
-    add_unread(alloc, resolved, place, file, laid, &mut bytes.files)
+    add_unread(by, resolved, place, file, laid, &mut bytes.files)
 }
 
 /// Adds the bytes of a section of that file, or answers its first fault, where the file's next frames stand at an address; tells
 /// where those behind it stand.
 #[tactic(auto, using(crate::proofs::StoodLemmas::section_stood, crate::proofs::StoodLemmas::laid_whole, crate::proofs::StoodLemmas::laid_apart, wild_contents::proofs::LaidLemmas::room_of_laid))]
-fn add_section<A: Arch>(
-    alloc: Global,
+fn add_section<A: ShardedArch, R: Threads + Sync>(
+    by: &Workers<R>,
     resolved: &Resolved<A>,
     place: InputPlace,
     file: &File,
@@ -302,16 +305,16 @@ fn add_section<A: Arch>(
     ensures frames { OnOk result (bytes.new.frames ≡ bytes.old.frames ++ frame_bytes_of resolved.now.layout.now file.now (laid_section resolved.now.layout.now file.now at section.now)) }
     ensures tables { bytes.new.tables ≡ bytes.old.tables }
 {
-    let laid = lay(alloc, resolved.layout, file, at, section)?;
-    add_stood(alloc, resolved, place, file, &laid, bytes)?;
+    let laid = lay(by.alloc, resolved.layout, file, at, section)?;
+    add_stood(by, resolved, place, file, &laid, bytes)?;
     Ok(behind_frames(at, laid.section()))
 }
 
 /// Adds the bytes of the sections of a file, whose frames stand from an address on, or answers their first fault; tells where those
 /// behind stand.
 #[tactic(auto, using(crate::proofs::StoodLemmas::faults_refuse, crate::proofs::StoodLemmas::faults_done, crate::proofs::StoodLemmas::given_done, wild_contents::proofs::LaidLemmas::reach_done))]
-fn add_file_sections<A: Arch>(
-    alloc: Global,
+fn add_file_sections<A: ShardedArch, R: Threads + Sync>(
+    by: &Workers<R>,
     resolved: &Resolved<A>,
     place: InputPlace,
     file: &File,
@@ -333,15 +336,15 @@ fn add_file_sections<A: Arch>(
             section: i,
             ..place
         };
-        next = add_section(alloc, resolved, here, file, next, section, bytes)?;
+        next = add_section(by, resolved, here, file, next, section, bytes)?;
     }
     Ok(next)
 }
 
 /// Adds the bytes of a section that is named among the sorted ones, or answers its first fault, which has the section's own place.
 #[tactic(auto, using(crate::proofs::StoodLemmas::sorted_stood, crate::proofs::StandingLemmas::one_owned, crate::proofs::StoodLemmas::sorted_no_frames))]
-fn add_sorted_section<A: Arch>(
-    alloc: Global,
+fn add_sorted_section<A: ShardedArch, R: Threads + Sync>(
+    by: &Workers<R>,
     resolved: &Resolved<A>,
     entry: &SortedSection,
     bytes: &mut GroupBytes,
@@ -359,8 +362,8 @@ fn add_sorted_section<A: Arch>(
     };
     match sorted_input(resolved.layout, *entry) {
         Some(input) => {
-            let laid = lay_sorted(alloc, resolved.layout, input.section)?;
-            add_stood(alloc, resolved, place, input.file, &laid, bytes)
+            let laid = lay_sorted(by.alloc, resolved.layout, input.section)?;
+            add_stood(by, resolved, place, input.file, &laid, bytes)
         }
         None => Ok(()),
     }
@@ -368,8 +371,8 @@ fn add_sorted_section<A: Arch>(
 
 /// Adds the bytes of the sorted sections, or answers their first fault.
 #[tactic(auto, using(wild_sections::proofs::FaultLemmas::first_faults))]
-fn add_sorted<A: Arch>(
-    alloc: Global,
+fn add_sorted<A: ShardedArch, R: Threads + Sync>(
+    by: &Workers<R>,
     resolved: &Resolved<A>,
     bytes: &mut GroupBytes,
 ) -> Result<(), Error>
@@ -380,7 +383,7 @@ fn add_sorted<A: Arch>(
     ensures tables { bytes.new.tables ≡ bytes.old.tables }
 {
     for entry in resolved.layout.sorted.as_slice() {
-        add_sorted_section(alloc, resolved, entry, bytes)?;
+        add_sorted_section(by, resolved, entry, bytes)?;
     }
     Ok(())
 }
@@ -396,8 +399,8 @@ fn add_end(layout: &Layout, frames: &mut PartBytes) -> Result<(), AllocError>
 }
 
 /// Adds what only the last file has: the sorted sections, and what ends the frames.
-fn add_last<A: Arch>(
-    alloc: Global,
+fn add_last<A: ShardedArch, R: Threads + Sync>(
+    by: &Workers<R>,
     resolved: &Resolved<A>,
     file: &File,
     bytes: &mut GroupBytes,
@@ -409,7 +412,7 @@ fn add_last<A: Arch>(
     ensures tables { bytes.new.tables ≡ bytes.old.tables }
 {
     if file.role.is_epilogue() {
-        add_sorted(alloc, resolved, bytes)?;
+        add_sorted(by, resolved, bytes)?;
         add_end(resolved.layout, &mut bytes.frames)?;
     }
     Ok(())
@@ -467,8 +470,8 @@ fn check_search_table(
 /// Adds what a file has behind its sections: what only the last or the first file has, and its thunks; or answers the first fault of
 /// these, of its copies and slots, and of the search table.
 #[tactic(auto, using(wild_sections::proofs::FaultLemmas::first_of_both), unfolding(crate::specs::Stood::errors_behind, crate::specs::Stood::bytes_behind))]
-fn add_behind<A: Arch>(
-    alloc: Global,
+fn add_behind<A: ShardedArch, R: Threads + Sync>(
+    by: &Workers<R>,
     resolved: &Resolved<A>,
     place: InputPlace,
     file: &File,
@@ -482,7 +485,7 @@ fn add_behind<A: Arch>(
     ensures frames { OnOk result (bytes.new.frames ≡ bytes.old.frames ++ of_last_file file.now (end_of_frames resolved.now.layout.now)) }
     ensures tables { bytes.new.tables ≡ bytes.old.tables }
 {
-    add_last(alloc, resolved, file, bytes)?;
+    add_last(by, resolved, file, bytes)?;
     check_entries(resolved, place, file)?;
     add_first(resolved.layout, file, &mut bytes.files)?;
     add_thunks(resolved, place, file, &mut bytes.files)?;
@@ -492,8 +495,8 @@ fn add_behind<A: Arch>(
 /// Adds the bytes of the sections of a file, whose frames stand from an address on, and what it has behind them, or answers its first
 /// fault; tells where the frames behind stand.
 #[tactic(auto, using(wild_sections::proofs::FaultLemmas::first_of_both, crate::proofs::StoodLemmas::file_faults_by, crate::proofs::StoodLemmas::file_owned_by, crate::proofs::StoodLemmas::file_frames_by))]
-fn add_file<A: Arch>(
-    alloc: Global,
+fn add_file<A: ShardedArch, R: Threads + Sync>(
+    by: &Workers<R>,
     resolved: &Resolved<A>,
     place: InputPlace,
     file: &File,
@@ -509,15 +512,15 @@ fn add_file<A: Arch>(
     ensures frames { OnOk result (bytes.new.frames ≡ bytes.old.frames ++ frames_bytes resolved.now.layout.now (laid_file resolved.now.layout.now at file.now)) }
     ensures tables { bytes.new.tables ≡ bytes.old.tables }
 {
-    let next = add_file_sections(alloc, resolved, place, file, at, bytes)?;
-    add_behind(alloc, resolved, place, file, table, bytes)?;
+    let next = add_file_sections(by, resolved, place, file, at, bytes)?;
+    add_behind(by, resolved, place, file, table, bytes)?;
     Ok(next)
 }
 
 /// Adds the bytes of a group's files, or answers their first fault.
 #[tactic(auto, using(crate::proofs::StoodLemmas::files_refuse, crate::proofs::StoodLemmas::files_done, crate::proofs::StoodLemmas::framed_done), unfolding(crate::specs::Append::GroupStands, crate::specs::Pieces::group_files, wild_contents::specs::Laid::group_frames, wild_laid::specs::Laid::laid_files))]
-fn add_files<A: Arch>(
-    alloc: Global,
+fn add_files<A: ShardedArch, R: Threads + Sync>(
+    by: &Workers<R>,
     resolved: &Resolved<A>,
     index: usize,
     group: &Group,
@@ -538,15 +541,15 @@ fn add_files<A: Arch>(
             file: i,
             section: 0,
         };
-        next = add_file(alloc, resolved, place, file, next, table, bytes)?;
+        next = add_file(by, resolved, place, file, next, table, bytes)?;
     }
     Ok(())
 }
 
 /// Adds the bytes of a group's files, or answers its first fault: that of its files, or else of the symbols that other modules see.
 #[tactic(auto, using(wild_sections::proofs::FaultLemmas::first_of_both), unfolding(wild_layout::specs::Faults::group_errors))]
-fn add_group_files<A: Arch>(
-    alloc: Global,
+fn add_group_files<A: ShardedArch, R: Threads + Sync>(
+    by: &Workers<R>,
     resolved: &Resolved<A>,
     index: usize,
     group: &Group,
@@ -560,7 +563,7 @@ fn add_group_files<A: Arch>(
     ensures frames { OnOk result (bytes.new.frames ≡ bytes.old.frames ++ group_frames resolved.now.layout.now group.now) }
     ensures tables { bytes.new.tables ≡ bytes.old.tables }
 {
-    add_files(alloc, resolved, index, group, table, bytes)?;
+    add_files(by, resolved, index, group, table, bytes)?;
     check_symbol_tables(resolved, index, group.files.as_slice())
 }
 
@@ -602,8 +605,8 @@ impl GroupBytes {
 }
 
 /// Adds all bytes of a group, or answers its first fault.
-pub(crate) fn add_group<A: Arch>(
-    alloc: Global,
+pub(crate) fn add_group<A: ShardedArch, R: Threads + Sync>(
+    by: &Workers<R>,
     resolved: &Resolved<A>,
     index: usize,
     group: &Group,
@@ -618,19 +621,19 @@ pub(crate) fn add_group<A: Arch>(
     ensures tables { OnOk result (bytes.new.tables ≡ bytes.old.tables ++ group_tables resolved.now.layout.now group.now) }
     ensures files { OnOk result (bytes.new.files ≡ bytes.old.files ++ group_files resolved.now.layout.now group.now) }
 {
-    bytes.frames = PartBytes::empty(alloc);
-    add_group_files(alloc, resolved, index, group, table, bytes)?;
+    bytes.frames = PartBytes::empty(by.alloc);
+    add_group_files(by, resolved, index, group, table, bytes)?;
     let beside = Beside {
         frames: bytes.frames.as_slice(),
         table: table.bytes.as_slice(),
     };
-    add_group_tables(alloc, resolved, group, &beside, &mut bytes.tables)?;
+    add_group_tables(by.alloc, resolved, group, &beside, &mut bytes.tables)?;
     Ok(())
 }
 
 /// All bytes of a batch, or its first fault.
-pub(crate) fn bytes_of_batch<A: Arch>(
-    alloc: Global,
+pub(crate) fn bytes_of_batch<A: ShardedArch, R: Threads + Sync>(
+    by: &Workers<R>,
     resolved: &Resolved<A>,
     batch: &Batch,
     table: &SearchTable,
@@ -644,9 +647,9 @@ pub(crate) fn bytes_of_batch<A: Arch>(
     ensures bytes { IfOk result (HasBatch resolved.now.layout.now batch.now) }
 {
     let (tables, files) = room_of_groups(resolved.layout, batch.groups);
-    let mut bytes = GroupBytes::with_room(alloc, tables, files)?;
+    let mut bytes = GroupBytes::with_room(by.alloc, tables, files)?;
     for (i, group) in batch.groups.iter().enumerate() {
-        add_group(alloc, resolved, batch.first + i, group, table, &mut bytes)?;
+        add_group(by, resolved, batch.first + i, group, table, &mut bytes)?;
     }
     Ok(bytes)
 }

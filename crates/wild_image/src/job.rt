@@ -8,9 +8,11 @@ ghost use Rattle.wild_image.specs.Stood.{IsMade};
 use crate::batch::Batch;
 use crate::buffer::{GroupBytes, bytes_of_batch};
 use crate::pairs::{Pairs, pairs_of_groups};
-use std::alloc::{AllocError, Global};
+use std::alloc::AllocError;
+use std::thread::Threads;
 use wild_contents::SearchTable;
 use wild_crew::{Counted, Job};
+use wild_debug::{ShardedArch, Workers};
 use wild_geometry::layouts_are_laid_out;
 use wild_relax::Arch;
 use wild_sections::Resolved;
@@ -35,8 +37,8 @@ impl Counted for Outcome {
 
 /// The batches of a layout whose clauses hold and whose shares are what is needed.
 #[derive(Drop)]
-pub(crate) struct GroupJob<'a, A: Arch> {
-    pub(crate) alloc: Global,
+pub(crate) struct GroupJob<'a, A: Arch, R> {
+    pub(crate) by: Workers<'a, R>,
     pub(crate) resolved: Resolved<'a, A>,
     pub(crate) batches: &'a [Batch<'a>],
     pub(crate) table: &'a SearchTable,
@@ -47,8 +49,9 @@ pub(crate) struct GroupJob<'a, A: Arch> {
     ghost table_is: { IsMade resolved.layout.now table.now },
 }
 
-impl<'a, A: Arch> Job<Outcome> for GroupJob<'a, A> {
+impl<'a, A: ShardedArch, R: Threads + Sync> Job<Outcome> for GroupJob<'a, A, R> {
     ghost use Rattle.std.specs.Prelude.{length};
+    ghost use Rattle.std.specs.Thread.{IsSync};
     ghost use Rattle.wild_image.specs.Batches.{GivesBatch, pairs_at};
 
     ghost number = { λ j. length j.batches.now };
@@ -57,7 +60,7 @@ impl<'a, A: Arch> Job<Outcome> for GroupJob<'a, A> {
 
     ghost counts_of = { λ j i. pairs_at j.resolved.layout.now j.batches.now i };
 
-    ghost ready = { λ _. Unit {0} };
+    ghost ready = { λ _. IsSync R.row };
 
     fn groups(&self) -> u32 {
         self.batches.len() as u32
@@ -66,8 +69,8 @@ impl<'a, A: Arch> Job<Outcome> for GroupJob<'a, A> {
     fn run(&self, group: u32) -> Result<Outcome, AllocError> {
         layouts_are_laid_out();
         let batch = &self.batches[group as usize];
-        let counts = pairs_of_groups(self.alloc, self.resolved.layout, batch.groups)?;
-        let bytes = bytes_of_batch(self.alloc, &self.resolved, batch, self.table);
+        let counts = pairs_of_groups(self.by.alloc, self.resolved.layout, batch.groups)?;
+        let bytes = bytes_of_batch(&self.by, &self.resolved, batch, self.table);
         Ok(Outcome { bytes, counts })
     }
 }

@@ -18,6 +18,7 @@ pub use padding::fill_padding_for_sections;
 pub use piece::{GroupPiece, write_group};
 pub use shares::check_shares;
 pub use wild_contents::{PartBytes, write_gnu_build_id_note, write_gnu_property_notes};
+pub use wild_debug::ShardedArch;
 pub use wild_headers::{populate_file_header, write_program_headers, write_section_headers};
 pub use wild_needs::elf_entry_address;
 pub use wild_relax::{Arch, ElfAArch64, ElfX86_64};

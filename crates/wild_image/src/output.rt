@@ -20,6 +20,7 @@ use std::thread::Threads;
 use wild_clauses::well_formed;
 use wild_contents::make_search_table;
 use wild_crew::{Gate, OpenGate, gather};
+use wild_debug::{ShardedArch, Workers};
 use wild_geometry::layouts_are_laid_out;
 use wild_needs::elf_entry_address;
 use wild_relax::{Arch, ElfAArch64, ElfX86_64};
@@ -84,7 +85,7 @@ fn write_bytes<A: Arch>(
 }
 
 /// The image of a layout whose clauses hold and whose shares are what is needed, or its first fault.
-fn write_laid_out<A: Arch + Sync, G: Gate + Sync, R: Threads + Sync>(
+fn write_laid_out<A: ShardedArch + Sync, G: Gate + Sync, R: Threads + Sync>(
     rt: &R,
     alloc: Global,
     layout: &Layout,
@@ -109,8 +110,13 @@ where
     let groups = layout.groups.as_slice();
     let cut = batches_of(alloc, groups, batch_size(groups.len()))?;
     let batches = cut.as_slice();
-    let job = GroupJob {
+    let by = Workers {
+        rt,
         alloc,
+        count: usize::from(workers),
+    };
+    let job = GroupJob {
+        by,
         resolved,
         batches,
         table: &table,
@@ -131,7 +137,7 @@ where
 
 /// The image of a layout, or its first fault, by so many workers, each of which enters the gate before each batch of groups
 /// that it works on.
-pub fn write_gated<A: Arch + Sync>(
+pub fn write_gated<A: ShardedArch + Sync>(
     rt: &(impl Threads + Sync),
     alloc: Global,
     layout: &Layout,
@@ -154,7 +160,7 @@ where
 }
 
 /// The image of a layout, or its first fault, by so many workers.
-pub fn write<A: Arch + Sync>(
+pub fn write<A: ShardedArch + Sync>(
     rt: &(impl Threads + Sync),
     alloc: Global,
     layout: &Layout,

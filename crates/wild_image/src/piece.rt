@@ -22,6 +22,7 @@ use std::alloc::{AllocError, Global};
 use std::marker::Sync;
 use std::thread::Threads;
 use wild_contents::{PartBytes, SearchTable, make_search_table};
+use wild_debug::{ShardedArch, Workers};
 use wild_geometry::layouts_are_laid_out;
 use wild_relax::Arch;
 use wild_sections::Resolved;
@@ -37,8 +38,8 @@ pub struct GroupPiece {
 }
 
 /// What a group has and counts, or its first fault.
-fn piece_of<A: Arch>(
-    alloc: Global,
+fn piece_of<A: ShardedArch, R: Threads + Sync>(
+    by: &Workers<R>,
     resolved: &Resolved<A>,
     index: usize,
     group: &Group,
@@ -54,13 +55,13 @@ fn piece_of<A: Arch>(
     ensures parts { IfOk result (λ p. p.parts ≡ group_parts resolved.now.layout.now group.now) }
     ensures counts { IfOk result (λ p. p.counts ≡ group_pairs resolved.now.layout.now group.now) }
 {
-    let mut bytes = GroupBytes::with_room(alloc, 0, 0)?;
-    add_group(alloc, resolved, index, group, table, &mut bytes)?;
-    let parts = cut_group(alloc, resolved.layout, group, &bytes)?;
-    let pairs = with_group(alloc, resolved.layout, group, Pairs::None)?;
+    let mut bytes = GroupBytes::with_room(by.alloc, 0, 0)?;
+    add_group(by, resolved, index, group, table, &mut bytes)?;
+    let parts = cut_group(by.alloc, resolved.layout, group, &bytes)?;
+    let pairs = with_group(by.alloc, resolved.layout, group, Pairs::None)?;
     Ok(GroupPiece {
         parts,
-        counts: Items::from_vec(Vec::from_slice(alloc, pairs.as_slice())?),
+        counts: Items::from_vec(Vec::from_slice(by.alloc, pairs.as_slice())?),
     })
 }
 
@@ -95,7 +96,7 @@ fn table_for<A: Arch>(
 
 /// What the group with that number has and counts, or its first fault. `well_formed` tells whether the clauses
 /// hold, `check_shares` whether the shares are what is needed.
-pub fn write_group<A: Arch>(
+pub fn write_group<A: ShardedArch>(
     rt: &(impl Threads + Sync),
     alloc: Global,
     layout: &Layout,
@@ -111,5 +112,10 @@ pub fn write_group<A: Arch>(
     let resolved = Resolved::<A>::new(alloc, layout)?;
     let found = &layout.groups.as_slice()[group];
     let table = table_for(rt, alloc, &resolved, found)?;
-    piece_of(alloc, &resolved, group, found, &table)
+    let by = Workers {
+        rt,
+        alloc,
+        count: 1,
+    };
+    piece_of(&by, &resolved, group, found, &table)
 }

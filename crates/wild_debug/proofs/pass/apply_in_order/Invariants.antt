@@ -6,5 +6,5 @@ use Rattle.wild_debug.proofs.pass.apply_in_order.Given as goal
 abbrev pub invariant-loop-relocation : goal.invariant-loop-relocation
 invariant-loop-relocation g l = record {
   long : length l.out ≡ length l.initial.out;
-  rest : in_order (debug_rule l.step.resolved.now.layout.now nowhere_at l.step.section.now) 0 (drop l.relocation-index l.relocations) l.out ≡ in_order (debug_rule l.step.resolved.now.layout.now nowhere_at l.step.section.now) 0 l.relocations l.initial.out;
+  rest : in_order (debug_rule l.step.resolved.now.layout.now nowhere_at l.step.section.now) l.base (drop l.relocation-index l.relocations) l.out ≡ in_order (debug_rule l.step.resolved.now.layout.now nowhere_at l.step.section.now) l.base l.relocations l.initial.out;
 }

@@ -9,10 +9,10 @@ use Rattle.wild_image.proofs.StoodLemmas.{faults_more, faults_refuse, faults_don
 use Rattle.wild_image.proofs.buffer.add_file_sections.Goals as goal
 
 pub add_section-requires-clause-lies : goal.add_section-requires-clause-lies
-add_section-requires-clause-lies g c = lies_head c.args.resolved.now.layout.now c.args.file.now c.as_slice-section-items.result.now c.loop-i.i c.loop-i.next c.section-item.result c.loop-i-test.true c.section-item.is c.loop-i.invariant.lies
+add_section-requires-clause-lies g c κs within = lies_head c.args.resolved.now.layout.now c.args.file.now c.as_slice-section-items.result.now c.loop-i.i c.loop-i.next c.section-item.result c.loop-i-test.true c.section-item.is c.loop-i.invariant.lies
 
 pub add_section-requires-clause-turned : goal.add_section-requires-clause-turned
-add_section-requires-clause-turned g c =
+add_section-requires-clause-turned g c κs within =
     let h = rw c.as_slice-section-items.ensures at c.loop-i-test.true in
     let read = rw c.as_slice-section-items.ensures at c.section-item.is in
     subst (IsTurned c.args.resolved.now.layout.now) (sym read) (c.requires.turned c.loop-i.i c.section-item.result h)

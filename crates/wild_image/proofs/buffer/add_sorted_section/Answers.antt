@@ -11,10 +11,10 @@ use Rattle.wild_image.proofs.StoodLemmas.{sorted_whole, sorted_apart, sorted_kin
 use Rattle.wild_image.proofs.buffer.add_sorted_section.Goals as goal
 
 pub add_stood-requires-clause-whole : goal.add_stood-requires-clause-whole
-add_stood-requires-clause-whole g c = subst (λ (x : Stood). IsWhole x.section) (sym c.in_ok-laid-in-Some.ensures) (sorted_whole c.args.resolved.now.layout.now c.in-Some.input.section.now)
+add_stood-requires-clause-whole g c κs within = subst (λ (x : Stood). IsWhole x.section) (sym c.in_ok-laid-in-Some.ensures) (sorted_whole c.args.resolved.now.layout.now c.in-Some.input.section.now)
 
 pub add_stood-requires-clause-moves : goal.add_stood-requires-clause-moves
-add_stood-requires-clause-moves g c =
+add_stood-requires-clause-moves g c κs within =
     let l = c.args.resolved.now.layout.now in
     let f = c.in-Some.input.file.now in
     let s = c.in-Some.input.section.now in
@@ -23,7 +23,7 @@ add_stood-requires-clause-moves g c =
     subst (λ (x : Stood). is_read x.section ≡ true → StoodApart l f x) (sym c.in_ok-laid-in-Some.ensures) (sorted_apart l f s stands.turned)
 
 pub add_stood-requires-clause-lies : goal.add_stood-requires-clause-lies
-add_stood-requires-clause-lies g c =
+add_stood-requires-clause-lies g c κs within =
     let l = c.args.resolved.now.layout.now in
     let f = c.in-Some.input.file.now in
     let s = c.in-Some.input.section.now in
@@ -40,9 +40,9 @@ returns-in_ok-laid-in-Some-clause-frames g c =
     subst (λ (ys : List ℕ). OnOk c.add_stood.result (c.add_stood.new.bytes.frames ≡ ys)) (ap (λ (ys : List ℕ). old ++ ys) none ∙ append-nil old) c.add_stood.ensures.frames
 
 pub add_stood-requires-clause-kind : goal.add_stood-requires-clause-kind
-add_stood-requires-clause-kind g c =
+add_stood-requires-clause-kind g c κs within =
     let l = c.args.resolved.now.layout.now in
     subst (λ (x : Stood). IsOfKind l x.section) (sym c.in_ok-laid-in-Some.ensures) (sorted_kind l c.in-Some.input.section.now)
 
 pub add_stood-requires-clause-origins : goal.add_stood-requires-clause-origins
-add_stood-requires-clause-origins g c = subst HasOrigins (sym c.in_ok-laid-in-Some.ensures) (sorted_origins c.args.resolved.now.layout.now c.in-Some.input.section.now)
+add_stood-requires-clause-origins g c κs within = subst HasOrigins (sym c.in_ok-laid-in-Some.ensures) (sorted_origins c.args.resolved.now.layout.now c.in-Some.input.section.now)

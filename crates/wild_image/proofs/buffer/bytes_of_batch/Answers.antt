@@ -11,7 +11,7 @@ use Rattle.wild_image.proofs.StoodLemmas.{table_of_all}
 use Rattle.wild_image.proofs.buffer.bytes_of_batch.Goals as goal
 
 pub add_group-requires-clause-table : goal.add_group-requires-clause-table
-add_group-requires-clause-table g c = table_of_all c.args.resolved.now.layout.now c.args.table.now c.group-item.result.files c.requires.table
+add_group-requires-clause-table g c κs within = table_of_all c.args.resolved.now.layout.now c.args.table.now c.group-item.result.files c.requires.table
 
 pub loop-i-preserved : goal.loop-i-preserved
 loop-i-preserved g c = record {

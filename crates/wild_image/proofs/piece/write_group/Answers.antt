@@ -21,7 +21,7 @@ pub new-requires-clause-fits : goal.new-requires-clause-fits
 new-requires-clause-fits g c = FieldsFit-IsLaidOut c.args.layout.now (c.layouts_are_laid_out.ensures c.args.layout.now c.requires.clauses c.requires.shares)
 
 pub piece_of-requires-clause-inputs : goal.piece_of-requires-clause-inputs
-piece_of-requires-clause-inputs g c =
+piece_of-requires-clause-inputs g c κs within =
     let l = c.args.layout.now in
     let all = each_file_lies l (c.layouts_are_laid_out.ensures l c.requires.clauses c.requires.shares) in
     let found = c.index-as_slice-group.result in
@@ -29,14 +29,14 @@ piece_of-requires-clause-inputs g c =
     subst (λ (m : Layout). All (FileLies m) found.files) (sym c.in_ok-resolved.ensures) (holds_at (λ (x : Group). All (FileLies l) x.files) l.groups c.args.group found at all)
 
 pub piece_of-requires-clause-few : goal.piece_of-requires-clause-few
-piece_of-requires-clause-few g c =
+piece_of-requires-clause-few g c κs within =
     let l = c.args.layout.now in
     let all = needs_fit l (c.layouts_are_laid_out.ensures l c.requires.clauses c.requires.shares) in
     let found = c.index-as_slice-group.result in
     holds_at NeedsFit l.groups c.args.group found (slice_get_read l.groups (length l.groups) c.args.group found (search rules) c.requires.group (search rules)) all
 
 pub piece_of-requires-clause-gives : goal.piece_of-requires-clause-gives
-piece_of-requires-clause-gives g c =
+piece_of-requires-clause-gives g c κs within =
     let l = c.args.layout.now in
     let found = c.index-as_slice-group.result in
     let at : slice_get l.groups c.args.group ≡ Some found = slice_get_read l.groups (length l.groups) c.args.group found (search rules) c.requires.group (search rules) in
@@ -44,7 +44,7 @@ piece_of-requires-clause-gives g c =
     subst (λ (m : Layout). GivesItsShares m found) (sym c.in_ok-resolved.ensures) gives
 
 pub piece_of-requires-clause-sections : goal.piece_of-requires-clause-sections
-piece_of-requires-clause-sections g c = λ part.
+piece_of-requires-clause-sections g c κs within = λ part.
     let laid = subst IsLaidOut (sym c.in_ok-resolved.ensures) (c.layouts_are_laid_out.ensures c.args.layout.now c.requires.clauses c.requires.shares) in
     let below = section_below c.in_ok-resolved.resolved.layout.now laid part in
     let few = laid.sections in
@@ -59,7 +59,7 @@ returns g c =
     subst (λ (m : Layout). GivesPiece m c.args.group c.piece_of.result) c.in_ok-resolved.ensures (piece_found c.in_ok-resolved.resolved.layout.now c.args.group found _ there c.piece_of.ensures.faults c.piece_of.ensures.parts c.piece_of.ensures.counts)
 
 pub piece_of-requires-clause-stands : goal.piece_of-requires-clause-stands
-piece_of-requires-clause-stands g c =
+piece_of-requires-clause-stands g c κs within =
     let l = c.args.layout.now in
     let all = each_stands l c.requires.clauses (c.layouts_are_laid_out.ensures l c.requires.clauses c.requires.shares) in
     let found = c.index-as_slice-group.result in
