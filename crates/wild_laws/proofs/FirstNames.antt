@@ -1,10 +1,12 @@
 -- What a formula gives of an address or a distance, and what that is of a symbol that no resolver answers for.
-use Rattle.std.proofs.Common.{◌≡◌, ℕ, ◌+◌, ◌-◌, ◌%◌, ◌^◌, ◌⊎◌, inl, inr, Bool, false, sym, ap, ◌∙◌, subst}
-use Rattle.std.specs.Prelude.{Some}
+use Rattle.std.proofs.Common.{◌≡◌, ℕ, ◌+◌, ◌-◌, ◌%◌, ◌^◌, ◌⊎◌, inl, inr, Bool, false, refl, sym, ap, ◌∙◌, subst, arith}
+use Rattle.std.specs.Prelude.{Option, Some, None}
+use Rattle.wild_types.specs.declared.kind.Machine.{Machine}
 use Rattle.wild_types.specs.declared.kind.Machine.TheVariants as machine
 use Rattle.wild_types.specs.declared.input.InputRelocation.{InputRelocation}
 use Rattle.wild_types.specs.declared.layout.Layout.{Layout}
 use Rattle.wild_types.specs.Flags.{ifunc}
+use Rattle.wild_reloc.specs.Barred.{is_listed}
 use Rattle.wild_reloc.specs.Formula.{Value, SymbolAddress, Distance}
 use Rattle.wild_loader.specs.declared.memory.Memory.{Memory}
 use Rattle.wild_loader.specs.declared.world.World.{World}
@@ -12,11 +14,12 @@ use Rattle.wild_meaning.specs.Value.{HasFlag, HasOwnValue, IsReplaceable, moved}
 use Rattle.wild_meaning.specs.Denotes.{HasStub, Denotes}
 use Rattle.wild_types.specs.Item.{Item}
 use Rattle.wild_meaning.specs.Item.{place_at}
-use Rattle.wild_meaning.specs.Formula.{IsTarget, Gives, TakesAddress, IsReferent}
+use Rattle.wild_meaning.specs.ReferentAArch64.{IsAbsent, branch_types, own_place}
+use Rattle.wild_meaning.specs.Formula.{IsTarget, Gives, TakesAddress, IsReferent, IsReferentBy, IsReferentOnAArch64}
+use Rattle.wild_meaning.specs.Reference.{HoldsPlain}
 use Rattle.wild_meaning.proofs.SymbolLemmas.{target_reached}
-use Rattle.wild_laws.specs.FirstPath.{IsAddress, Demands, NamesAreAddresses, IsNamed}
+use Rattle.wild_laws.specs.FirstPath.{IsAddress, Demands, NamesAreAddresses, StandsFor, IsNamed, HasFormula}
 use Rattle.wild_laws.proofs.Symbols.{own_value, plain_value}
-use Rattle.wild_types.specs.declared.kind.Machine.{Machine}
 
 -- ---- symbols
 
@@ -42,30 +45,65 @@ names_addresses = record {
   goals = λ l w m i a own f h. (h.0, address l w i h.0 f (own_value l w i h.0 own h.1), h.2);
 }
 
--- ---- formulas
+-- ---- what S is
 
-pub record IsDemanded (l : Layout) (w : World) (m : Memory) (s : Item) (r : InputRelocation) (v : Value) (x : ℕ) : Type 0 where
-  pub target : ℕ
-  pub denoted : IsNamed l w m r target
-  pub demanded : Demands v target r.addend (place_at w s r.offset) x
+-- on AArch64 a field that is no branch's has its own place
+own_is : (w : World) (s : Item) (r : InputRelocation) → is_listed r.number branch_types ≡ false → own_place w s r ≡ place_at w s r.offset % 2 ^ 64
+own_is w s r none = let z : place_at w s r.offset + 0 ≡ place_at w s r.offset = omega arith in rw none (ap (λ (n : ℕ). n % 2 ^ 64) z)
 
 -- the value is an address or a distance
 abbrev pub IsKnown : Value → Type 0
 IsKnown v = (v ≡ SymbolAddress) ⊎ (v ≡ Distance)
 
--- S of an expression that takes it
-named_by : (v : Value) (l : Layout) (w : World) (m : Memory) (s : Item) (r : InputRelocation) (a : ℕ) → TakesAddress v → l.machine ≡ machine.X86_64 → IsReferent l.machine v l w m s r a → IsNamed l w m r a
-named_by v l w m s r a takes x86 h = by (subst (λ (k : Machine). IsReferent k v l w m s r a) x86 h)
-  where
-    by : IsReferent machine.X86_64 v l w m s r a → IsNamed l w m r a
-    by (inl s) = inl (s.0.1, s.1)
-    by (inr p) = inr ((λ n. p.0 (takes, n)), p.1)
+one_symbol : {i j : ℕ} → Some i ≡ Some j → i ≡ j
+one_symbol {i} {j} e = cc
 
-pub demanded_of : (l : Layout) (w : World) (m : Memory) (s : Item) (r : InputRelocation) (v : Value) (x : ℕ) → l.machine ≡ machine.X86_64 → IsKnown v → Gives v l w m s r x → IsDemanded l w m s r v x
-demanded_of l w m s r SymbolAddress x x86 k g = record { target = g.symbol; denoted = named_by SymbolAddress l w m s r g.symbol tt x86 g.denoted; demanded = g.sum }
-demanded_of l w m s r Distance x x86 k g = record { target = g.1.symbol; denoted = named_by Distance l w m s r g.1.symbol tt x86 g.1.denoted; demanded = g.2 ∙ ap (λ (n : ℕ). (n + (2 ^ 64 - place_at w s r.offset)) % 2 ^ 64) g.1.sum }
-demanded_of l w m s r other x x86 k g =
+-- what is S by the judge's expression stands for the symbol
+address_stands : (l : Layout) (w : World) (m : Memory) (s : Item) (r : InputRelocation) (a : ℕ) (o : Option ℕ) → r.symbol ≡ o → IsReferentOnAArch64 SymbolAddress l w m s r o a → StandsFor machine.AArch64 SymbolAddress l w m s r a
+address_stands l w m s r a None e h = inr ((λ d. cc d.distance), subst (λ (p : Option ℕ). IsTarget l w m p a) (sym e) h)
+address_stands l w m s r a (Some i) e (inl t) = absurd t.0.0
+address_stands l w m s r a (Some i) e (inr t) = inr ((λ d. cc d.distance), subst (λ (p : Option ℕ). IsTarget l w m p a) (sym e) t.1)
+
+distance_stands : (l : Layout) (w : World) (m : Memory) (s : Item) (r : InputRelocation) (a : ℕ) (o : Option ℕ) → is_listed r.number branch_types ≡ false → r.symbol ≡ o → IsReferentOnAArch64 Distance l w m s r o a → StandsFor machine.AArch64 Distance l w m s r a
+distance_stands l w m s r a None none e h = inr ((λ d. (let both : Some d.symbol.symbol ≡ None = sym d.symbol.named ∙ e in cc)), subst (λ (p : Option ℕ). IsTarget l w m p a) (sym e) h)
+distance_stands l w m s r a (Some i) none e (inl t) = inl (record { distance = refl; symbol = record { symbol = i; named = e; absent = t.0.1 } }, t.1 ∙ own_is w s r none)
+distance_stands l w m s r a (Some i) none e (inr t) = inr ((λ d. t.0 (tt, subst (λ (j : ℕ). IsAbsent l j) (one_symbol (sym d.symbol.named ∙ e)) d.symbol.absent)), subst (λ (p : Option ℕ). IsTarget l w m p a) (sym e) t.1)
+
+stands_by : (k : Machine) (v : Value) (l : Layout) (w : World) (m : Memory) (s : Item) (r : InputRelocation) (a : ℕ) → IsKnown v → (k ≡ machine.AArch64 → is_listed r.number branch_types ≡ false) → IsReferentBy k v l w m s r a → StandsFor k v l w m s r a
+stands_by machine.X86_64 v l w m s r a known none h = h
+stands_by machine.AArch64 v l w m s r a (inl e) none h = subst (λ (u : Value). IsReferentOnAArch64 u l w m s r r.symbol a → StandsFor machine.AArch64 u l w m s r a) (sym e) (λ t. address_stands l w m s r a r.symbol refl t) h
+stands_by machine.AArch64 v l w m s r a (inr e) none h = subst (λ (u : Value). IsReferentOnAArch64 u l w m s r r.symbol a → StandsFor machine.AArch64 u l w m s r a) (sym e) (λ t. distance_stands l w m s r a r.symbol (none refl) refl t) h
+
+named_by : (v : Value) (l : Layout) (w : World) (m : Memory) (s : Item) (r : InputRelocation) (a : ℕ) → IsKnown v → TakesAddress v → (l.machine ≡ machine.AArch64 → is_listed r.number branch_types ≡ false) → IsReferent l.machine v l w m s r a → IsNamed v l w m s r a
+named_by v l w m s r a known takes none (inl t) = inl (t.0.1, t.1)
+named_by v l w m s r a known takes none (inr t) = inr ((λ n. t.0 (takes, n)), stands_by l.machine v l w m s r a known none t.1)
+
+-- ---- formulas
+
+record IsDemanded (l : Layout) (w : World) (m : Memory) (s : Item) (r : InputRelocation) (v : Value) (x : ℕ) : Type 0 where
+  target : ℕ
+  denoted : IsNamed v l w m s r target
+  demanded : Demands v target r.addend (place_at w s r.offset) x
+
+demanded_of : (l : Layout) (w : World) (m : Memory) (s : Item) (r : InputRelocation) (v : Value) (x : ℕ) → (l.machine ≡ machine.AArch64 → is_listed r.number branch_types ≡ false) → IsKnown v → Gives v l w m s r x → IsDemanded l w m s r v x
+demanded_of l w m s r SymbolAddress x none k g = record { target = g.symbol; denoted = named_by SymbolAddress l w m s r g.symbol k tt none g.denoted; demanded = g.sum }
+demanded_of l w m s r Distance x none k g = record { target = g.1.symbol; denoted = named_by Distance l w m s r g.1.symbol k tt none g.1.denoted; demanded = g.2 ∙ ap (λ (n : ℕ). (n + (2 ^ 64 - place_at w s r.offset)) % 2 ^ 64) g.1.sum }
+demanded_of l w m s r other x none k g =
     elim k [
       | inl e ↦ cc
       | inr e ↦ cc
     ]
+
+-- a reference whose field reads as the judge's formula has the formula of an address or a distance
+pub plain_has : (l : Layout) (w : World) (m : Memory) (s : Item) (r : InputRelocation) → (p : HoldsPlain l w m s r) → IsKnown p.formula.value → (l.machine ≡ machine.AArch64 → is_listed r.number branch_types ≡ false) → HasFormula l w m s r
+plain_has l w m s r p known none =
+    let d = demanded_of l w m s r p.formula.value p.value none known p.gives in
+    record {
+      formula = p.formula;
+      known = p.known;
+      target = d.target;
+      denoted = d.denoted;
+      value = p.value;
+      demanded = d.demanded;
+      field = record { bytes = p.field.bytes; wide = p.field.wide; held = p.field.held; reads = p.field.reads };
+    }

@@ -1,13 +1,16 @@
--- What an image owes an x86-64 layout in any world, told by fields, calls and jumps. It follows from the meaning of all layouts.
---   HasFormula ..          the field in memory is the formula's
+-- What an image owes a layout of either machine in any world, told by fields, calls and jumps. It follows from the meaning of all layouts.
+--   IsNamed ..             a is S of an address or a distance
+--   IsBranchedTo ..        a is S, or L, of a call or a jump
 --   BranchReaches ..       a direct call or jump goes to what stands for its symbol
 --   SlotBranchReaches ..   one through a slot goes to what comes to its symbol
+--   HasFormula ..          the field in memory is the formula's
 --   IsFollowed ..          a reference is asked in the world, and not of the output's own symbol alone
---   HoldsByForms ..        what the judge has for every type, on either machine
+--   HoldsByForms ..        what the judge has for every type
 --   HoldsByFields ..       what these say of an input section; of other types by their forms
 --   NamesAreAddresses      what this says of symbols that no resolver answers for
 use Rattle.std.specs.Prelude.{◌≡◌, ℕ, ℤ, ◌+◌, ◌-◌, ◌%◌, ◌^◌, ◌<◌, false, List, length, Some, Contains, slice_index, ◌⊎◌}
 use Rattle.std.specs.Int.{w64, cast_unsigned}
+use Rattle.wild_types.specs.declared.kind.Machine.{Machine}
 use Rattle.wild_types.specs.declared.kind.Machine.TheVariants as machine
 use Rattle.wild_types.specs.declared.input.InputRelocation.{InputRelocation}
 use Rattle.wild_types.specs.declared.input.InputSection.{InputSection}
@@ -15,47 +18,85 @@ use Rattle.wild_types.specs.declared.symbol.Symbol.{Symbol}
 use Rattle.wild_types.specs.declared.layout.Layout.{Layout}
 use Rattle.wild_types.specs.Flags.{has_flag, absolute, ifunc}
 use Rattle.wild_reloc.specs.Formula.{Value, SymbolAddress, Distance, Form, Formula, Reads}
-use Rattle.wild_reloc.specs.FormulaX86_64.{x86_64_formula}
 use Rattle.wild_loader.specs.declared.world.World.{World}
 use Rattle.wild_loader.specs.declared.memory.Memory.{Memory}
 use Rattle.wild_loader.specs.Memory.{Holds, byte_in}
 use Rattle.wild_meaning.specs.Value.{IsSymbol, IsDefinedBy, HasRaw, HasFlag, IsReplaceable, moved}
-use Rattle.wild_loader.specs.Reach.{Reaches}
+use Rattle.wild_loader.specs.Reach.{Reaches, ReachesWithin}
 use Rattle.wild_meaning.specs.Denotes.{HasStub, Denotes}
-use Rattle.wild_meaning.specs.Field.{formula_of, form_width}
+use Rattle.wild_meaning.specs.ReferentAArch64.{IsAbsent}
+use Rattle.wild_meaning.specs.Field.{formula_of, form_width, InNoField}
 use Rattle.wild_meaning.specs.Formula.{IsTarget, IsGoal, Gives}
 use Rattle.wild_loader.specs.declared.instruction.Deed.{Deed}
 use Rattle.wild_loader.specs.declared.instruction.Deed.TheVariants.{Call, Jump}
-use Rattle.wild_loader.specs.InstructionX86_64.{effect_x86_64}
 use Rattle.wild_meaning.specs.Sequence.{Instruction}
-use Rattle.wild_meaning.specs.Template.{reads, IsTemplate, DoesDemanded}
+use Rattle.wild_meaning.specs.Template.{counts_from, effect_of, reads, IsTemplate, DoesDemanded}
 use Rattle.wild_types.specs.Item.{Item}
 use Rattle.wild_meaning.specs.Item.{stood_item}
 use Rattle.wild_meaning.specs.Strings.{NamesStrings, IsString}
 use Rattle.wild_meaning.specs.Reference.{IsAsked, IsLinkedAlone}
 use Rattle.wild_meaning.specs.Linked.{IsLinked}
-use Rattle.wild_laws.specs.FirstTypes.{IsLoadedSection, IsRelocated, address_types, HasFirstTypes, address_at, InNoField, IsBranch, IsBranchField, IsSlotBranch, IsThreadCall}
+use Rattle.wild_laws.specs.FirstTypes.{IsLoadedSection, IsRelocated, address_types, HasFirstTypes, address_at, IsCall, IsJump, IsBranchField, IsSlotCall, IsSlotJump, GivesThreadAddress}
 
--- S + A + 4: the symbol's value, where A takes back the four bytes of the field
-abbrev pub past_field : InputRelocation → ℕ → ℕ
-past_field r a = (a + cast_unsigned w64 r.addend + 4) % 2 ^ 64
+-- ---- what S is
 
--- a is S of a reference: what stands for its symbol, or where that stands for merged strings what with A makes the place of a byte of one
-abbrev pub IsNamed : Layout → World → Memory → InputRelocation → ℕ → Type 0
-IsNamed l w m r a = (NamesStrings l r × IsString l w r a) ⊎ ((NamesStrings l r → ⊥) × IsTarget l w m r.symbol a)
+-- the reference names a symbol that nothing defines, and nothing has to
+pub record NamesAbsent (l : Layout) (r : InputRelocation) : Type 0 where
+  pub symbol : ℕ
+  pub named : r.symbol ≡ Some symbol
+  pub absent : IsAbsent l symbol
 
--- code that goes to a goes to what stands for the symbol, or to a string
-abbrev pub IsBranchedTo : Layout → World → Memory → InputRelocation → ℕ → Type 0
-IsBranchedTo l w m r a = IsTarget l w m r.symbol a ⊎ (NamesStrings l r × IsString l w r a)
+-- on AArch64 the distance of such a symbol is A: it stands at the place itself (aaelf64, "Weak references")
+pub record IsDistanceOfAbsent (v : Value) (l : Layout) (r : InputRelocation) : Type 0 where
+  pub distance : v ≡ Distance
+  pub symbol : NamesAbsent l r
 
--- the five loaded bytes call, or go to, what stands for the symbol, with what the addend has past the field
+-- a is what stands for the symbol in an address or a distance
+abbrev pub StandsFor : Machine → Value → Layout → World → Memory → Item → InputRelocation → ℕ → Type 0
+StandsFor machine.X86_64 v l w m s r a = IsTarget l w m r.symbol a
+StandsFor machine.AArch64 v l w m s r a = (IsDistanceOfAbsent v l r × (a ≡ address_at w s r.offset % 2 ^ 64)) ⊎ ((IsDistanceOfAbsent v l r → ⊥) × IsTarget l w m r.symbol a)
+
+-- a is S there: what stands for the symbol, or where that stands for merged strings what with A makes the place of a byte of one
+abbrev pub IsNamed : Value → Layout → World → Memory → Item → InputRelocation → ℕ → Type 0
+IsNamed v l w m s r a = (NamesStrings l r × IsString l w r a) ⊎ ((NamesStrings l r → ⊥) × StandsFor l.machine v l w m s r a)
+
+-- on AArch64 code that goes to a and A is at what stands for the symbol and A, or in a thunk that goes on to there (aaelf64, "Call and
+-- Jump relocations")
+pub record ComesTo (l : Layout) (w : World) (m : Memory) (r : InputRelocation) (a : ℕ) : Type 0 where
+  pub present : NamesAbsent l r → ⊥
+  pub symbol : ℕ
+  pub stands : IsTarget l w m r.symbol symbol
+  pub comes : ReachesWithin 1 m ((a + cast_unsigned w64 r.addend) % 2 ^ 64) ((symbol + cast_unsigned w64 r.addend) % 2 ^ 64)
+
+-- a symbol that nothing defines stands behind the call or the jump
+pub record IsBehind (l : Layout) (w : World) (s : Item) (r : InputRelocation) (a : ℕ) : Type 0 where
+  pub absent : NamesAbsent l r
+  pub behind : a ≡ (address_at w s r.offset + 4) % 2 ^ 64
+
+-- code that goes to a, with what the addend has, goes to what stands for the symbol, or to a string
+abbrev pub IsBranchedTo : Machine → Layout → World → Memory → Item → InputRelocation → ℕ → Type 0
+IsBranchedTo machine.X86_64 l w m s r a = IsTarget l w m r.symbol a ⊎ (NamesStrings l r × IsString l w r a)
+IsBranchedTo machine.AArch64 l w m s r a = ComesTo l w m r a ⊎ IsBehind l w s r a
+
+-- ---- calls and jumps
+
+-- the symbol's value and A, from where the field counts: on x86-64 A takes back the four bytes of the field
+abbrev pub past_field : Machine → InputRelocation → ℕ → ℕ
+past_field m r a = (a + cast_unsigned w64 r.addend + counts_from m) % 2 ^ 64
+
+-- the bytes of a direct call or jump, and of one through a slot
+abbrev pub branch_size : Machine → ℕ
+branch_size machine.X86_64 = 5
+branch_size machine.AArch64 = 4
+
+-- the loaded bytes call, or go to, what stands for the symbol, with what the addend has past the field
 pub record BranchReaches (l : Layout) (w : World) (m : Memory) (s : Item) (r : InputRelocation) (k : ℕ) (deed : Deed) : Type 0 where
   pub target : ℕ
-  pub stands : IsBranchedTo l w m r target
+  pub stands : IsBranchedTo l.machine l w m s r target
   pub bytes : List ℕ
-  pub five : length bytes ≡ 5
+  pub whole : length bytes ≡ branch_size l.machine
   pub held : Holds m (address_at w s k) bytes
-  pub goes : effect_x86_64 (reads w m) (address_at w s k) bytes ≡ Some (record { deed = deed; width = 64; value = past_field r target })
+  pub goes : effect_of l.machine (reads w m) (address_at w s k) bytes ≡ Some (record { deed = deed; width = 64; value = past_field l.machine r target })
 
 -- the six loaded bytes call, or go to, what comes to the symbol
 pub record SlotBranchReaches (l : Layout) (w : World) (m : Memory) (s : Item) (r : InputRelocation) (k : ℕ) (deed : Deed) : Type 0 where
@@ -64,11 +105,11 @@ pub record SlotBranchReaches (l : Layout) (w : World) (m : Memory) (s : Item) (r
   pub bytes : List ℕ
   pub six : length bytes ≡ 6
   pub held : Holds m (address_at w s k) bytes
-  pub goes : effect_x86_64 (reads w m) (address_at w s k) bytes ≡ Some (record { deed = deed; width = 64; value = target % 2 ^ 64 })
+  pub goes : effect_of l.machine (reads w m) (address_at w s k) bytes ≡ Some (record { deed = deed; width = 64; value = target % 2 ^ 64 })
 
 -- ---- fields
 
--- the formula gives x (x86-64 psABI, "Relocation Types"): S + A, or S + A - P
+-- the formula gives x (x86-64 psABI, "Relocation Types"; aaelf64, "Static data relocations"): S + A, or S + A - P
 abbrev pub Demands : Value → ℕ → ℤ → ℕ → ℕ → Type 0
 Demands SymbolAddress s a p x = x ≡ (s + cast_unsigned w64 a) % 2 ^ 64
 Demands Distance s a p x = x ≡ ((s + cast_unsigned w64 a) % 2 ^ 64 + (2 ^ 64 - p)) % 2 ^ 64
@@ -84,9 +125,9 @@ pub record HasField (m : Memory) (form : Form) (p x : ℕ) : Type 0 where
 -- the field is the formula of the reference's relocation type
 pub record HasFormula (l : Layout) (w : World) (m : Memory) (s : Item) (r : InputRelocation) : Type 0 where
   pub formula : Formula
-  pub known : x86_64_formula r.number ≡ Some formula
+  pub known : formula_of l.machine r.number ≡ Some formula
   pub target : ℕ
-  pub denoted : IsNamed l w m r target
+  pub denoted : IsNamed formula.value l w m s r target
   pub value : ℕ
   pub demanded : Demands formula.value target r.addend (address_at w s r.offset) value
   pub field : HasField m formula.form (address_at w s r.offset) value
@@ -117,29 +158,29 @@ pub record DoesInstruction (l : Layout) (w : World) (m : Memory) (s : Item) (r :
   pub of : HasInstruction l s r
   pub does : DoesDemanded (reads w m) l w m s of.first of.start of.instruction
 
--- on either machine, and of every type: a reference in no instruction has its field as the formula, and in one the code does what that
+-- of every type: a reference in no instruction has its field as the formula, and in one the code does what that
 -- demands
 pub record HoldsByForms (l : Layout) (w : World) (m : Memory) (s : Item) : Type 0 where
   pub fields : (r : InputRelocation) (f : Formula) → IsRelocated s r → IsFollowed l w s r → formula_of l.machine r.number ≡ Some f → (HasInstruction l s r → ⊥) → HasValueOf l w m s r f
   pub instructions : (r : InputRelocation) → IsRelocated s r → IsFollowed l w s r → HasInstruction l s r → DoesInstruction l w m s r
 
 -- each address and each distance in no call and no jump has its field as the formula, each call and each jump reaches its symbol, but
--- for a call that gives a thread address; of every other type it holds by its form; and where no other instruction has a relocation every
--- byte in no field is the input's
+-- for a call that gives a thread address; of every other type it holds by its form; and where no relocation's instruction has other bytes
+-- of its own every byte in no field is the input's
 pub record HoldsByFields (l : Layout) (w : World) (m : Memory) (s : Item) : Type 0 where
-  pub references : (r : InputRelocation) → IsRelocated s r → IsFollowed l w s r → Contains address_types r.number → (IsBranchField s r → ⊥) → (IsThreadCall l s r → ⊥) → HasFormula l w m s r
-  pub calls : (r : InputRelocation) (k : ℕ) → IsRelocated s r → IsFollowed l w s r → (IsThreadCall l s r → ⊥) → IsBranch s r k 0xe8 → BranchReaches l w m s r k Call
-  pub jumps : (r : InputRelocation) (k : ℕ) → IsRelocated s r → IsFollowed l w s r → (IsThreadCall l s r → ⊥) → IsBranch s r k 0xe9 → BranchReaches l w m s r k Jump
-  pub slot_calls : (r : InputRelocation) (k : ℕ) → IsRelocated s r → IsFollowed l w s r → (IsThreadCall l s r → ⊥) → IsSlotBranch s r k 0x15 → SlotBranchReaches l w m s r k Call
-  pub slot_jumps : (r : InputRelocation) (k : ℕ) → IsRelocated s r → IsFollowed l w s r → (IsThreadCall l s r → ⊥) → IsSlotBranch s r k 0x25 → SlotBranchReaches l w m s r k Jump
+  pub references : (r : InputRelocation) → IsRelocated s r → IsFollowed l w s r → Contains (address_types l.machine) r.number → (IsBranchField l.machine l s r → ⊥) → (GivesThreadAddress l.machine l s r → ⊥) → HasFormula l w m s r
+  pub calls : (r : InputRelocation) (k : ℕ) → IsRelocated s r → IsFollowed l w s r → (GivesThreadAddress l.machine l s r → ⊥) → IsCall l.machine l s r k → BranchReaches l w m s r k Call
+  pub jumps : (r : InputRelocation) (k : ℕ) → IsRelocated s r → IsFollowed l w s r → (GivesThreadAddress l.machine l s r → ⊥) → IsJump l.machine l s r k → BranchReaches l w m s r k Jump
+  pub slot_calls : (r : InputRelocation) (k : ℕ) → IsRelocated s r → IsFollowed l w s r → (GivesThreadAddress l.machine l s r → ⊥) → IsSlotCall l.machine l s r k → SlotBranchReaches l w m s r k Call
+  pub slot_jumps : (r : InputRelocation) (k : ℕ) → IsRelocated s r → IsFollowed l w s r → (GivesThreadAddress l.machine l s r → ⊥) → IsSlotJump l.machine l s r k → SlotBranchReaches l w m s r k Jump
   pub forms : HoldsByForms l w m s
-  pub others : HasFirstTypes s → EachIsAsked l w s → (k : ℕ) → k < length s.bytes → InNoField s k → byte_in m (address_at w s k) ≡ Some (slice_index s.bytes k)
+  pub others : HasFirstTypes l.machine s → EachIsAsked l w s → (k : ℕ) → k < length s.bytes → InNoField l s k → byte_in m (address_at w s k) ≡ Some (slice_index s.bytes k)
 
 -- an image that meets the meaning of all layouts in a world, at whatever base, meets this one
 abbrev pub MeaningGivesFields : Type 0
-MeaningGivesFields = (l : Layout) (w : World) (image : List ℕ) → l.machine ≡ machine.X86_64 → (linked : IsLinked l w image) → (s : InputSection) (k : IsLoadedSection l s) → HoldsByFields l w linked.memory (stood_item l k.file s)
+MeaningGivesFields = (l : Layout) (w : World) (image : List ℕ) → (linked : IsLinked l w image) → (s : InputSection) (k : IsLoadedSection l s) → HoldsByFields l w linked.memory (stood_item l k.file s)
 
--- what is told by forms it gives on either machine
+-- so it gives what is told by forms
 abbrev pub MeaningGivesForms : Type 0
 MeaningGivesForms = (l : Layout) (w : World) (image : List ℕ) → (linked : IsLinked l w image) → (s : InputSection) (k : IsLoadedSection l s) → HoldsByForms l w linked.memory (stood_item l k.file s)
 

@@ -1,14 +1,17 @@
 -- Of which references of an item an image's fields, calls and jumps are told: by the relocation types, and by the input's bytes.
 --   IsLoadedSection l s    an input section with data is loaded and allocated
---   IsRelocated s r        a relocation of an item other than R_X86_64_NONE
---   HasFirstTypes s        no relocation of the item has another instruction than a direct call or jump
---   InNoField s k          no relocation's field has byte k
---   IsBranch ..            a relocation is that of a direct call or jump
---   IsSlotBranch ..        or of one through a slot
---   IsThreadCall ..        or of a call that gives a thread address
-use Rattle.std.specs.Prelude.{◌≡◌, ◌≢◌, ℕ, ◌+◌, ◌%◌, ◌^◌, ◌<◌, ◌≤◌, ◌⊎◌, true, false, List, [], ◌∷◌, length, Some, All, Contains, slice_index, slice_get}
+--   IsRelocated s r        a relocation of an item other than R_X86_64_NONE and R_AARCH64_NONE, which are 0
+--   address_types m        the types of addresses and distances
+--   HasFirstTypes m s      no relocation of the item has an instruction with bytes of its own, but direct calls and jumps
+--   IsCall, IsJump ..      a relocation is that of a direct call, or of a direct jump
+--   IsSlotCall, IsSlotJump ..   or of one through a slot
+--   GivesThreadAddress ..  or of a call that gives a thread address
+use Rattle.std.specs.Prelude.{◌≡◌, ◌≢◌, ℕ, ◌+◌, ◌/◌, ◌%◌, ◌^◌, ◌≤◌, ◌⊎◌, true, false, List, [], ◌∷◌, length, Some, Contains, slice_index, slice_get}
 use Rattle.std.specs.Int.{w64, cast_unsigned}
-use Rattle.wild_records.specs.Abi.Relocation.{r_x86_64_none, r_x86_64_64, r_x86_64_pc32, r_x86_64_plt32, r_x86_64_gotpcrel, r_x86_64_32, r_x86_64_32s, r_x86_64_16, r_x86_64_pc16, r_x86_64_8, r_x86_64_pc8, r_x86_64_tlsgd, r_x86_64_tlsld, r_x86_64_pc64, r_x86_64_pltoff64, r_x86_64_gotpcrelx, r_x86_64_rex_gotpcrelx}
+use Rattle.wild_words.specs.Words.{number_at}
+use Rattle.wild_records.specs.Abi.Relocation.{r_x86_64_none, r_x86_64_64, r_x86_64_pc32, r_x86_64_plt32, r_x86_64_gotpcrel, r_x86_64_32, r_x86_64_32s, r_x86_64_16, r_x86_64_pc16, r_x86_64_8, r_x86_64_pc8, r_x86_64_tlsgd, r_x86_64_tlsld, r_x86_64_pc64, r_x86_64_pltoff64, r_x86_64_gotpcrelx, r_x86_64_rex_gotpcrelx, r_aarch64_abs64, r_aarch64_abs32, r_aarch64_abs16, r_aarch64_prel64, r_aarch64_prel32, r_aarch64_prel16, r_aarch64_jump26, r_aarch64_call26, r_aarch64_tlsdesc_call}
+use Rattle.wild_types.specs.declared.kind.Machine.{Machine}
+use Rattle.wild_types.specs.declared.kind.Machine.TheVariants as machine
 use Rattle.wild_types.specs.declared.input.Slot.TheVariants as slot
 use Rattle.wild_types.specs.declared.input.InputRelocation.{InputRelocation}
 use Rattle.wild_types.specs.declared.input.InputSection.{InputSection}
@@ -17,10 +20,8 @@ use Rattle.wild_types.specs.declared.file.Group.{Group}
 use Rattle.wild_types.specs.declared.layout.Layout.{Layout}
 use Rattle.wild_types.specs.Item.{Item}
 use Rattle.wild_types.specs.Lookups.{allocated, executable}
-use Rattle.wild_reloc.specs.Formula.{Formula}
-use Rattle.wild_reloc.specs.FormulaX86_64.{x86_64_formula}
 use Rattle.wild_loader.specs.declared.world.World.{World}
-use Rattle.wild_meaning.specs.Field.{form_width}
+use Rattle.wild_meaning.specs.Field.{InNoField}
 use Rattle.wild_meaning.specs.Partners.{NamesGetter}
 
 -- an input section of the layout that is loaded, allocated and has data
@@ -34,16 +35,23 @@ pub record IsLoadedSection (l : Layout) (s : InputSection) : Type 0 where
   pub carried : allocated s.flags ≡ true
   pub has_data : s.nobits ≡ false
 
--- a relocation of the item other than R_X86_64_NONE
+-- a relocation of the item other than R_X86_64_NONE and R_AARCH64_NONE
 pub record IsRelocated (s : Item) (r : InputRelocation) : Type 0 where
   pub listed : Contains s.relocations r
   pub refers : r.number ≢ r_x86_64_none
 
--- the types that write S + A or S + A - P (x86-64 psABI, "Relocation Types")
-abbrev pub address_types : List ℕ
-address_types = r_x86_64_64 ∷ r_x86_64_pc32 ∷ r_x86_64_32 ∷ r_x86_64_32s ∷ r_x86_64_16 ∷ r_x86_64_pc16 ∷ r_x86_64_8 ∷ r_x86_64_pc8 ∷ r_x86_64_pc64 ∷ []
+-- the types that write S + A or S + A - P as a number (x86-64 psABI, "Relocation Types"; aaelf64, "Static data relocations")
+abbrev pub addresses_x86_64 : List ℕ
+addresses_x86_64 = r_x86_64_64 ∷ r_x86_64_pc32 ∷ r_x86_64_32 ∷ r_x86_64_32s ∷ r_x86_64_16 ∷ r_x86_64_pc16 ∷ r_x86_64_8 ∷ r_x86_64_pc8 ∷ r_x86_64_pc64 ∷ []
 
--- those of a direct call or jump, and of one through a slot
+abbrev pub addresses_aarch64 : List ℕ
+addresses_aarch64 = r_aarch64_abs64 ∷ r_aarch64_abs32 ∷ r_aarch64_abs16 ∷ r_aarch64_prel64 ∷ r_aarch64_prel32 ∷ r_aarch64_prel16 ∷ []
+
+abbrev pub address_types : Machine → List ℕ
+address_types machine.X86_64 = addresses_x86_64
+address_types machine.AArch64 = addresses_aarch64
+
+-- on x86-64 those of a direct call or jump, and of one through a slot
 abbrev pub branch_types : List ℕ
 branch_types = r_x86_64_pc32 ∷ r_x86_64_plt32 ∷ []
 
@@ -57,41 +65,38 @@ thread_types = r_x86_64_tlsgd ∷ r_x86_64_tlsld ∷ []
 abbrev pub call_types : List ℕ
 call_types = r_x86_64_pc32 ∷ r_x86_64_plt32 ∷ r_x86_64_gotpcrel ∷ r_x86_64_gotpcrelx ∷ r_x86_64_rex_gotpcrelx ∷ r_x86_64_pltoff64 ∷ []
 
--- the item's relocations have the types of addresses and distances, or none, or R_X86_64_PLT32
+-- the types of addresses and distances, or none, or R_X86_64_PLT32
 abbrev pub first_types : List ℕ
-first_types = r_x86_64_none ∷ r_x86_64_plt32 ∷ address_types
+first_types = r_x86_64_none ∷ r_x86_64_plt32 ∷ addresses_x86_64
 
-pub record HasFirstTypes (s : Item) : Type 0 where
-  pub each : (r : InputRelocation) → Contains s.relocations r → Contains first_types r.number
+-- on AArch64 a field is the whole word, but for the call through a descriptor, which has none
+abbrev pub IsFirstType : Machine → ℕ → Type 0
+IsFirstType machine.X86_64 n = Contains first_types n
+IsFirstType machine.AArch64 n = n ≢ r_aarch64_tlsdesc_call
+
+pub record HasFirstTypes (m : Machine) (s : Item) : Type 0 where
+  pub each : (r : InputRelocation) → Contains s.relocations r → IsFirstType m r.number
 
 -- the loaded address of a place in an item
 abbrev pub address_at : World → Item → ℕ → ℕ
 address_at w s offset = w.base + s.address + offset
 
--- the byte lies in no field of the item's relocations
-abbrev pub InNoField : Item → ℕ → Type 0
-InNoField s k = All (λ (r : InputRelocation). (f : Formula) → x86_64_formula r.number ≡ Some f → (k < r.offset) ⊎ (r.offset + form_width f.form ≤ k)) s.relocations
-
--- ---- calls and jumps
+-- ---- calls and jumps of x86-64
 
 -- the input's byte at an offset is the opcode of a direct call or jump (Intel SDM, "CALL": e8; "JMP": e9), which no field has, and the
 -- field behind it is the relocation's, of type R_X86_64_PC32 or R_X86_64_PLT32
-pub record IsBranch (s : Item) (r : InputRelocation) (k opcode : ℕ) : Type 0 where
+pub record IsBranch (l : Layout) (s : Item) (r : InputRelocation) (k opcode : ℕ) : Type 0 where
   pub code : executable s.flags ≡ true
   pub behind : r.offset ≡ k + 1
   pub begins : slice_index s.bytes k ≡ opcode
   pub number : Contains branch_types r.number
   pub inside : r.offset + 4 ≤ length s.bytes
-  pub free : InNoField s k
-
--- the relocation's field is such an instruction's
-abbrev pub IsBranchField : Item → InputRelocation → Type 0
-IsBranchField s r = (k : ℕ) × (IsBranch s r k 0xe8 ⊎ IsBranch s r k 0xe9)
+  pub free : InNoField l s k
 
 -- the input's bytes at an offset are the opcode of a call or a jump through a slot (Intel SDM, "CALL": ff 15; "JMP": ff 25), which no
 -- field has, and the field behind them is the relocation's, of type R_X86_64_GOTPCREL or R_X86_64_GOTPCRELX, whose addend takes
 -- back its four bytes
-pub record IsSlotBranch (s : Item) (r : InputRelocation) (k opcode : ℕ) : Type 0 where
+pub record IsSlotBranch (l : Layout) (s : Item) (r : InputRelocation) (k opcode : ℕ) : Type 0 where
   pub code : executable s.flags ≡ true
   pub behind : r.offset ≡ k + 2
   pub first : slice_index s.bytes k ≡ 0xff
@@ -99,8 +104,8 @@ pub record IsSlotBranch (s : Item) (r : InputRelocation) (k opcode : ℕ) : Type
   pub number : Contains slot_types r.number
   pub inside : r.offset + 4 ≤ length s.bytes
   pub addend : (cast_unsigned w64 r.addend + 4) % 2 ^ 64 ≡ 0
-  pub free : InNoField s k
-  pub free_too : InNoField s (k + 1)
+  pub free : InNoField l s k
+  pub free_too : InNoField l s (k + 1)
 
 -- the relocation is that of a call of the function that gives thread addresses, right behind one that asks for such an address: both may
 -- be rewritten as one
@@ -112,3 +117,42 @@ pub record IsThreadCall (l : Layout) (s : Item) (r : InputRelocation) : Type 0 w
   pub listed : slice_get s.relocations index ≡ Some first
   pub next : slice_get s.relocations (index + 1) ≡ Some r
   pub asks : Contains thread_types first.number
+
+-- ---- calls and jumps of AArch64
+
+-- the input's word at an offset has the bits 26 to 31 of `bl` or of `b` (Arm ARM, C6.2, "BL": 100101; "B": 000101), and its field is the
+-- relocation's, of type R_AARCH64_CALL26 or R_AARCH64_JUMP26
+pub record IsBranchWord (s : Item) (r : InputRelocation) (k opcode type : ℕ) : Type 0 where
+  pub code : executable s.flags ≡ true
+  pub at : r.offset ≡ k
+  pub begins : number_at s.bytes k 4 / 2 ^ 26 % 2 ^ 6 ≡ opcode
+  pub number : r.number ≡ type
+  pub inside : k + 4 ≤ length s.bytes
+
+-- ---- of either machine
+
+-- the relocation's field is that of a direct call, or of a direct jump, that begins at an offset
+abbrev pub IsCall : Machine → Layout → Item → InputRelocation → ℕ → Type 0
+IsCall machine.X86_64 l s r k = IsBranch l s r k 0xe8
+IsCall machine.AArch64 l s r k = IsBranchWord s r k 37 r_aarch64_call26
+
+abbrev pub IsJump : Machine → Layout → Item → InputRelocation → ℕ → Type 0
+IsJump machine.X86_64 l s r k = IsBranch l s r k 0xe9
+IsJump machine.AArch64 l s r k = IsBranchWord s r k 5 r_aarch64_jump26
+
+abbrev pub IsBranchField : Machine → Layout → Item → InputRelocation → Type 0
+IsBranchField m l s r = (k : ℕ) × (IsCall m l s r k ⊎ IsJump m l s r k)
+
+-- or of one through a slot: on AArch64 no one instruction is
+abbrev pub IsSlotCall : Machine → Layout → Item → InputRelocation → ℕ → Type 0
+IsSlotCall machine.X86_64 l s r k = IsSlotBranch l s r k 0x15
+IsSlotCall machine.AArch64 l s r k = ⊥
+
+abbrev pub IsSlotJump : Machine → Layout → Item → InputRelocation → ℕ → Type 0
+IsSlotJump machine.X86_64 l s r k = IsSlotBranch l s r k 0x25
+IsSlotJump machine.AArch64 l s r k = ⊥
+
+-- or of a call that gives a thread address: on AArch64 that is through a descriptor alone, and has no field
+abbrev pub GivesThreadAddress : Machine → Layout → Item → InputRelocation → Type 0
+GivesThreadAddress machine.X86_64 l s r = IsThreadCall l s r
+GivesThreadAddress machine.AArch64 l s r = ⊥

@@ -1,4 +1,4 @@
--- The layouts that call a function through its slot have no faults, and the numbers of their headers have their fields.
+-- The layouts that call a function have no faults, and the numbers of their headers have their fields.
 use Rattle.std.proofs.Common.{◌≡◌, ℕ, ◌+◌, ◌^◌, ◌<◌, Bool, true, List, [], ◌∷◌, refl, arith, subst}
 use Rattle.std.specs.Prelude.{◌&&◌, All, nat_lt, Option, Some, None}
 use Rattle.std.specs.Int.{w64}
@@ -24,7 +24,7 @@ use Rattle.wild_needs.specs.Dynamic.{dynamic_entries}
 use Rattle.wild_headers.specs.Headers.{entry_address}
 use Rattle.wild_layout.specs.Faults.{errors}
 use Rattle.wild_layout.specs.Numbers.{NumbersFit, AddendFits, InputNumbers, InputsFit, SegmentNumbers, SectionNumbers, ResolutionNumbers, SymbolNumbers}
-use Rattle.wild_made.specs.Calling.{Code, stub_at, call_bytes, call_reference, by_slot, branch_bytes, branch_reference, by_stub, calling_code, called, calling, calling_sections, calling_segments, calling_static, calling_dynamic, calling_shared, calling_words}
+use Rattle.wild_made.specs.Calling.{Code, stub_at, call_bytes, call_reference, by_slot, branch_bytes, branch_reference, of_words, by_stub, by_branch, calling_code, called, calling, calling_sections, calling_segments, calling_static, calling_dynamic, calling_shared, calling_words, calling_words_static, calling_words_shared}
 use Rattle.wild_made.specs.Made.{file_with, plain_file}
 use Rattle.wild_made.specs.Laws.{CallingFaults, CallingNumbers}
 use Rattle.wild_made.proofs.ImageLemmas.{section_fits, bytes_fit}
@@ -48,8 +48,16 @@ words_errors : errors calling_words ≡ []
 unfolding errors_on_literals calling_words ones
 words_errors = refl
 
+words_static_errors : errors calling_words_static ≡ []
+unfolding errors_on_literals calling_words_static ones
+words_static_errors = refl
+
+words_shared_errors : errors calling_words_shared ≡ []
+unfolding errors_on_literals calling_words_shared ones
+words_shared_errors = refl
+
 pub calling_faults : CallingFaults
-calling_faults = record { static = static_errors; dynamic = dynamic_errors; shared = shared_errors; words = words_errors }
+calling_faults = record { static = static_errors; dynamic = dynamic_errors; shared = shared_errors; words = words_errors; words_static = words_static_errors; words_shared = words_shared_errors }
 
 -- ---- numbers
 
@@ -116,8 +124,8 @@ GroupFits g = All FileFits g.files
 slot_fits : InputNumbers (calling_code by_slot)
 slot_fits = record { bytes = bytes_fit call_bytes refl; addends = All-from_recursion AddendFits (call_reference ∷ []) (fits_signed_from_abs w64 (negsuc 3) (omega arith), tt) }
 
-branch_fits : InputNumbers (calling_code by_stub)
-branch_fits = record { bytes = bytes_fit branch_bytes refl; addends = All-from_recursion AddendFits (branch_reference ∷ []) (fits_signed_from_abs w64 (pos 0) (omega arith), tt) }
+branch_fits : (stub : ℕ) → InputNumbers (calling_code (of_words stub))
+branch_fits stub = record { bytes = bytes_fit branch_bytes refl; addends = All-from_recursion AddendFits (branch_reference ∷ []) (fits_signed_from_abs w64 (pos 0) (omega arith), tt) }
 
 inputs_fit : (c : Code) (k : OutputKind) (e : Role) (n m : ℕ) (f : Symbol) → InputNumbers (calling_code c) → InputsFit (calling c k e n m f).groups
 inputs_fit c k e n m f fits =
@@ -155,7 +163,15 @@ shared_numbers = numbers_fit by_slot _ _ _ _ _ (omega arith) (omega arith) (omeg
 
 words_numbers : NumbersFit calling_words
 unfolding clauses_on_literals calling_words
-words_numbers = numbers_fit by_stub _ _ _ _ _ (omega arith) (omega arith) (omega arith) branch_fits (function_fits by_stub 0x62 stub_at at.Undefined (Some 1) (Some stub_at) (omega arith) (omega arith) own_stub) refl refl
+words_numbers = numbers_fit by_stub _ _ _ _ _ (omega arith) (omega arith) (omega arith) (branch_fits 16) (function_fits by_stub 0x62 stub_at at.Undefined (Some 1) (Some stub_at) (omega arith) (omega arith) own_stub) refl refl
+
+words_static_numbers : NumbersFit calling_words_static
+unfolding clauses_on_literals calling_words_static
+words_static_numbers = numbers_fit by_branch _ _ _ _ _ (omega arith) (omega arith) (omega arith) (branch_fits 0) (function_fits by_branch 0x28 260 (at.Section 0) None None (omega arith) (omega arith) no_stub) refl refl
+
+words_shared_numbers : NumbersFit calling_words_shared
+unfolding clauses_on_literals calling_words_shared
+words_shared_numbers = numbers_fit by_stub _ _ _ _ _ (omega arith) (omega arith) (omega arith) (branch_fits 16) (function_fits by_stub 0x62 stub_at at.Undefined (Some 1) (Some stub_at) (omega arith) (omega arith) own_stub) refl refl
 
 pub calling_numbers : CallingNumbers
-calling_numbers = record { static = static_numbers; dynamic = dynamic_numbers; shared = shared_numbers; words = words_numbers }
+calling_numbers = record { static = static_numbers; dynamic = dynamic_numbers; shared = shared_numbers; words = words_numbers; words_static = words_static_numbers; words_shared = words_shared_numbers }

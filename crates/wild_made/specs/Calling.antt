@@ -1,10 +1,10 @@
 -- Small layouts of outputs that are loaded anywhere, whose code calls a function: of x86-64 through its slot, of AArch64 by its stub.
---   by_slot, by_stub     the code, what its relocation is, and the stub behind it
+--   by_slot, by_stub, by_branch   the code, what its relocation is, and the stub behind it
 --   calling_code c       the code as an input section
 --   calling_static       a program without a dynamic linker, which has the function
 --   calling_dynamic      a program with a dynamic linker; another module has the function
 --   calling_shared       a shared object of the same
---   calling_words        a program of AArch64 with a dynamic linker; another module has the function
+--   calling_words, calling_words_static, calling_words_shared   the same three of AArch64
 use Rattle.std.specs.Prelude.{ℕ, zero, suc, ◌+◌, ◌-◌, true, false, List, [], ◌∷◌, ◌++◌, codes, map, Option, Some, None}
 use lib.IntN.{pos, negsuc}
 use Rattle.wild_records.specs.Abi.Relocation.{r_x86_64_gotpcrelx, r_aarch64_call26}
@@ -83,8 +83,14 @@ branch_reference = record { offset = 0; number = r_aarch64_call26; symbol = Some
 abbrev pub branch_bytes : List ℕ
 branch_bytes = 0 ∷ 0 ∷ 0 ∷ 0x94 ∷ 0xc0 ∷ 0x03 ∷ 0x5f ∷ 0xd6 ∷ []
 
+abbrev pub of_words : ℕ → Code
+of_words stub = record { machine = machine.AArch64; bytes = branch_bytes; reference = branch_reference; stub = stub }
+
 abbrev pub by_stub : Code
-by_stub = record { machine = machine.AArch64; bytes = branch_bytes; reference = branch_reference; stub = 16 }
+by_stub = of_words 16
+
+abbrev pub by_branch : Code
+by_branch = of_words 0
 
 abbrev pub calling_code : Code → InputSection
 calling_code c = record {
@@ -182,6 +188,13 @@ calling_dynamic = calling by_slot (kind.DynamicExecutable Relocatable) role.Rela
 unfoldable pub calling_shared : Layout
 calling_shared = calling by_slot kind.SharedObject role.RelaDynGeneral 48 3 (called by_slot 0x22 at.Undefined 0 (Some 1) None)
 
--- a program of AArch64 with a dynamic linker: the function is another module's, and has a stub (DYNAMIC, GOT, PLT)
+-- a program of AArch64 without a dynamic linker: the function is its own, the return behind the branch
+unfoldable pub calling_words_static : Layout
+calling_words_static = calling by_branch (kind.StaticExecutable Relocatable) role.RelaDynRelative 24 1 (called by_branch 0x28 (at.Section 0) 260 None None)
+
+-- one with a dynamic linker, and a shared object: the function is another module's, and has a stub (DYNAMIC, GOT, PLT)
 unfoldable pub calling_words : Layout
 calling_words = calling by_stub (kind.DynamicExecutable Relocatable) role.RelaDynGeneral 48 3 (called by_stub 0x62 at.Undefined stub_at (Some 1) (Some stub_at))
+
+unfoldable pub calling_words_shared : Layout
+calling_words_shared = calling by_stub kind.SharedObject role.RelaDynGeneral 48 3 (called by_stub 0x62 at.Undefined stub_at (Some 1) (Some stub_at))

@@ -36,7 +36,7 @@ use Rattle.wild_meaning.specs.Reference.{IsExcepted}
 use Rattle.wild_meaning.specs.Linked.{IsSound}
 use Rattle.wild_laws.specs.Laws.{ImagesAreSound}
 use Rattle.wild_laws.proofs.Symbols.{not_both}
-use Rattle.wild_made.specs.Calling.{Code, called, calling, calling_segments, code_at, stub_at, call_reference, branch_reference, by_slot, by_stub, calling_code, calling_static, calling_dynamic, calling_shared, calling_words}
+use Rattle.wild_made.specs.Calling.{Code, called, calling, calling_segments, code_at, stub_at, call_reference, branch_reference, by_slot, of_words, by_stub, by_branch, calling_code, calling_static, calling_dynamic, calling_shared, calling_words, calling_words_static, calling_words_shared}
 use Rattle.wild_made.specs.Laws.{CallingFaults, CallingNumbers}
 use Rattle.wild_made.specs.Made.{file_with, plain_file}
 use Rattle.wild_worlds.specs.Worlds.{IsRoomy, Others, AreNumbers, IsTold, HasWorld}
@@ -84,17 +84,17 @@ slot_call k e n m f own plain =
       goes = refl;
     }
 
-word_call : (k : OutputKind) (e : Role) (n m : ℕ) (f : Symbol) → f.definition ≡ None → has_flag f.flags absolute ≡ false → HasCall (calling by_stub k e n m f)
-word_call k e n m f own plain =
-    let l = calling by_stub k e n m f in
+word_call : (stub : ℕ) (k : OutputKind) (e : Role) (n m : ℕ) (f : Symbol) → f.definition ≡ None → has_flag f.flags absolute ≡ false → HasCall (calling (of_words stub) k e n m f)
+word_call stub k e n m f own plain =
+    let l = calling (of_words stub) k e n m f in
     let worked = branches_asked.word l code_at refl in
     record {
-      item = item_with 0 (calling_code by_stub);
-      kept = kept by_stub k e n m f;
+      item = item_with 0 (calling_code (of_words stub));
+      kept = kept (of_words stub) k e n m f;
       reference = branch_reference;
       refers = worked.0;
-      ordinary = ordinary by_stub k e n m f branch_reference refl own plain;
-      followed = few_alone.valued l (item_with 0 (calling_code by_stub)) branch_reference _ branch_formula (λ h. h) (λ h. h);
+      ordinary = ordinary (of_words stub) k e n m f branch_reference refl own plain;
+      followed = few_alone.valued l (item_with 0 (calling_code (of_words stub))) branch_reference _ branch_formula (λ h. h) (λ h. h);
       start = 0;
       instruction = _;
       template = worked.1;
@@ -165,7 +165,7 @@ joined c k e n m f short laws sound movable small call none numbers =
       holds = (linked.kept call.item call.kept).references call.reference call.refers (λ x. absurd (call.ordinary x)) call.followed;
     }
 
--- ---- the four layouts
+-- ---- the six layouts
 
 its_flags : (c : Code) (flags raw : ℕ) (place : Place) (index stub : Option ℕ) → HasItsFlags (called c flags place raw index stub)
 its_flags c flags raw place index stub r e = same _ r e
@@ -190,12 +190,22 @@ shared_joined laws sound faults numbers = (calling_shared, refl, refl, joined by
 
 words_joined : LayoutsAreLaidOut → ImagesAreSound → CallingFaults → CallingNumbers → IsMet machine.AArch64 (output.DynamicExecutable model.Relocatable)
 unfolding calling_words has_flag
-words_joined laws sound faults numbers = (calling_words, refl, refl, joined by_stub (output.DynamicExecutable model.Relocatable) role.RelaDynGeneral 48 3 (called by_stub 0x62 at.Undefined stub_at (Some 1) (Some stub_at)) (omega arith) laws (sound calling_words numbers.words (all_flags by_stub 0x62 stub_at at.Undefined (Some 1) (Some stub_at)) faults.words) tt (omega arith) (word_call _ _ _ _ _ refl refl) faults.words numbers.words)
+words_joined laws sound faults numbers = (calling_words, refl, refl, joined by_stub (output.DynamicExecutable model.Relocatable) role.RelaDynGeneral 48 3 (called by_stub 0x62 at.Undefined stub_at (Some 1) (Some stub_at)) (omega arith) laws (sound calling_words numbers.words (all_flags by_stub 0x62 stub_at at.Undefined (Some 1) (Some stub_at)) faults.words) tt (omega arith) (word_call 16 _ _ _ _ _ refl refl) faults.words numbers.words)
+
+words_static_joined : LayoutsAreLaidOut → ImagesAreSound → CallingFaults → CallingNumbers → IsMet machine.AArch64 (output.StaticExecutable model.Relocatable)
+unfolding calling_words_static has_flag
+words_static_joined laws sound faults numbers = (calling_words_static, refl, refl, joined by_branch (output.StaticExecutable model.Relocatable) role.RelaDynRelative 24 1 (called by_branch 0x28 (at.Section 0) 260 None None) (omega arith) laws (sound calling_words_static numbers.words_static (all_flags by_branch 0x28 260 (at.Section 0) None None) faults.words_static) tt (omega arith) (word_call 0 _ _ _ _ _ refl refl) faults.words_static numbers.words_static)
+
+words_shared_joined : LayoutsAreLaidOut → ImagesAreSound → CallingFaults → CallingNumbers → IsMet machine.AArch64 output.SharedObject
+unfolding calling_words_shared has_flag
+words_shared_joined laws sound faults numbers = (calling_words_shared, refl, refl, joined by_stub output.SharedObject role.RelaDynGeneral 48 3 (called by_stub 0x62 at.Undefined stub_at (Some 1) (Some stub_at)) (omega arith) laws (sound calling_words_shared numbers.words_shared (all_flags by_stub 0x62 stub_at at.Undefined (Some 1) (Some stub_at)) faults.words_shared) tt (omega arith) (word_call 16 _ _ _ _ _ refl refl) faults.words_shared numbers.words_shared)
 
 pub premises_joined : LayoutsAreLaidOut → ImagesAreSound → CallingFaults → CallingNumbers → PremisesAreJoined
 premises_joined laws sound faults numbers = record {
   static_pie = static_joined laws sound faults numbers;
   dynamic_pie = dynamic_joined laws sound faults numbers;
   shared = shared_joined laws sound faults numbers;
+  words_static_pie = words_static_joined laws sound faults numbers;
   words = words_joined laws sound faults numbers;
+  words_shared = words_shared_joined laws sound faults numbers;
 }

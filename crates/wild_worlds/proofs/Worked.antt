@@ -6,19 +6,21 @@ use Rattle.std.proofs.lemmas.Bool.{leb-true, le-leb}
 use Rattle.std.proofs.lemmas.Option.{slice_get_past}
 use Rattle.wild_words.proofs.Basics.{listed_passes}
 use Rattle.wild_words.specs.Words.{number}
-use Rattle.wild_records.specs.Abi.Relocation.{r_x86_64_none, r_x86_64_pc32, r_x86_64_plt32, r_x86_64_gotpcrel, r_x86_64_gotpcrelx, r_x86_64_rex_gotpcrelx, r_x86_64_tlsgd, r_aarch64_call26}
+use Rattle.wild_records.specs.Abi.Relocation.{r_x86_64_none, r_x86_64_pc32, r_x86_64_plt32, r_x86_64_gotpcrel, r_x86_64_gotpcrelx, r_x86_64_rex_gotpcrelx, r_x86_64_tlsgd, r_aarch64_jump26, r_aarch64_call26, r_aarch64_add_abs_lo12_nc, r_aarch64_tlsdesc_adr_page21, r_aarch64_tlsdesc_ld64_lo12, r_aarch64_tlsdesc_add_lo12, r_aarch64_tlsdesc_call}
 use Rattle.wild_types.specs.declared.kind.Machine.{Machine}
 use Rattle.wild_types.specs.declared.kind.Machine.TheVariants as machine
 use Rattle.wild_types.specs.declared.input.InputRelocation.{InputRelocation}
 use Rattle.wild_types.specs.declared.layout.Layout.{Layout}
-use Rattle.wild_types.specs.Flags.{non_interposable}
-use Rattle.wild_reloc.specs.Formula.{Formula, formula, Plain, Signed, SlotDistance, ModulePair}
+use Rattle.wild_types.specs.Flags.{non_interposable, undefined_weak}
+use Rattle.wild_reloc.specs.Formula.{Formula, formula, Plain, Signed, SlotDistance, SlotAddress, SlotPageDistance, ModulePair, Descriptor, NoValue, NoField, Bits, AdrField, Imm12Field, WithinPower, NoCheck}
 use Rattle.wild_reloc.specs.FormulaX86_64.{x86_64_formula}
+use Rattle.wild_reloc.specs.FormulaAArch64.{aarch64_formula}
 use Rattle.wild_reloc.proofs.FormLemmas.{plt32_formula}
 use Rattle.wild_loader.specs.declared.instruction.Deed.TheVariants.{Call, Jump}
 use Rattle.wild_loader.specs.Instruction.{stands}
 use Rattle.wild_meaning.specs.Field.{formula_of, form_width, InNoField}
-use Rattle.wild_meaning.specs.Sequence.{Instruction, size_of, instructions_of, IsOwnByte}
+use Rattle.wild_meaning.specs.Value.{HasFlag}
+use Rattle.wild_meaning.specs.Sequence.{Instruction, size_of, instructions_of, IsOwnByte, address_pair_words, descriptor_call_words}
 use Rattle.wild_aarch64.specs.Effect.{words_of}
 use Rattle.wild_aarch64.specs.Code.{read, read_address, read_access, read_vector_access, read_literal, read_transfer, read_condition}
 use Rattle.wild_meaning.specs.Template.{AddsNothing, IsInstruction, IsSequence}
@@ -26,7 +28,7 @@ use Rattle.wild_meaning.proofs.PairLemmas.{as_its_call}
 use Rattle.wild_meaning.proofs.InstructionsAArch64.{IsAlone, alone_template}
 use Rattle.wild_laws.proofs.Symbols.{not_both}
 use Rattle.wild_made.specs.Calling.{branch_reference, branch_bytes}
-use Rattle.wild_worlds.specs.Worked.{WorkedBranchesAreAsked, WorkedAddressesAreAsked, IsWorked, IsPaired, AsksForThreadAddress, worked_relocation, worked_item, direct_code, indirect_code, load_code, direct_branch, indirect_branch, load, general, branch_word, pair_relocation, getter_relocation, general_item}
+use Rattle.wild_worlds.specs.Worked.{WorkedBranchesAreAsked, WorkedAddressesAreAsked, IsWorked, IsPaired, AsksForThreadAddress, worked_relocation, worked_item, direct_code, indirect_code, load_code, direct_branch, indirect_branch, load, general, branch_word, jump_word, jump_code, word_relocation, address_code, page_relocation, address_relocations, descriptor_code, descriptor_relocation, descriptor_relocations, AreOfRun, pair_relocation, getter_relocation, general_item}
 
 -- ---- one instruction
 
@@ -213,8 +215,152 @@ worked_word l address x = (
   alone_template l (worked_item address branch_bytes (branch_reference ∷ [])) branch_reference branch_word x word_alone (word_stands l address x),
 )
 
+jump_alone : IsAlone r_aarch64_jump26 jump_word
+jump_alone = record { single = refl; at = refl; one = (refl, tt); none = tt }
+
+jump_stands : (l : Layout) (address : ℕ) → l.machine ≡ machine.AArch64 → IsInstruction l (worked_item address jump_code (word_relocation 0 r_aarch64_jump26 ∷ [])) (word_relocation 0 r_aarch64_jump26) 0 jump_word
+unfolding number read read_address read_access read_vector_access read_literal read_transfer read_condition
+jump_stands l address x = record {
+  code = refl;
+  known = subst (λ (m : Machine). Contains (instructions_of m) jump_word) (sym x) (0, omega arith, refl);
+  number = (0, omega arith, refl);
+  field = refl;
+  inside = omega arith;
+  stands = refl;
+  words = refl;
+  counts = tt;
+  alone = λ k h. absurd (no_byte k h.inside h.beside);
+}
+
+worked_word_jump : (l : Layout) (address : ℕ) → l.machine ≡ machine.AArch64 → IsWorked l address jump_code (word_relocation 0 r_aarch64_jump26) jump_word
+worked_word_jump l address x = (
+  record { listed = (0, omega arith, refl); refers = not_none r_aarch64_jump26 (omega arith) },
+  alone_template l (worked_item address jump_code (word_relocation 0 r_aarch64_jump26 ∷ [])) (word_relocation 0 r_aarch64_jump26) jump_word x jump_alone (jump_stands l address x),
+)
+
+-- an address in two words, each a field as a whole
+no_byte_of_two : (k : ℕ) → k < 8 → (k < 0) ⊎ (4 ≤ k) → (k < 4) ⊎ (8 ≤ k) → ⊥
+no_byte_of_two k lt (inl a) other = omega (arith, a)
+no_byte_of_two k lt (inr a) (inl b) = omega (arith, a, b)
+no_byte_of_two k lt (inr a) (inr b) = omega (arith, lt, b)
+
+address_stands : (l : Layout) (address : ℕ) → l.machine ≡ machine.AArch64 → IsInstruction l (worked_item address address_code address_relocations) page_relocation 0 address_pair_words
+unfolding number read read_address read_access read_vector_access read_literal read_transfer read_condition
+address_stands l address x = record {
+  code = refl;
+  known = subst (λ (m : Machine). Contains (instructions_of m) address_pair_words) (sym x) (48, omega arith, refl);
+  number = (0, omega arith, refl);
+  field = refl;
+  inside = omega arith;
+  stands = refl;
+  words = refl;
+  counts = tt;
+  alone = λ k h. absurd (no_byte_of_two k h.inside h.beside h.apart.0);
+}
+
+address_sequence : (l : Layout) (address : ℕ) → l.machine ≡ machine.AArch64 → HasFlag l 0 undefined_weak false → IsSequence l (worked_item address address_code address_relocations) page_relocation (word_relocation 4 r_aarch64_add_abs_lo12_nc ∷ []) 0 address_pair_words
+address_sequence l address x there = record {
+  stands = address_stands l address x;
+  several = omega arith;
+  index = 0;
+  listed = refl;
+  has = (record { listed = refl; field = refl; number = (0, omega arith, refl); names = (refl, refl) }, tt);
+  symbol = 0;
+  named = refl;
+  met = ((λ absent. not_both l 0 undefined_weak absent.weak there), tt);
+}
+
+-- what each of a list has, the list has
+some_number : (rs : List InputRelocation) (r : InputRelocation) → list_all (λ (q : InputRelocation). not (q.number == r_x86_64_none)) rs ≡ true → Contains rs r → r.number ≢ r_x86_64_none
+some_number rs r all c = λ e. (let other = listed_passes (λ (q : InputRelocation). not (q.number == r_x86_64_none)) rs r all c in let same : (r.number == r_x86_64_none) ≡ true = eq-eqb r.number r_x86_64_none e in cc (rw same at other))
+
+worked_pair : (l : Layout) (address : ℕ) → l.machine ≡ machine.AArch64 → HasFlag l 0 undefined_weak false → AreOfRun l address address_code address_relocations page_relocation address_pair_words
+worked_pair l address x there = λ r c. (
+  record { listed = c; refers = some_number address_relocations r refl c },
+  inr (record { rest = word_relocation 4 r_aarch64_add_abs_lo12_nc ∷ []; sequence = address_sequence l address x there; one = c }),
+)
+
+-- the call through a descriptor, whose last word is no field
+own_last : (k : ℕ) → (k < 0) ⊎ (4 ≤ k) → (k < 4) ⊎ (8 ≤ k) → (k < 8) ⊎ (12 ≤ k) → 12 ≤ k
+own_last k (inl a) other more = absurd (omega (arith, a))
+own_last k (inr a) (inl b) more = absurd (omega (arith, a, b))
+own_last k (inr a) (inr b) (inl c) = absurd (omega (arith, b, c))
+own_last k (inr a) (inr b) (inr c) = c
+
+word_width : (m : Machine) (n : ℕ) (f g : Formula) → m ≡ machine.AArch64 → aarch64_formula n ≡ Some g → formula_of m n ≡ Some f → form_width f.form ≡ form_width g.form
+word_width m n f g x is h =
+    let known : aarch64_formula n ≡ Some f = subst (λ (k : Machine). formula_of k n ≡ Some f) x h in
+    let both : Some g ≡ Some f = sym is ∙ known in
+    let same : g ≡ f = cc in
+    ap (λ (e : Formula). form_width e.form) (sym same)
+
+page_formula : aarch64_formula r_aarch64_tlsdesc_adr_page21 ≡ Some (formula (SlotPageDistance Descriptor) (Bits AdrField 32 12 (WithinPower 33) 4096))
+unfolding aarch64_formula
+page_formula = refl
+
+load_formula : aarch64_formula r_aarch64_tlsdesc_ld64_lo12 ≡ Some (formula (SlotAddress Descriptor) (Bits Imm12Field 11 3 NoCheck 8))
+unfolding aarch64_formula
+load_formula = refl
+
+add_formula : aarch64_formula r_aarch64_tlsdesc_add_lo12 ≡ Some (formula (SlotAddress Descriptor) (Bits Imm12Field 11 0 NoCheck 1))
+unfolding aarch64_formula
+add_formula = refl
+
+call_formula : aarch64_formula r_aarch64_tlsdesc_call ≡ Some (formula NoValue NoField)
+unfolding aarch64_formula
+call_formula = refl
+
+behind_all : (l : Layout) (address k : ℕ) → l.machine ≡ machine.AArch64 → 12 ≤ k → InNoField l (worked_item address descriptor_code descriptor_relocations) k
+behind_all l address k x past = λ i d lt f known. at l i k d f x lt past known
+  where
+    ends : (k offset n width : ℕ) → width ≡ n → offset + n ≤ 12 → 12 ≤ k → (k < offset) ⊎ (offset + width ≤ k)
+    ends k offset n width e low past = inr (omega (arith, e, low, past))
+
+    at : (l : Layout) (i k : ℕ) (d : InputRelocation) (f : Formula) → l.machine ≡ machine.AArch64 → i < 4 → 12 ≤ k → formula_of l.machine (get_or descriptor_relocations i d).number ≡ Some f → (k < (get_or descriptor_relocations i d).offset) ⊎ ((get_or descriptor_relocations i d).offset + form_width f.form ≤ k)
+    at l zero k d f x lt past known = ends k 0 4 (form_width f.form) (word_width l.machine r_aarch64_tlsdesc_adr_page21 f _ x page_formula known) (omega arith) past
+    at l (suc zero) k d f x lt past known = ends k 4 4 (form_width f.form) (word_width l.machine r_aarch64_tlsdesc_ld64_lo12 f _ x load_formula known) (omega arith) past
+    at l (suc (suc zero)) k d f x lt past known = ends k 8 4 (form_width f.form) (word_width l.machine r_aarch64_tlsdesc_add_lo12 f _ x add_formula known) (omega arith) past
+    at l (suc (suc (suc zero))) k d f x lt past known = ends k 12 0 (form_width f.form) (word_width l.machine r_aarch64_tlsdesc_call f _ x call_formula known) (omega arith) past
+    at l (suc (suc (suc (suc i)))) k d f x lt past known = absurd (omega (arith, lt))
+
+descriptor_stands : (l : Layout) (address : ℕ) → l.machine ≡ machine.AArch64 → IsInstruction l (worked_item address descriptor_code descriptor_relocations) descriptor_relocation 0 descriptor_call_words
+unfolding number read read_address read_access read_vector_access read_literal read_transfer read_condition
+descriptor_stands l address x = record {
+  code = refl;
+  known = subst (λ (m : Machine). Contains (instructions_of m) descriptor_call_words) (sym x) (46, omega arith, refl);
+  number = (0, omega arith, refl);
+  field = refl;
+  inside = omega arith;
+  stands = refl;
+  words = refl;
+  counts = subst (λ (m : Machine). AddsNothing m descriptor_call_words.sort descriptor_relocation) (sym x) refl;
+  alone = λ k h. subst (λ (j : ℕ). InNoField l (worked_item address descriptor_code descriptor_relocations) j) (let e : k ≡ 0 + k = omega arith in e) (behind_all l address k x (own_last k h.beside h.apart.0 h.apart.1.0));
+}
+
+descriptor_sequence : (l : Layout) (address : ℕ) → l.machine ≡ machine.AArch64
+    → IsSequence l (worked_item address descriptor_code descriptor_relocations) descriptor_relocation (word_relocation 4 r_aarch64_tlsdesc_ld64_lo12 ∷ word_relocation 8 r_aarch64_tlsdesc_add_lo12 ∷ word_relocation 12 r_aarch64_tlsdesc_call ∷ []) 0 descriptor_call_words
+descriptor_sequence l address x = record {
+  stands = descriptor_stands l address x;
+  several = omega arith;
+  index = 0;
+  listed = refl;
+  has = (
+    record { listed = refl; field = refl; number = (0, omega arith, refl); names = (refl, refl) },
+    (record { listed = refl; field = refl; number = (0, omega arith, refl); names = (refl, refl) }, (record { listed = refl; field = refl; number = (0, omega arith, refl); names = (refl, refl) }, tt)),
+  );
+  symbol = 0;
+  named = refl;
+  met = tt;
+}
+
+worked_descriptor : (l : Layout) (address : ℕ) → l.machine ≡ machine.AArch64 → AreOfRun l address descriptor_code descriptor_relocations descriptor_relocation descriptor_call_words
+worked_descriptor l address x = λ r c. (
+  record { listed = c; refers = some_number descriptor_relocations r refl c },
+  inr (record { rest = word_relocation 4 r_aarch64_tlsdesc_ld64_lo12 ∷ word_relocation 8 r_aarch64_tlsdesc_add_lo12 ∷ word_relocation 12 r_aarch64_tlsdesc_call ∷ []; sequence = descriptor_sequence l address x; one = c }),
+)
+
 pub branches_asked : WorkedBranchesAreAsked
-branches_asked = record { call = worked_call; jump = worked_jump; slot_call = worked_slot_call; slot_jump = worked_slot_jump; word = worked_word }
+branches_asked = record { call = worked_call; jump = worked_jump; slot_call = worked_slot_call; slot_jump = worked_slot_jump; word = worked_word; word_jump = worked_word_jump }
 
 pub addresses_asked : WorkedAddressesAreAsked
-addresses_asked = record { loads = worked_load; pairs = paired; getters = getter }
+addresses_asked = record { loads = worked_load; pairs = paired; getters = getter; words = worked_pair; descriptors = worked_descriptor }

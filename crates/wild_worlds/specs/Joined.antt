@@ -54,9 +54,11 @@ pub record IsJoined (l : Layout) : Type 0 where
 abbrev pub IsMet : Machine → OutputKind → Type 0
 IsMet machine kind = (l : Layout) × (l.machine ≡ machine) × (l.kind ≡ kind) × IsJoined l
 
--- a program without a dynamic linker, one with it, of either machine, and a shared object
+-- a program without a dynamic linker, one with it, and a shared object, of either machine
 pub record PremisesAreJoined : Type 0 where
   pub static_pie : IsMet machine.X86_64 (output.StaticExecutable model.Relocatable)
   pub dynamic_pie : IsMet machine.X86_64 (output.DynamicExecutable model.Relocatable)
   pub shared : IsMet machine.X86_64 output.SharedObject
+  pub words_static_pie : IsMet machine.AArch64 (output.StaticExecutable model.Relocatable)
   pub words : IsMet machine.AArch64 (output.DynamicExecutable model.Relocatable)
+  pub words_shared : IsMet machine.AArch64 output.SharedObject

@@ -18,8 +18,8 @@ use wild_references::thread_places_are_known;
 /// is a reference, and is asked unless its symbol is absolute and its value takes a place from it, or its instruction goes
 /// through a slot; few take the output's own symbol alone; the address of an own symbol that is not absolute moves with the base,
 /// an IFUNC's value is what its resolver answers, a replaceable symbol's what the world does; an offset from the thread pointer is
-/// an address less that; a symbol has one slot of a sort, and of an own one the whole size is asked; the worked examples have calls and jumps, an address that is loaded from a slot, and a sequence that asks
-/// for a thread address.
+/// an address less that; a symbol has one slot of a sort, and of an own one the whole size is asked; the worked examples have calls and jumps, an address that is loaded from a slot, on AArch64
+/// one that two words make, and a sequence that asks for a thread address.
 pub fn premises_are_met()
     ensures zero { ZeroIsLegal }
     ensures elsewhere { MovedIsLegal }
@@ -45,8 +45,8 @@ pub fn premises_are_met()
     thread_places_are_known();
 }
 
-/// They are met together: for each kind of output that is loaded anywhere there is a layout without faults, a legal world at another base
-/// than 0 in which its image is linked, and a kept item with a call through a slot, which is asked there and holds.
+/// They are met together: for each kind of output that is loaded anywhere, on either machine, there is a layout without faults, a legal world
+/// at another base than 0 in which its image is linked, and a kept item with a call, on x86-64 through a slot, which is asked there and holds.
 pub fn premises_are_joined()
     ensures { PremisesAreJoined }
 {
