@@ -8,10 +8,11 @@
 - A block of commands is run where the paragraph behind it tells a status: what stands there in backticks behind "prints" is in its output.
 - A row under "Change | Answer" is the plan with the changes: its first line is the answer, for 1 and for 64 workers. Of one that is refused `explain` names a place.
 - A row under "Its program" is an image that is run, one of another machine by qemu.
-- Of each member of docs/PLAN.md the example is read, and a float is refused at its path; plans with all defaults written out mean the same.
+- Of each member of docs/PLAN.md the example is read, and a float is refused at its path; plans with all defaults written out mean the same. Of a member
+  that is not there `explain` tells those that are.
 - An indented block behind a paragraph that names a plan is in the output of `explain`, or of the words that the paragraph names, for the plan with the
   paragraph's changes. This is left out, and said so, where that program is not there: `cd crates/wild_explain_main && rt run` makes it.
-- The answers and the makers of plans, plans in readable spelling, and the statuses of README.md.
+- The answers and the makers of plans, plans in readable spelling, one of them in pieces, and the statuses of README.md.
 - Files and functions that a page names are there.
 """
 import copy
@@ -241,8 +242,14 @@ def explanations():
     if not os.path.exists(EXPLAIN):
         print(f"left out: there is no {EXPLAIN}")
         return
+    for page in ("docs/EXPLAIN.md", "docs/LINKERS.md"):
+        explained(page)
+
+
+def explained(page):
+    """Blocks of a page that `explain` and `needs` print."""
     ahead = ""
-    for number, paragraph in enumerate(re.split(r"\n\n+", read("docs/EXPLAIN.md"))):
+    for number, paragraph in enumerate(re.split(r"\n\n+", read(page))):
         if not paragraph.startswith("    "):
             ahead = paragraph
         elif named := re.findall(r"`(plans/\w+\.json)`", ahead):
@@ -254,7 +261,17 @@ def explanations():
             for line in paragraph.splitlines():
                 said = line[4:].rstrip()
                 if not (any(other.startswith(said[:-2]) for other in found) if said.endswith("..") else said in found):
-                    differs(f"docs/EXPLAIN.md: paragraph {number}: {' '.join(asked)}", said, "\n           ".join(found[:12]))
+                    differs(f"{page}: paragraph {number}: {' '.join(asked)}", said, "\n           ".join(found[:12]))
+
+
+def known():
+    """Of an unknown member `explain` tells those that are known there."""
+    told = {}
+    for _, _, path, cells in member_rows():
+        told.setdefault(path, []).append(cells[0].strip("`"))
+    for path, names in told.items() if os.path.exists(EXPLAIN) else ():
+        lines = run_explain(wrapped(path, {"unknown": 0}), ["explain"]).splitlines()
+        same(f"docs/PLAN.md: members at {path}/", ["known: " + ", ".join(names)], lines[3:])
 
 
 def run_explain(plan, words):
@@ -270,6 +287,13 @@ def spelled():
     for line in re.search(r"\n\n    \{\n(.*?)\n\n", readable.__doc__, re.S)[1].splitlines():
         if line[4:] not in shown:
             differs("plans/readable.py: its example", line[4:], "no such line")
+
+
+def pieces():
+    """The pieces of a plan on a page are the plan."""
+    text = "".join(re.findall(r"^```json\n(.*?)^```", read("docs/LINKERS.md"), re.M | re.S))
+    if readable.planned(text) != json.loads(read("plans/worked.json")):
+        differs("docs/LINKERS.md: its pieces", "plans/worked.json", "another plan")
 
 
 def members():
@@ -323,6 +347,10 @@ def defaults():
 def fill(value, key, table):
     """An object with its absent members, and those in it with theirs."""
     whole = {**copy.deepcopy(table[key]), **value}
+    if key == "Member of a property":
+        # one number, or two: the members of the other sort are not known there
+        for name in ("platform", "version") if "value" in value else ("value",):
+            del whole[name]
     for name, place in STANDS.items():
         head, _, last = place.removesuffix("/0").rpartition("/")
         inner = whole.get(last)
@@ -366,7 +394,7 @@ def makers():
         for name, text in re.findall(r'const (\w+): &str =\s+r#"(.*?)"#;', read(path)):
             same(path, json.loads(read(f"plans/{name.lower()}.json")), json.loads(text))
     for words, plan in [(["make_hello.py"], "hello"), (["make_pie.py"], "pie"), (["make_slots.py"], "slots"), (["make_rewrites.py"], "rewrites"),
-                        (["make_aarch64.py"], "aarch64"), (["make_debug.py"], "debug"), (["make_partial.py"], "partial"),
+                        (["make_aarch64.py"], "aarch64"), (["make_debug.py"], "debug"), (["make_partial.py"], "partial"), (["make_every.py"], "every"),
                         *((["make_shared.py", name], name) for name in ("shared", "uses_shared", "symbols", "frames"))]:
         if plan == "aarch64" and not shutil.which(make_aarch64.ASSEMBLER):
             print(f"left out: plans/{words[0]}: there is no {make_aarch64.ASSEMBLER}")
@@ -419,7 +447,7 @@ if __name__ == "__main__":
     if ONLY_CHANGES:
         changes()
         sys.exit(differences != 0)
-    for check in (answers, statuses, changes, programs, commands, explanations, spelled, members, defaults, names, makers):
+    for check in (answers, statuses, changes, programs, commands, explanations, spelled, pieces, known, members, defaults, names, makers):
         before = differences
         check()
         print(f"{check.__doc__.splitlines()[0]} {differences - before} differ")

@@ -4,9 +4,11 @@
     plans/make_large.py 65536 > /tmp/large.json
     plans/make_large.py 65536 --fault range > /tmp/broken.json
     plans/make_large.py 65536 --frames 4 > /tmp/frames.json
+    plans/make_large.py 1 --debug 1048576 > /tmp/debug.json
 
 Of four sections two are code (calls, R_X86_64_PC32), one is read-only data (PC32, 32 and 32S), one is data (PC32 and 64).
 With `--frames K` each file has a section of frames, with a CIE and K FDEs of each of its sections, and the image their search table.
+With `--debug R` a last file has one debug section with R relocations (R_X86_64_64), each in 8 bytes of its own.
 A fault is put into the last section:
 
     number   its last relocation has type 99                                 UnsupportedRelocation
@@ -39,20 +41,23 @@ def up(n, align):
 
 
 class Plan:
-    def __init__(self, sections, groups, fault, frames=0):
-        self.count, self.groups, self.fault, self.frames = sections, groups, fault, frames
+    def __init__(self, sections, groups, fault, frames=0, debug=0):
+        self.count, self.groups, self.fault, self.frames, self.debug = sections, groups, fault, frames, debug
         self.kinds = list(KINDS)
         self.sizes = [SIZE * sum(part_of(i) == part for i in range(sections)) for part in range(3)]
         if frames:
             self.kinds += [(".eh_frame_hdr", 2), (".eh_frame", 2)]
             self.sizes += [12 + 8 * frames * sections, ENTRY * (up(sections, FILE) // FILE + frames * sections)]
         self.segments = [part for part, size in enumerate(self.sizes) if size]
+        if debug:
+            self.kinds += [(".debug_info", 0)]
+            self.sizes += [8 * debug]
         headers = 64 + 56 * len(self.segments)
         self.offsets, self.addresses, end = [], [], headers
         for part in range(len(self.kinds)):
             end = up(end, SIZE)
             self.offsets.append(end)
-            self.addresses.append(BASE + (part + 1) * PAGE + end)
+            self.addresses.append(BASE + (part + 1) * PAGE + end if self.kinds[part][1] else 0)
             end += self.sizes[part]
         self.names = ["", *(name for name, _ in self.kinds), ".shstrtab"]
         self.names_at, self.names_size = end, sum(len(name) + 1 for name in self.names)
@@ -62,7 +67,8 @@ class Plan:
     def parts(self):
         yield {"role": "file_header", "offset": 0, "address": BASE, "size": 64, "align": 8}
         yield {"role": "program_headers", "offset": 64, "address": BASE + 64, "size": 56 * len(self.segments), "align": 8}
-        for part, role in enumerate(["raw", "raw", "raw", "eh_frame_hdr", "eh_frame"][: len(self.kinds)]):
+        for part, (name, _) in enumerate(self.kinds):
+            role = {".eh_frame_hdr": "eh_frame_hdr", ".eh_frame": "eh_frame"}.get(name, "raw")
             yield {"role": role, "section": part + 1, "offset": self.offsets[part], "address": self.addresses[part], "size": self.sizes[part], "align": SIZE}
         yield {"role": "shstrtab", "section": len(self.kinds) + 1, "offset": self.names_at, "size": self.names_size}
         yield {"role": "section_headers", "offset": self.headers_at, "size": 64 * len(self.names), "align": 8}
@@ -122,6 +128,11 @@ class Plan:
         relocations = [{"offset": ENTRY * i + 8, "number": 2, "symbol": first + (i - 1) // self.frames, "addend": 0} for i in range(1, len(entries))]
         return {"slot": "frame", "part": 6, "size": ENTRY * len(entries), "flags": 2, "bytes": "".join(entries), "relocations": relocations}
 
+    def debug_section(self):
+        relocations = [{"offset": 8 * i, "number": 1, "symbol": (5 * i + 3) % self.count, "addend": i % FILE} for i in range(self.debug)]
+        self.next[len(self.kinds) - 1] += 8 * self.debug
+        return {"slot": "debug", "name": b".debug_info".hex(), "part": len(self.kinds) + 1, "size": 8 * self.debug, "bytes": "00" * (8 * self.debug), "relocations": relocations}
+
     def file(self, first):
         count = min(FILE, self.count - first)
         sections = [self.input(i) for i in range(first, first + count)]
@@ -143,6 +154,8 @@ class Plan:
             yield between + text(self.file(first))
             between = ","
         if number == self.groups - 1:
+            if self.debug:
+                yield between + text({"first_symbol": self.count, "sections": [self.debug_section()]})
             yield between + '{"role":"epilogue"}'
         own = [self.next[part] - before[part] for part in range(len(self.kinds))]
         sizes = [part["size"] if number == 0 else 0 for part in self.parts()]
@@ -174,11 +187,12 @@ def main():
     parser.add_argument("sections", type=int, metavar="N")
     parser.add_argument("--groups", type=int, default=1, help="how many groups the files are dealt out to (default: 1)")
     parser.add_argument("--frames", type=int, default=0, metavar="K", help="how many FDEs each section has (default: none)")
+    parser.add_argument("--debug", type=int, default=0, metavar="R", help="how many relocations a debug section has (default: none)")
     parser.add_argument("--fault", choices=FAULTS)
     chosen = parser.parse_args()
     if chosen.sections < 1 or chosen.groups < 1:
         parser.error("there is at least one section, and one group")
-    for piece in Plan(chosen.sections, chosen.groups, chosen.fault, chosen.frames).whole():
+    for piece in Plan(chosen.sections, chosen.groups, chosen.fault, chosen.frames, chosen.debug).whole():
         sys.stdout.write(piece)
 
 

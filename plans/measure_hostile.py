@@ -78,6 +78,16 @@ def ranges(length):
     return text(plan)
 
 
+def overlaps(length):
+    """Files each of which has all symbols"""
+    plan = smallest()
+    file = '{"symbol_count":100000}'
+    symbols = items(length // 2, "{}")
+    plan["symbols"] = [{}] * symbols
+    plan["groups"][0]["files"][1:2] = [{"symbol_count": symbols}] * items(length // 2, file)
+    return text(plan)
+
+
 def aliases(length):
     """Symbols that one symbol defines, all of them copied from a library"""
     plan = smallest()
@@ -171,7 +181,7 @@ def common(length):
     return text(plan)
 
 
-KINDS = [honest, sections, pairs, ranges, aliases, copies, shares, parts, files, segments, members, digits, common]
+KINDS = [honest, sections, pairs, ranges, overlaps, aliases, copies, shares, parts, files, segments, members, digits, common]
 
 
 def measure(program, plan):

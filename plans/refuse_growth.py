@@ -5,12 +5,17 @@ refused, by answer, and each refusal that had another answer; the status is 0 wh
 
     plans/refuse_growth.py              over crates/wild_main/out/wild_main, which ./build makes
     plans/refuse_growth.py PROGRAM
+    plans/refuse_growth.py PROGRAM smallest every     these plans alone, and shards
+
+Each allocation is refused of `make 2 2` and of each plan, among them the smallest and one with a part of each role (plans/every.json). Of a plan whose
+debug section is cut into shards, which has 65,537 relocations, each is refused from the last of reading on, and some of those ahead.
 
 The program asks the C library for memory, so a library that is loaded ahead of it refuses allocation N (malloc, calloc, realloc and their
 like), or that and all behind it. It says so with a byte on standard error, on which the program writes nothing; so the first run without that byte
 is behind the last allocation.
 """
 import glob
+import json
 import os
 import subprocess
 import sys
@@ -91,13 +96,65 @@ def sweep(program, library, words, plan, others):
             odd.append(f"allocation {call}: {found}")
 
 
+def shards(**more):
+    """The smallest plan with a debug section of 65,537 relocations, which two workers have in two shards."""
+    count = 65537
+    with open(f"{TOP}/plans/smallest.json") as file:
+        plan = json.load(file)
+    names = [b"", b".text", b".debug_info", b".shstrtab"]
+    told, at = {"section": 2, "offset": 136, "size": 4 * count, "align": 8}, 136 + 4 * count
+    strings = {"role": "shstrtab", "section": 3, "offset": at, "size": sum(len(name) + 1 for name in names)}
+    at = (at + strings["size"] + 7) // 8 * 8
+    headers = {"role": "section_headers", "offset": at, "size": 64 * len(names), "align": 8}
+    plan["parts"][3:] = [told, strings, headers]
+    plan["sections"][2:] = [{"name": name.hex(), "kind": kind, "offset": part["offset"], "size": part["size"], "align": 1} for name, kind, part in zip(names[2:], (1, 3), (told, strings))]
+    plan["groups"][0]["part_sizes"] = [part["size"] for part in plan["parts"]]
+    plan["groups"][0]["files"][1]["sections"].append({
+        "slot": "debug", "name": names[2].hex(), "part": 3, "size": 4 * count, "bytes": "00" * (4 * count),
+        "relocations": [{"offset": 4 * i, "number": 10, "addend": i} for i in range(count)],
+    })
+    return json.dumps({**plan, **more}, separators=(",", ":")).encode()
+
+
+def allocations(program, library, words, plan):
+    """How many allocations a run has, as near as the workers let it be told."""
+    def is_one(call):
+        return answer(program, words, plan, library, call, call)[1]
+    high = 1
+    while is_one(high):
+        high *= 2
+    low = high // 2
+    while high - low > 1:
+        middle = (low + high) // 2
+        low, high = (middle, high) if is_one(middle) else (low, middle)
+    return low
+
+
+def sweep_shards(program, library, odd):
+    """How often each answer came of the plan with shards, where one allocation is refused."""
+    words, plan = ["link", "2"], shards()
+    calm = subprocess.run([program, *words], input=plan, stdout=subprocess.PIPE)
+    # a member that is not known ends the same plan when it is read
+    read, every = allocations(program, library, words, shards(zzz=0)), allocations(program, library, words, plan)
+    calls = sorted({1 + read * i // 50 for i in range(50)} | set(range(max(1, read - 20), every + 1)))
+    came = Counter()
+    for call in calls:
+        found, was_refused = answer(program, words, plan, library, call, call, (calm.returncode, calm.stdout))
+        came[found] += was_refused
+        if was_refused and found not in ("status 6, nothing written", "the whole answer"):
+            odd.append(f"allocation {call}: {found}")
+    print(f"of {every} allocations, {read} of them for reading")
+    return +came
+
+
 def main():
     program = os.path.abspath(sys.argv[1]) if len(sys.argv) > 1 else f"{TOP}/crates/wild_main/out/wild_main"
     if not os.path.exists(program):
         sys.exit(f"refuse_growth: there is no {program}; ./build makes it")
     runs = [(["make", "2", "2"], None)]
     for path in sorted(glob.glob(f"{TOP}/plans/*.json")):
-        runs += [(["link", workers], path) for workers in ("1", "2")]
+        if len(sys.argv) < 3 or os.path.basename(path).removesuffix(".json") in sys.argv[2:]:
+            runs += [(["link", workers], path) for workers in ("1", "2")]
     failed, tried = False, 0
     with tempfile.TemporaryDirectory() as folder:
         library = shim(folder)
@@ -112,6 +169,13 @@ def main():
                     print(f"    {line}")
                 failed = failed or bool(odd) or not came
                 tried += sum(came.values())
+        odd = []
+        came = sweep_shards(program, library, odd)
+        told = "; ".join(f"{count} of {found}" for found, count in came.items())
+        print(f"link 2 of a debug section in two shards, each from the last of reading on refused: {told}", flush=True)
+        for line in odd[:20]:
+            print(f"    {line}")
+        failed, tried = failed or bool(odd) or not came, tried + sum(came.values())
     print(f"{tried} refusals")
     sys.exit(failed)
 

@@ -9,7 +9,7 @@ use serde_json::Value;
 use std::alloc::{AllocError, Global};
 use std::thread::Threads;
 use wild_explain_reasons::{
-    push_advice, push_fields, push_image, push_needs, push_owner, push_reason,
+    push_advice, push_fields, push_image, push_needs, push_no_plan, push_owner, push_reason,
 };
 use wild_image::write_layout;
 use wild_plan::{Error, Fault, Layout};
@@ -41,7 +41,7 @@ fn image_words(
 ) -> Result<String, AllocError> {
     let mut text = String::new(alloc);
     push_image(&mut text, layout)?;
-    push_advice(&mut text, layout)?;
+    push_advice(&mut text, alloc, layout)?;
     if let Some(offset) = view.byte {
         push_owner(&mut text, layout, offset)?;
     }
@@ -117,9 +117,8 @@ fn no_plan_reason(alloc: Global, path: &str) -> Result<String, AllocError>
     ensures { IfOk result (λ s. Begins (no_plan_text path.now) (string_bytes s)) }
 {
     let line = no_plan_answer(alloc, path)?;
-    let reason = format!(in alloc;
-        "what: the member is unknown, or its value has another type than docs/PLAN.md says\nwhere: {path}\n"
-    )?;
+    let mut reason = String::new(alloc);
+    push_no_plan(&mut reason, path)?;
     let text = joined(alloc, line.as_str(), reason.as_str())?;
     Ok(text)
 }

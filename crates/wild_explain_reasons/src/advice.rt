@@ -1,7 +1,10 @@
 //! What a loader, or a program at work, would stumble over in a layout without faults.
 
+use crate::items::Item;
+use crate::linking::{push_library, push_listed, push_local, push_path};
 use crate::names::{push_section, push_symbol};
-use std::alloc::AllocError;
+use crate::stores::{Barriers, push_slots, push_stores};
+use std::alloc::{AllocError, Global};
 use std::fmt::Write;
 use wild_needs::elf_entry_address;
 use wild_records::abi::segment::{PF_X, PT_INTERP, PT_LOAD, PT_PHDR, PT_TLS};
@@ -249,8 +252,24 @@ fn push_entry(out: &mut String, layout: &Layout) -> Result<(), AllocError> {
     Ok(())
 }
 
+/// Adds what a loader would stumble over in a file and in what is written for it.
+fn push_file(
+    out: &mut String,
+    layout: &Layout,
+    barriers: &Barriers,
+    at: (usize, usize),
+    file: &File,
+) -> Result<(), AllocError> {
+    let (group, number) = at;
+    push_copies(out, layout, file)?;
+    push_library(out, layout, "advice", Item::File(group, number), file)?;
+    push_local(out, layout, file)?;
+    push_slots(out, layout, barriers, file)?;
+    push_stores(out, layout, barriers, at, file)
+}
+
 /// Adds what a loader, or a program at work, would stumble over; nothing loads a relocatable object.
-pub fn push_advice(out: &mut String, layout: &Layout) -> Result<(), AllocError> {
+pub fn push_advice(out: &mut String, alloc: Global, layout: &Layout) -> Result<(), AllocError> {
     if layout.kind.is_partial_link() {
         return Ok(());
     }
@@ -262,9 +281,12 @@ pub fn push_advice(out: &mut String, layout: &Layout) -> Result<(), AllocError> 
     push_base(out, layout)?;
     push_shapes(out, layout)?;
     push_entry(out, layout)?;
-    for group in layout.groups.as_slice() {
-        for file in group.files.as_slice() {
-            push_copies(out, layout, file)?;
+    push_path(out, layout, "advice")?;
+    push_listed(out, layout)?;
+    let barriers = Barriers::of(alloc, layout)?;
+    for (i, group) in layout.groups.as_slice().iter().enumerate() {
+        for (j, file) in group.files.as_slice().iter().enumerate() {
+            push_file(out, layout, &barriers, (i, j), file)?;
         }
     }
     Ok(())

@@ -8,16 +8,17 @@ use crate::lists::{
     first_astray, test_file, test_group, test_input, test_listed, test_version, wrong_relocation,
 };
 use crate::names::part_word;
+use crate::needs::push_room;
 use crate::partial::test_made;
 use crate::plan::{push_plan, test_plan};
 use crate::symbols::{position_of, test_symbol};
 use crate::table_rows::TABLE_ROWS;
-use crate::tests::{FileTest, InputTest, SectionTest, Test};
+use crate::tests::{FileTest, InputTest, PartTest, SectionTest, Test};
 use crate::thunks::find_thunk;
 use crate::verdict::{Finding, Verdict, plain};
 use std::alloc::AllocError;
 use std::fmt::Write;
-use wild_types::Layout;
+use wild_types::{Layout, Role, has_role};
 
 /// Of each clause its number, its name, and what is likely wrong in a plan that fails it.
 const CLAUSES: [(u32, &str, &str); 22] = [
@@ -39,7 +40,7 @@ const CLAUSES: [(u32, &str, &str); 22] = [
     (
         4,
         "the roles",
-        "`role` left out (`raw`); `strip_all` left out, so that `.symtab` is asked for; a part of a table left out",
+        "`role` left out (`raw`); `strip_all` left out, so that `.symtab` is asked for; a part left out, of a table or of a member (`interp`, `build_id`, `properties`)",
     ),
     (
         5,
@@ -54,7 +55,7 @@ const CLAUSES: [(u32, &str, &str); 22] = [
     (
         7,
         "shares, prelude and epilogue",
-        "`part_sizes` that was not changed with a part's `size`, or has no entry for a part that was added; `role` left out of the prelude or the epilogue (`object`)",
+        "`part_sizes` that was not changed with a part's `size`, or has no entry for a part that was added; of a raw part, which nobody counts, another number than the bytes from where the group's share begins to where its last input section there ends, with what lies between them; `role` left out of the prelude or the epilogue (`object`)",
     ),
     (
         8,
@@ -328,6 +329,12 @@ fn push_row(
         write!(out, "; {word} {expected}")?;
     }
     writeln!(out)?;
+    if let Test::Part(PartTest::Shares) = test
+        && let Some(part) = layout.parts.as_slice().get(index)
+        && has_role(Role::Raw, part)
+    {
+        push_room(out, layout, index, part)?;
+    }
     Ok(())
 }
 

@@ -4,7 +4,7 @@ use crate::names::role_word;
 use std::alloc::AllocError;
 use std::fmt::Write;
 use wild_needs::needs;
-use wild_types::{Layout, Role, has_role};
+use wild_types::{Group, Layout, Part, Role, has_role};
 
 /// Adds a list of one number for each part.
 fn push_shares(out: &mut String, layout: &Layout, group: usize) -> Result<(), AllocError> {
@@ -47,6 +47,46 @@ pub fn push_needs(out: &mut String, layout: &Layout) -> Result<(), AllocError> {
     }
     for i in 0..layout.groups.len() {
         push_shares(out, layout, i)?;
+    }
+    Ok(())
+}
+
+/// Where the last input section of a group ends that stands in a raw part in the order of the files.
+fn end_in(group: &Group, part: usize) -> Option<u64> {
+    let mut last: Option<u64> = None;
+    for file in group.files.as_slice() {
+        for section in file.sections.as_slice() {
+            if section.part == part && section.slot.has_range() {
+                let end = section.address.saturating_add(section.size);
+                last = Some(end.max(last.unwrap_or(0)));
+            }
+        }
+    }
+    last
+}
+
+/// Adds the first group whose share of a raw part does not end with its last input section there.
+pub(crate) fn push_room(
+    out: &mut String,
+    layout: &Layout,
+    index: usize,
+    part: &Part,
+) -> Result<(), AllocError> {
+    let mut from = part.address;
+    for (i, group) in layout.groups.as_slice().iter().enumerate() {
+        let share = group.given(index);
+        let to = from.saturating_add(share);
+        if let Some(end) = end_in(group, index)
+            && end != to
+        {
+            let room = end.saturating_sub(from);
+            writeln!(
+                out,
+                "raw: /groups/{i}/part_sizes/{index} is {share}; the group's last input section there ends {room} bytes behind address {from}, where its share begins"
+            )?;
+            return Ok(());
+        }
+        from = to;
     }
     Ok(())
 }

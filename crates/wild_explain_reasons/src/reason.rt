@@ -2,6 +2,8 @@
 
 use crate::clauses::push_clause;
 use crate::faults::push_fault;
+use crate::items::Item;
+use crate::linking::{push_library, push_path};
 use crate::names::part_word;
 use std::alloc::{AllocError, Global};
 use std::fmt::Write;
@@ -35,6 +37,17 @@ fn push_share(
     Ok(())
 }
 
+/// Adds members that are likely left out: names of libraries, and the path of the dynamic linker.
+fn push_likely(out: &mut String, layout: &Layout) -> Result<(), AllocError> {
+    push_path(out, layout, "likely")?;
+    for (i, group) in layout.groups.as_slice().iter().enumerate() {
+        for (j, file) in group.files.as_slice().iter().enumerate() {
+            push_library(out, layout, "likely", Item::File(i, j), file)?;
+        }
+    }
+    Ok(())
+}
+
 /// Adds why a layout was refused: what is wrong, where, what stands there, and what can be done.
 pub fn push_reason(
     out: &mut String,
@@ -43,7 +56,10 @@ pub fn push_reason(
     error: Error,
 ) -> Result<(), AllocError> {
     match error.fault {
-        Fault::MalformedLayout { clause, index } => push_clause(out, layout, clause, index),
+        Fault::MalformedLayout { clause, index } => {
+            push_clause(out, layout, clause, index)?;
+            push_likely(out, layout)
+        }
         Fault::InsufficientAllocation {
             part,
             group,
@@ -55,7 +71,10 @@ pub fn push_reason(
             group,
             given,
             needed,
-        } => push_share(out, layout, part, group, given, needed),
+        } => {
+            push_share(out, layout, part, group, given, needed)?;
+            push_likely(out, layout)
+        }
         fault => push_fault(out, layout, fault, error.at),
     }
 }

@@ -47,29 +47,37 @@ fn no_command(rt: HostRuntime) -> Result<(), Fail> {
     Ok(())
 }
 
+/// How many bytes a read gives at most, and how many reads the smallest plan takes then: the last one finds its end.
+const READS: &[(usize, u64)] = &[(700, 3), (7, 172)];
+
+/// Each read fails; behind the last there is none.
 #[test]
 fn failing_reads(rt: HostRuntime) -> Result<(), Fail> {
     let plan = SMALLEST.as_bytes();
-    for call in 0..3u64 {
-        let outside = Outside {
-            reads: &[call],
-            most: 700,
+    for (most, count) in READS {
+        for call in 0..*count {
+            let outside = Outside {
+                reads: &[call],
+                most: *most,
+                ..CALM
+            };
+            let (status, text) = answer(&rt, rt.alloc(), &["link", "1"], plan, &outside)?;
+            assert!(rt;
+                status == 4 && text.as_slice() == b"read fault\n".as_slice(),
+                "{most} {call}"
+            );
+        }
+        let calm = Outside {
+            reads: &[*count],
+            most: *most,
             ..CALM
         };
-        let (status, text) = answer(&rt, rt.alloc(), &["link", "1"], plan, &outside)?;
+        let (status, text) = answer(&rt, rt.alloc(), &["link", "1"], plan, &calm)?;
         assert!(rt;
-            status == 4 && text.as_slice() == b"read fault\n".as_slice(),
-            "{call}"
+            status == 0 && text.as_slice() == SMALLEST_TEXT.as_bytes(),
+            "{most}"
         );
     }
-    // the third read found the end: there is no fourth
-    let calm = Outside {
-        reads: &[3],
-        most: 700,
-        ..CALM
-    };
-    let (status, text) = answer(&rt, rt.alloc(), &["link", "1"], plan, &calm)?;
-    assert!(rt; status == 0 && text.as_slice() == SMALLEST_TEXT.as_bytes());
     Ok(())
 }
 
@@ -85,31 +93,70 @@ fn cut_plans(rt: HostRuntime) -> Result<(), Fail> {
 }
 
 /// Whether just so many bytes of the whole text are taken.
-fn is_front(taken: &[u8], count: usize) -> bool {
-    taken.len() == count && SMALLEST_TEXT.as_bytes().starts_with(taken)
+fn is_front(text: &str, taken: &[u8], count: usize) -> bool {
+    taken.len() == count && text.as_bytes().starts_with(taken)
 }
 
-/// Each write of the text fails, or takes nothing.
+/// Texts of each kind, with the words and the plan that they come for, and how many bytes a write takes at most.
+const TEXTS: &[(&[&str], &str, &str, usize)] = &[
+    (&["link", "1"], SMALLEST, SMALLEST_TEXT, 8),
+    (
+        &["link", "1"],
+        "{}",
+        "refused MalformedLayout clause=1 index=0\n",
+        1,
+    ),
+    (&["link", "1"], "", "not a plan: json\n", 1),
+    (
+        &["make", "1", "1"],
+        "",
+        "groups 1\nimage 408\ncount 1 8\nsum 16871\n",
+        1,
+    ),
+    (&[], "", "usage: link W | make N W\n", 1),
+];
+
+/// Each write of a text fails, or takes nothing.
 #[test]
 fn failing_writes(rt: HostRuntime) -> Result<(), Fail> {
-    let plan = SMALLEST.as_bytes();
-    for call in 0..90u64 {
-        let fails = Outside {
-            writes: &[call],
-            most: 8,
-            ..CALM
-        };
-        let takes_none = Outside {
-            empty: &[call],
-            most: 8,
-            ..CALM
-        };
-        for outside in &[fails, takes_none] {
-            let (status, taken) = answer(&rt, rt.alloc(), &["link", "1"], plan, outside)?;
-            let is_so = status == 5 && is_front(taken.as_slice(), 8 * call as usize);
-            assert!(rt; is_so, "{call}");
+    for (words, plan, text, most) in TEXTS {
+        for call in 0..text.len().div_ceil((*most).max(1)) {
+            let fails = Outside {
+                writes: &[call as u64],
+                most: *most,
+                ..CALM
+            };
+            let takes_none = Outside {
+                empty: &[call as u64],
+                most: *most,
+                ..CALM
+            };
+            for outside in &[fails, takes_none] {
+                let (status, taken) = answer(&rt, rt.alloc(), words, plan.as_bytes(), outside)?;
+                let is_so = status == 5
+                    && is_front(text, taken.as_slice(), most.saturating_mul(call));
+                assert!(rt; is_so, "{words:?} {plan} {call}");
+            }
         }
     }
+    Ok(())
+}
+
+/// Where a read gives a byte and a write takes one, the text is the same. Where a read fails and no write is taken, there is none.
+#[test]
+fn small_writes(rt: HostRuntime) -> Result<(), Fail> {
+    let small = Outside { most: 1, ..CALM };
+    for (words, plan, text, _) in TEXTS {
+        let (_, taken) = answer(&rt, rt.alloc(), words, plan.as_bytes(), &small)?;
+        assert!(rt; taken.as_slice() == text.as_bytes(), "{words:?} {plan}");
+    }
+    let both = Outside {
+        reads: &[0],
+        writes: &[0],
+        ..CALM
+    };
+    let (status, taken) = answer(&rt, rt.alloc(), &["link", "1"], b"{}", &both)?;
+    assert!(rt; status == 5 && taken.is_empty());
     Ok(())
 }
 
@@ -148,8 +195,13 @@ const MADE: &[(&[&str], &str)] = &[
 
 #[test]
 fn made_plans(rt: HostRuntime) -> Result<(), Fail> {
+    // no plan is read
+    let unread = Outside {
+        reads: &[0],
+        ..CALM
+    };
     for (words, text) in MADE {
-        let (status, said) = answer(&rt, rt.alloc(), words, b"", &CALM)?;
+        let (status, said) = answer(&rt, rt.alloc(), words, b"", &unread)?;
         assert!(rt;
             status == 0 && said.as_slice() == text.as_bytes(),
             "{words:?}"

@@ -2,16 +2,29 @@
 use crate::asked::{explained, linked};
 use std::alloc::{AllocError, Global};
 use std::thread::Threads;
-use wild_tests_plans::PLANS;
+use wild_tests_plans::{FIRST_PLANS, OTHER_PLANS};
 
-/// The plan of that name.
-fn named(name: &str) -> Option<&'static str> {
-    for (known, plan) in &PLANS {
+/// The plan of that name among these.
+fn among(plans: &[(&'static str, &'static str)], name: &str) -> Option<&'static str> {
+    for (known, plan) in plans {
         if *known == name {
             return Some(*plan);
         }
     }
     None
+}
+
+/// The plan of that name among the other ones.
+fn other_named(name: &str) -> Option<&'static str> {
+    among(&OTHER_PLANS, name)
+}
+
+/// The plan of that name.
+fn named(name: &str) -> Option<&'static str> {
+    match among(&FIRST_PLANS, name) {
+        Some(plan) => Some(plan),
+        None => other_named(name),
+    }
 }
 
 /// A line's word, and the text behind it.

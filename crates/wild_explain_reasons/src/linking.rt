@@ -1,0 +1,107 @@
+//! What keeps modules from finding each other: libraries without names, local symbols, a dynamic linker without its path.
+
+use crate::items::{Item, push_item};
+use crate::names::push_symbol;
+use std::alloc::AllocError;
+use std::fmt::Write;
+use wild_needs::is_undefined_entry;
+use wild_types::{File, Layout, Role, Symbol, is_there};
+
+/// Whether a symbol has local binding (gABI, "Symbol Table", `STB_LOCAL`).
+fn is_local(symbol: &Symbol) -> bool {
+    symbol.info / 16 == 0
+}
+
+/// Adds a library that nothing names, or a name of one that no library has.
+pub(crate) fn push_library(
+    out: &mut String,
+    layout: &Layout,
+    word: &str,
+    item: Item,
+    file: &File,
+) -> Result<(), AllocError> {
+    let is_named = !file.lib_name.as_slice().is_empty();
+    if !layout.kind.needs_dynamic() || file.role.is_library() == is_named {
+        return Ok(());
+    }
+    write!(out, "{word}: ")?;
+    push_item(out, item)?;
+    if is_named {
+        writeln!(
+            out,
+            "/lib_name is given, and the file's role is not `dynamic`: no DT_NEEDED names the library"
+        )?;
+    } else {
+        writeln!(
+            out,
+            "/lib_name is not given, and the file's role is `dynamic`: its DT_NEEDED names no library"
+        )?;
+    }
+    Ok(())
+}
+
+/// Adds the path of the dynamic linker without its part, or the part without the path.
+pub(crate) fn push_path(out: &mut String, layout: &Layout, word: &str) -> Result<(), AllocError> {
+    let is_given = !layout.interp.as_slice().is_empty();
+    let is_held = is_there(Role::Interp, layout.parts.as_slice());
+    if is_held && !is_given {
+        writeln!(
+            out,
+            "{word}: a part has the role interp, and /interp is not given: the part is empty, and names no dynamic linker"
+        )?;
+    }
+    if is_given && !is_held {
+        writeln!(
+            out,
+            "{word}: /interp is given, and no part has the role interp: the path stands nowhere"
+        )?;
+    }
+    Ok(())
+}
+
+/// Adds the first local symbol of those that other modules see, and how many there are.
+pub(crate) fn push_listed(out: &mut String, layout: &Layout) -> Result<(), AllocError> {
+    let mut first: Option<(usize, usize)> = None;
+    let mut count: usize = 0;
+    for (i, listed) in layout.dynsyms.as_slice().iter().enumerate() {
+        let number = listed.symbol.0;
+        if let Some(symbol) = layout.symbols.as_slice().get(number)
+            && is_local(symbol)
+        {
+            first = Some(first.unwrap_or((i, number)));
+            count = count.saturating_add(1);
+        }
+    }
+    if let Some((i, number)) = first {
+        write!(
+            out,
+            "advice: /symbols/{number}/info has local binding, and /dynsyms/{i} lists "
+        )?;
+        push_symbol(out, layout, number)?;
+        writeln!(
+            out,
+            ": no other module finds it (16 and the type is a global one); {count} such in `dynsyms`"
+        )?;
+    }
+    Ok(())
+}
+
+/// Adds the first local symbol of a file that the dynamic symbol table has as an undefined one.
+pub(crate) fn push_local(out: &mut String, layout: &Layout, file: &File) -> Result<(), AllocError> {
+    for (i, symbol) in layout.symbols_of(file).iter().enumerate() {
+        if is_local(symbol) && is_undefined_entry(file.role, symbol) {
+            let number = file.first_symbol.0.saturating_add(i);
+            write!(
+                out,
+                "advice: /symbols/{number}/info has local binding, and "
+            )?;
+            push_symbol(out, layout, number)?;
+            writeln!(
+                out,
+                " is undefined in the dynamic symbol table: no other module's definition is looked for (16 and the type is a global one)"
+            )?;
+            return Ok(());
+        }
+    }
+    Ok(())
+}

@@ -1,0 +1,119 @@
+//! Which members the objects of a plan have.
+
+use std::alloc::AllocError;
+use std::fmt::Write;
+
+/// Of each sort of object its path, with `*` for a place in a list, and its members.
+const MEMBERS: [(&str, &str); 26] = [
+    (
+        "",
+        "machine, kind, options, page_size, parts, sections, segments, tls, got_base, got_header, tlsld, primary_part, symbols, groups, dynsyms, sysv_hash, gnu_hash, verdefs, thunk_blocks, sorted, merged, identity, interp, properties, entry, build_id",
+    ),
+    (
+        "/options",
+        "relax, relr, strip_all, eh_frame_hdr, terminator, bti, versions, got_plt_syms, execstack, new_dtags, origin, nodelete, interpose, textrel, static_tls, variant_pcs, only_keep_debug, new_tombstones, rpath, soname, auxiliary",
+    ),
+    ("/parts/*", "role, section, offset, address, size, align"),
+    (
+        "/sections/*",
+        "name, kind, flags, address, offset, size, link, info, align, entsize, fill, section_symbol",
+    ),
+    (
+        "/segments/*",
+        "kind, flags, offset, address, physical, file_size, mem_size, align",
+    ),
+    ("/tls", "start, end, align"),
+    (
+        "/symbols/*",
+        "name, definition, info, other, size, value, place, flags, version, emit, resolution",
+    ),
+    ("/symbols/*/place", "section, output"),
+    ("/symbols/*/resolution", "raw_value, dynsym, got, plt"),
+    (
+        "/groups/*",
+        "files, part_sizes, dynstr_start, strtab_start, eh_frame_start, symtab_local_start, symtab_global_start",
+    ),
+    (
+        "/groups/*/files/*",
+        "role, first_symbol, symbol_count, sections, thunk_block, owns_thunk_block, lib_name, copies, verneed",
+    ),
+    ("/groups/*/files/*/verneed", "last, versions"),
+    ("/groups/*/files/*/verneed/versions/*", "name, index"),
+    (
+        "/groups/*/files/*/sections/*",
+        "slot, name, part, address, size, flags, nobits, reversed, singleton, target, members, bytes, strings, relocations",
+    ),
+    (
+        "/groups/*/files/*/sections/*/relocations/*",
+        "offset, number, symbol, addend, malformed",
+    ),
+    ("/groups/*/files/*/sections/*/strings/*", "offset, address"),
+    ("/dynsyms/*", "symbol, name, version"),
+    ("/sysv_hash", "buckets"),
+    ("/gnu_hash", "buckets, bloom_count, bloom_shift, base"),
+    ("/verdefs/*", "name, parent"),
+    ("/thunk_blocks/*/*", "symbol, address"),
+    ("/sorted/*", "group, file, section"),
+    ("/merged/*", "part, strings"),
+    ("/identity", "part, bytes"),
+    ("/properties/*", "ptype, value, platform, version"),
+    ("/entry", "address, symbol"),
+];
+
+/// Whether a path is of that shape.
+fn is_shaped(path: &str, shape: &str) -> bool {
+    let mut steps = path.split("/");
+    for wanted in shape.split("/") {
+        let Some(step) = steps.next() else {
+            return false;
+        };
+        let is_place = wanted == "*" && step.parse::<u64>().is_ok();
+        if !is_place && wanted != step {
+            return false;
+        }
+    }
+    steps.next().is_none()
+}
+
+/// The members of the object at a path, where there is one.
+fn members_of(path: &str) -> Option<&'static str> {
+    for (shape, members) in &MEMBERS {
+        if is_shaped(path, *shape) {
+            return Some(*members);
+        }
+    }
+    None
+}
+
+/// Whether a name is one of those members.
+fn is_among(members: &str, name: &str) -> bool {
+    for known in members.split(", ") {
+        if known == name {
+            return true;
+        }
+    }
+    false
+}
+
+/// Adds why a text is no plan, by the path of its first wrong member: what is wrong, where, and of a member that is unknown those that are known there.
+pub fn push_no_plan(out: &mut String, path: &str) -> Result<(), AllocError> {
+    let (outer, name) = match path.rsplit_once("/") {
+        Some(steps) => steps,
+        None => ("?", path),
+    };
+    match members_of(outer) {
+        Some(members) if !is_among(members, name) => writeln!(
+            out,
+            "what: the member is unknown\nwhere: {path}\nknown: {members}"
+        )?,
+        Some(_) => writeln!(
+            out,
+            "what: the member has another value than docs/PLAN.md says, or does not go with another one\nwhere: {path}"
+        )?,
+        None => writeln!(
+            out,
+            "what: the member is unknown, or its value has another type than docs/PLAN.md says\nwhere: {path}"
+        )?,
+    }
+    Ok(())
+}

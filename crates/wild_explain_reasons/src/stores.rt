@@ -1,0 +1,177 @@
+//! Places that a loader stores at, and that nothing may write to.
+
+use crate::headers::first_of;
+use crate::items::{Item, SectionPlace, push_item};
+use std::alloc::{AllocError, Global};
+use std::fmt::Write;
+use wild_records::abi::segment::{PF_W, PT_LOAD};
+use wild_slot::{SlotWord, SymbolSlots, Treatment, begins_block, treatment_of};
+use wild_types::{File, InputSection, Layout, Role, SectionIndex, Segment, Slot, is_writable};
+
+/// Where a loader may not store: the loaded segments in their order, and what keeps it from the parts of slots.
+#[derive(Drop)]
+pub(crate) struct Barriers {
+    loaded: Vec<(usize, Segment)>,
+    got: Option<Item>,
+    block: Option<Item>,
+}
+
+/// The loaded segments with their places.
+fn loaded_segments(alloc: Global, layout: &Layout) -> Result<Vec<(usize, Segment)>, AllocError> {
+    let mut loaded = Vec::new(alloc);
+    for (i, segment) in layout.segments.as_slice().iter().enumerate() {
+        if segment.kind == PT_LOAD {
+            loaded.push((i, *segment))?;
+        }
+    }
+    Ok(loaded)
+}
+
+/// The last of some segments that begins at an address or ahead of it.
+fn segment_at(loaded: &[(usize, Segment)], address: u64) -> Option<(usize, Segment)> {
+    let count = loaded.partition_point(|s| s.1.address <= address);
+    loaded.get(count.checked_sub(1)?).copied()
+}
+
+/// The segment at an address of a section, or the section, where that cannot be written.
+fn barrier_at(
+    layout: &Layout,
+    loaded: &[(usize, Segment)],
+    section: SectionIndex,
+    address: u64,
+) -> Option<Item> {
+    if let Some((i, segment)) = segment_at(loaded, address)
+        && segment.flags & PF_W == 0
+    {
+        return Some(Item::Segment(i));
+    }
+    match layout.sections.as_slice().get(section.0) {
+        Some(found) if !is_writable(found.flags) => Some(Item::Section(section.0)),
+        _ => None,
+    }
+}
+
+/// What keeps a loader from storing in the part of a role.
+fn barrier_of(layout: &Layout, loaded: &[(usize, Segment)], role: Role) -> Option<Item> {
+    let (_, part) = first_of(layout, role)?;
+    barrier_at(layout, loaded, part.section, part.address)
+}
+
+impl Barriers {
+    /// Those of a layout.
+    pub(crate) fn of(alloc: Global, layout: &Layout) -> Result<Barriers, AllocError> {
+        let loaded = loaded_segments(alloc, layout)?;
+        let got = barrier_of(layout, loaded.as_slice(), Role::Got);
+        let block = barrier_of(layout, loaded.as_slice(), Role::GotRelr);
+        Ok(Barriers { loaded, got, block })
+    }
+}
+
+/// Adds what a loader stores at, and what keeps it from that.
+fn push_barrier(
+    out: &mut String,
+    stored: Item,
+    relocation: Option<usize>,
+    barrier: Item,
+) -> Result<(), AllocError> {
+    write!(out, "advice: ")?;
+    push_item(out, stored)?;
+    match relocation {
+        Some(index) => write!(out, "/relocations/{index}")?,
+        None => write!(out, "/resolution/got")?,
+    }
+    write!(out, " is stored at when the image is loaded, and ")?;
+    push_item(out, barrier)?;
+    let end = match barrier {
+        Item::Segment(_) => "(flag 2, PF_W): that faults, but where /options/textrel is set",
+        _ => "(flag 1, SHF_WRITE)",
+    };
+    writeln!(out, " is not writable {end}")?;
+    Ok(())
+}
+
+/// Whether a loader stores one of some words.
+fn has_stored(words: &[SlotWord]) -> bool {
+    for word in words {
+        if !matches!(word, SlotWord::Number(_)) {
+            return true;
+        }
+    }
+    false
+}
+
+/// Adds the first symbol of a file with a slot that a loader stores where it may not.
+pub(crate) fn push_slots(
+    out: &mut String,
+    layout: &Layout,
+    barriers: &Barriers,
+    file: &File,
+) -> Result<(), AllocError> {
+    if layout.options.textrel || barriers.got.is_none() && barriers.block.is_none() {
+        return Ok(());
+    }
+    for (i, symbol) in layout.own_symbols(file).iter().enumerate() {
+        let slots = SymbolSlots::of(layout, symbol);
+        let barrier = if begins_block(slots.words()) {
+            barriers.block
+        } else {
+            barriers.got
+        };
+        if let Some(barrier) = barrier
+            && has_stored(slots.words())
+        {
+            let stored = Item::Symbol(file.first_symbol.0.saturating_add(i));
+            return push_barrier(out, stored, None, barrier);
+        }
+    }
+    Ok(())
+}
+
+/// The first relocation of a section whose field a loader stores.
+fn first_stored(layout: &Layout, section: &InputSection) -> Option<usize> {
+    for (i, relocation) in section.relocations.as_slice().iter().enumerate() {
+        if matches!(
+            treatment_of(layout, section.flags, relocation),
+            Treatment::BaseRelative
+                | Treatment::Symbolic(_)
+                | Treatment::Indirect(_)
+                | Treatment::Extent(_, _)
+        ) {
+            return Some(i);
+        }
+    }
+    None
+}
+
+/// Adds of each section of a file, frames left out, the first relocation whose field a loader stores where it may not.
+pub(crate) fn push_stores(
+    out: &mut String,
+    layout: &Layout,
+    barriers: &Barriers,
+    at: (usize, usize),
+    file: &File,
+) -> Result<(), AllocError> {
+    let (group, number) = at;
+    for (i, section) in file.sections.as_slice().iter().enumerate() {
+        let is_read = matches!(section.slot, Slot::Loaded | Slot::Sorted) && !section.nobits;
+        let outer = layout.section_of(section.part);
+        if is_read
+            && !layout.options.textrel
+            && let Some(barrier) = barrier_at(
+                layout,
+                barriers.loaded.as_slice(),
+                outer,
+                section.address,
+            )
+            && let Some(index) = first_stored(layout, section)
+        {
+            let stored = Item::Input(SectionPlace {
+                group,
+                file: number,
+                section: i,
+            });
+            push_barrier(out, stored, Some(index), barrier)?;
+        }
+    }
+    Ok(())
+}
