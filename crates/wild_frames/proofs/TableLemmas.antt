@@ -23,7 +23,7 @@ use Rattle.wild_records.specs.Abi.Frame.{eh_frame_hdr_version, dw_eh_pe_absptr, 
 use Rattle.wild_frames.specs.declared.table.Fde.{Fde}
 use Rattle.wild_frames.specs.declared.table.TableError.{TableError}
 use Rattle.wild_frames.specs.declared.table.TableError.TheVariants as error
-use Rattle.wild_frames.specs.Table.{distance, is_near, far, entry_of, far_fde, table_errors, header_of, rank, rank_of, hdr_bytes, entry_bytes, IsTable, Refuses, count_in, nth_entry, IsLastBefore, TableIsInOrder, CoverApart, FdeIsFound}
+use Rattle.wild_frames.specs.Table.{distance, is_near, far, entry_of, far_fde, table_errors, header_of, rank, rank_of, hdr_bytes, entry_bytes, IsTable, Refuses, count_in, nth_entry, IsInOrder, IsFirstOut, IsLastBefore, TableIsInOrder, CoverApart, FdeIsFound}
 use Rattle.wild_frames.proofs.WriteLemmas.{front_written}
 
 -- ---- writing
@@ -267,3 +267,43 @@ pub record IsHalved (table : List ℕ) (x low high : ℕ) : Type 0 where
   pub within : high ≤ count_in table
   pub before : (k : ℕ) → k < low → rank_of (nth_entry table k) ≤ x
   pub behind : (k : ℕ) → high ≤ k → k < count_in table → x < rank_of (nth_entry table k)
+
+-- ---- a test of the order
+
+-- the entries below n are in order, of which there may be fewer
+pub record IsOrderedTo (table : List ℕ) (n : ℕ) : Type 0 where
+  pub some : 1 ≤ n
+  pub ahead : (i j : ℕ) → i ≤ j → j < n → rank_of (nth_entry table i) ≤ rank_of (nth_entry table j)
+
+-- one entry is in order
+pub ordered_first : (table : List ℕ) → IsOrderedTo table 1
+ordered_first table = record { some = omega arith; ahead = λ i j le lt. (let same : i ≡ j = omega (arith, le, lt) in let e = ap (λ (k : ℕ). rank_of (nth_entry table k)) same in omega (arith, e)) }
+
+-- one more that does not come before the one ahead of it
+pub ordered_more : (table : List ℕ) (n : ℕ) → IsOrderedTo table n → rank_of (nth_entry table (n - 1)) ≤ rank_of (nth_entry table n) → IsOrderedTo table (n + 1)
+ordered_more table n h up = record { some = omega arith; ahead = λ i j le lt. at i j le lt }
+  where
+    at : (i j : ℕ) → i ≤ j → j < n + 1 → rank_of (nth_entry table i) ≤ rank_of (nth_entry table j)
+    at i j le lt =
+        elim (cases_lt j n) [
+          | inl u ↦ h.ahead i j le u
+          | inr u ↦
+              let same : j ≡ n = omega (arith, lt, u) in
+              let e = ap (λ (k : ℕ). rank_of (nth_entry table k)) same in
+              elim (cases_lt i n) [
+                | inl v ↦ (let one = h.some in let a = h.ahead i (n - 1) (omega (arith, v)) (omega (arith, one)) in omega (arith, a, up, e))
+                | inr v ↦ (let is : i ≡ j = omega (arith, le, same, v) in let f = ap (λ (k : ℕ). rank_of (nth_entry table k)) is in omega (arith, f))
+              ]
+        ]
+
+-- all are
+pub ordered_all : (table : List ℕ) (n : ℕ) → IsOrderedTo table n → count_in table ≤ n → IsInOrder table
+ordered_all table n h all i j le lt = h.ahead i j le (omega (arith, lt, all))
+
+-- one comes before the one ahead of it
+pub out_at : (table : List ℕ) (n : ℕ) → IsOrderedTo table n → n < count_in table → rank_of (nth_entry table n) < rank_of (nth_entry table (n - 1)) → IsFirstOut table n
+out_at table n h lt down = record { ahead = h.ahead; some = h.some; within = lt; before = down }
+
+-- so they are not in order
+pub not_in_order : (table : List ℕ) (n : ℕ) → n < count_in table → rank_of (nth_entry table n) < rank_of (nth_entry table (n - 1)) → IsInOrder table → ⊥
+not_in_order table n lt down all = let up = all (n - 1) n (omega arith) lt in omega (arith, up, down)

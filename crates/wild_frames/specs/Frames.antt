@@ -5,6 +5,7 @@
 --   found_in s       all that is found in a section
 --   kept_in s        the kept entries, each with its new place and id
 --   frame_bytes s    the bytes that are kept, before fields are written in them
+--   terminator       what ends the frames of an output
 -- An entry is a length word, an id word and what follows; the length counts what follows the length word. Id 0 is a CIE;
 -- of an FDE the id is the distance from the id word back to its CIE, and behind it stands where its code begins (PC Begin).
 use Rattle.std.specs.Prelude.{ℕ, zero, suc, ◌+◌, ◌-◌, ◌==◌, ◌&&◌, Bool, true, false, if◌then◌else◌, nat_lt, nat_le, List, [], ◌∷◌, ◌++◌, length, drop, slice_range, Option, Some, None}
@@ -19,6 +20,10 @@ use Rattle.wild_types.specs.declared.fault.Why.TheVariants as why
 use Rattle.wild_frames.specs.declared.entry.Found.{Found}
 use Rattle.wild_frames.specs.declared.entry.Found.TheVariants as finds
 use Rattle.wild_frames.specs.declared.entry.BadFrame.{BadFrame}
+
+-- a length of zero, which ends the frames of an output (LSB, "The .eh_frame section")
+abbrev pub terminator : List ℕ
+terminator = 0 ∷ 0 ∷ 0 ∷ 0 ∷ []
 
 -- a section of frames: how many bytes the field of a relocation has, and what its symbol is
 pub record Frames : Type 0 where

@@ -3,6 +3,8 @@
 --   rank z                numbers in the order of signed ones
 --   table_of ..           its bytes: the header and the entries in order of their code
 --   IsTable ..            bytes are the header and the entries in order of their code
+--   IsInOrder bs          the entries of a table are in order
+--   IsOrdered bs r        r tells whether they are, or the first that is not
 --   IsLastBefore x bs r   r is the last entry of a table that stands at or before a place
 use Rattle.std.specs.Prelude.{◌≡◌, ℕ, ℤ, pos, ◌-ℤ◌, ◌≤ℤ◌, ◌+◌, ◌-◌, ◌*◌, ◌/◌, ◌%◌, ◌^◌, ◌<◌, ◌≤◌, ◌⊎◌, ◌&&◌, Bool, true, if◌then◌else◌, nat_lt, nat_le, List, [], ◌∷◌, ◌++◌, length, map, All, AllPairs, Contains, Option, Some, None, Result, Ok, Err}
 use Rattle.std.specs.List.{flat_map}
@@ -111,6 +113,18 @@ nth_entry bytes i = eh_frame_hdr_entry_at bytes (12 + 8 * i)
 -- the entries of a table, as they stand in its bytes, are in order
 abbrev pub IsInOrder : List ℕ → Type 0
 IsInOrder bytes = (i j : ℕ) → i ≤ j → j < count_in bytes → rank_of (nth_entry bytes i) ≤ rank_of (nth_entry bytes j)
+
+-- those ahead of entry i are in order, and it comes before the one ahead of it
+pub record IsFirstOut (bytes : List ℕ) (i : ℕ) : Type 0 where
+  pub ahead : (j k : ℕ) → j ≤ k → k < i → rank_of (nth_entry bytes j) ≤ rank_of (nth_entry bytes k)
+  pub some : 1 ≤ i
+  pub within : i < count_in bytes
+  pub before : rank_of (nth_entry bytes i) < rank_of (nth_entry bytes (i - 1))
+
+-- a test of the order says that they are, or which is the first that is not
+abbrev pub IsOrdered : List ℕ → Result (Unit {0}) ℕ → Type 0
+IsOrdered bytes (Ok u) = IsInOrder bytes
+IsOrdered bytes (Err i) = IsFirstOut bytes i
 
 pub record LastBefore (x : ℕ) (bytes : List ℕ) (e : EhFrameHdrEntry) : Type 0 where
   pub place : ℕ

@@ -17,9 +17,9 @@ pub use entry::{BadFrame, Cie, Found, FrameError, KeptEntry};
 pub use frames::{FrameSource, Target};
 pub use laws::kept_entries_are_read;
 pub use pass::Pass;
-pub use search::{look_up, tables_are_searched};
+pub use search::{check_order, look_up, tables_are_searched};
 pub use table::{
     Fde, TableError, sort_eh_frame_hdr_entries, write_eh_frame_hdr, write_search_table,
 };
 pub use walk::Walk;
-pub use write::{add_found, goes_on, write_eh_frame_data, write_entry};
+pub use write::{add_found, goes_on, write_eh_frame_data, write_eh_frame_terminator, write_entry};

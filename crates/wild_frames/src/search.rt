@@ -1,6 +1,6 @@
 //! What an unwinder asks the search table.
-ghost use Rattle.std.specs.Prelude.{◌≡◌, ◌<◌, ◌≤◌, ◌+◌, ◌*◌, length};
-ghost use Rattle.wild_frames.specs.Table.{rank, nth_entry, IsInOrder, IsLastBefore, RanksAreOrdered, TableIsInOrder, FdeIsFound};
+ghost use Rattle.std.specs.Prelude.{◌≡◌, ◌<◌, ◌≤◌, ◌+◌, ◌*◌, length, OnErr};
+ghost use Rattle.wild_frames.specs.Table.{rank, count_in, nth_entry, IsInOrder, IsOrdered, IsLastBefore, RanksAreOrdered, TableIsInOrder, FdeIsFound};
 
 use crate::table::rank;
 use wild_records::{EhFrameHdr, EhFrameHdrEntry, eh_frame_hdr_entry_is_read};
@@ -13,6 +13,31 @@ fn nth_entry(table: &[u8], index: usize) -> EhFrameHdrEntry
     EhFrameHdrEntry::read(table, EhFrameHdr::SIZE + EhFrameHdrEntry::SIZE * index)
 }
 
+/// How many entries a table has.
+fn count_entries(table: &[u8]) -> usize
+    ensures { result ≡ count_in table.now }
+{
+    table.len().saturating_sub(EhFrameHdr::SIZE) / EhFrameHdrEntry::SIZE
+}
+
+/// Whether the entries of a table are in order, as a search by halves wants them: else the number of the first one that comes before the
+/// one ahead of it. Linear, without memory.
+#[tactic(auto, using(crate::proofs::TableLemmas::ordered_first, crate::proofs::TableLemmas::ordered_more, crate::proofs::TableLemmas::ordered_all, crate::proofs::TableLemmas::out_at, crate::proofs::TableLemmas::not_in_order))]
+pub fn check_order(table: &[u8]) -> Result<(), usize>
+    ensures told { IsOrdered table.now result }
+    ensures exact { OnErr result (IsInOrder table.now → ⊥) }
+{
+    let count = count_entries(table);
+    let mut index = 1;
+    while index < count {
+        if rank(nth_entry(table, index).frame_ptr) < rank(nth_entry(table, index - 1).frame_ptr) {
+            return Err(index);
+        }
+        index += 1;
+    }
+    Ok(())
+}
+
 /// The last entry of a table that stands at or before a place counted from its header, by halves.
 pub fn look_up(table: &[u8], code: i32) -> Option<EhFrameHdrEntry>
     requires { IsInOrder table.now }
@@ -20,7 +45,7 @@ pub fn look_up(table: &[u8], code: i32) -> Option<EhFrameHdrEntry>
 {
     let most = rank(code);
     let mut low = 0;
-    let mut high = table.len().saturating_sub(EhFrameHdr::SIZE) / EhFrameHdrEntry::SIZE;
+    let mut high = count_entries(table);
     while low < high {
         let middle = low + (high - low) / 2;
         if rank(nth_entry(table, middle).frame_ptr) <= most {

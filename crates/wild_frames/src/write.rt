@@ -2,7 +2,7 @@
 ghost use Rattle.std.specs.Prelude.{◌≡◌, [], ◌++◌, ◌<◌, ◌≤◌, ◌+◌, length, drop, OnOk, IfOk, IfErr, true, false};
 ghost use Rattle.std.specs.List.{flat_map};
 ghost use Rattle.wild_words.specs.Words.{word, place};
-ghost use Rattle.wild_frames.specs.Frames.{start, entry_bytes, tail_of, found_bytes, rest_of, frame_bytes, goes_on};
+ghost use Rattle.wild_frames.specs.Frames.{start, entry_bytes, tail_of, found_bytes, rest_of, frame_bytes, terminator, goes_on};
 ghost use Rattle.wild_frames.specs.Faults.{found_errors, frame_errors, Answers, Refuses};
 ghost use Rattle.wild_frames.specs.Walks.{Lies, IsAtStart, IsWritten};
 
@@ -123,6 +123,13 @@ pub fn add_found<F: FrameSource>(
         _ => {}
     }
     Ok(())
+}
+
+/// The length of zero that ends the frames of an output, behind other bytes.
+pub fn write_eh_frame_terminator(out: &mut Vec<u8>) -> Result<(), AllocError>
+    ensures { OnOk result (out.new.items ≡ out.old.items ++ terminator) }
+{
+    out.extend_from_slice(&[0; 4])
 }
 
 /// The walk goes on behind what was found.
