@@ -394,7 +394,7 @@ def makers():
         for name, text in re.findall(r'const (\w+): &str =\s+r#"(.*?)"#;', read(path)):
             same(path, json.loads(read(f"plans/{name.lower()}.json")), json.loads(text))
     for words, plan in [(["make_hello.py"], "hello"), (["make_pie.py"], "pie"), (["make_slots.py"], "slots"), (["make_rewrites.py"], "rewrites"),
-                        (["make_aarch64.py"], "aarch64"), (["make_debug.py"], "debug"), (["make_partial.py"], "partial"), (["make_every.py"], "every"),
+                        (["make_aarch64.py"], "aarch64"), (["make_debug.py"], "debug"), (["make_debug.py", "--only-keep-debug"], "debug_file"), (["make_partial.py"], "partial"), (["make_every.py"], "every"),
                         *((["make_shared.py", name], name) for name in ("shared", "uses_shared", "symbols", "frames"))]:
         if plan == "aarch64" and not shutil.which(make_aarch64.ASSEMBLER):
             print(f"left out: plans/{words[0]}: there is no {make_aarch64.ASSEMBLER}")

@@ -4,12 +4,16 @@ executable. Run it as
 
     plans/make_debug.py > plans/debug.json
     plans/make_debug.py SOURCE.c > plan.json
+    plans/make_debug.py --only-keep-debug > plans/debug_file.json
 
 As a linker does, it leaves out the code that nobody calls, and merges the strings of the debug sections: each stands once, in the order of
 their bytes. The file has the headers, the constants, the code a page further on in memory, and behind them the debug sections, which nothing
 loads. Names of sources are told from the folder above this one.
+
+With `--only-keep-debug` it is the file that a debugger reads beside the stripped program: headers, and what nothing loads.
 """
 import os
+import sys
 
 from make_hello import ALLOC, BASE, CODE, PAGE, PROGBITS, placed, relocation, source_of, spelled, up
 from make_pie import LOAD, STACK, STRTAB, compiled
@@ -147,5 +151,25 @@ def plan(source):
     }
 
 
+def only_debug(whole):
+    """The plan of the debug file of that program: its headers, and close behind them what nothing loads."""
+    whole["options"]["only_keep_debug"] = True
+    headers, rest = whole["parts"][:2], whole["parts"][2:]
+    end = headers_end = headers[-1]["offset"] + headers[-1]["size"]
+    for part in rest:
+        section = whole["sections"][part.get("section", 0)]
+        if not section.get("flags", 0) & ALLOC:
+            part["offset"] = up(end, part.get("align", 1))
+            end = part["offset"] + part["size"]
+            if section:
+                section["offset"] = part["offset"]
+    for segment in whole["segments"]:
+        if segment["kind"] == LOAD:
+            segment["file_size"] = max(headers_end - segment["offset"], 0)
+    return whole
+
+
 if __name__ == "__main__":
-    print(spelled(plan(compiled(source_of("debug.c"), FLAGS))))
+    words = [word for word in sys.argv[1:] if word != "--only-keep-debug"]
+    made = plan(compiled(source_of("debug.c", words), FLAGS))
+    print(spelled(only_debug(made) if words != sys.argv[1:] else made))

@@ -10,7 +10,7 @@ use Rattle.wild_types.specs.declared.file.File.{File}
 use Rattle.wild_types.specs.declared.file.Group.{Group}
 use Rattle.wild_types.specs.declared.layout.Layout.{Layout}
 use Rattle.wild_types.specs.Lists.{through}
-use Rattle.wild_types.specs.Lookups.{is_filled}
+use Rattle.wild_types.specs.Lookups.{is_given}
 use Rattle.wild_clauses.specs.Contents.{addresses, ends_of, placed_in, file_placed_in, part_placed, parts_placed}
 use Rattle.wild_types.specs.FilePlaces.{given}
 use Rattle.wild_clauses.specs.Thunks.{standing}
@@ -23,7 +23,7 @@ both_none (Some a) = refl
 -- ---- one input section
 
 -- one that owns no bytes moves no cursor
-pub unfilled : (l : Layout) (part : ℕ) (ends cursors : List ℕ) (s : InputSection) → length ends ≡ length cursors → is_filled l s ≡ false → all_placed l part ends cursors s ≡ Some cursors
+pub unfilled : (l : Layout) (part : ℕ) (ends cursors : List ℕ) (s : InputSection) → length ends ≡ length cursors → is_given l s ≡ false → all_placed l part ends cursors s ≡ Some cursors
 unfilled l part [] [] s same h = refl
 unfilled l part [] (c ∷ cs) s same h = absurd (omega arith)
 unfilled l part (e ∷ es) [] s same h = absurd (omega arith)
@@ -32,7 +32,7 @@ unfilled l part (e ∷ es) (c ∷ cs) s same h =
     rw (h, again)
 
 -- one that owns bytes moves that of its part
-pub filled : (l : Layout) (part : ℕ) (ends cursors : List ℕ) (s : InputSection) → is_filled l s ≡ true → all_placed l part ends cursors s ≡ bytes_placed part ends cursors s
+pub filled : (l : Layout) (part : ℕ) (ends cursors : List ℕ) (s : InputSection) → is_given l s ≡ true → all_placed l part ends cursors s ≡ bytes_placed part ends cursors s
 filled l part [] cs s h = refl
 filled l part (e ∷ es) [] s h = refl
 filled l part (e ∷ es) (c ∷ cs) s h = rw (h, filled l (part + 1) es cs s h) refl

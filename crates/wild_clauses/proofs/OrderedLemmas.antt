@@ -11,7 +11,7 @@ use Rattle.wild_types.specs.declared.file.File.{File}
 use Rattle.wild_types.specs.FileRoles.{is_epilogue}
 use Rattle.wild_types.specs.Lists.{through}
 use Rattle.wild_types.specs.Kinds.{is_partial_link}
-use Rattle.wild_types.specs.Lookups.{has_bytes, is_filled}
+use Rattle.wild_types.specs.Lookups.{has_bytes, is_given}
 use Rattle.wild_laid.specs.Laid.{Input, sorted_input, of_last_file}
 use Rattle.wild_clauses.specs.SlotPlaces.{and_then, walk}
 use Rattle.wild_clauses.specs.Thunks.{bytes_step, section_step, standing}
@@ -63,10 +63,10 @@ file_last l part ends cursors next f e h = rw (through_append (all_placed l part
 
 -- ---- the same of steps that may refuse
 
-pub filled_step : (l : Layout) (group at : ℕ) (s : InputSection) → is_filled l s ≡ true → section_step l group at s ≡ bytes_step l.primary_part group at s
+pub filled_step : (l : Layout) (group at : ℕ) (s : InputSection) → is_given l s ≡ true → section_step l group at s ≡ bytes_step l.primary_part group at s
 filled_step l group at s e = rw e refl
 
-pub unfilled_step : (l : Layout) (group at : ℕ) (s : InputSection) → is_filled l s ≡ false → section_step l group at s ≡ Ok at
+pub unfilled_step : (l : Layout) (group at : ℕ) (s : InputSection) → is_given l s ≡ false → section_step l group at s ≡ Ok at
 unfilled_step l group at s e = rw e refl
 
 pub ordered_step : (l : Layout) (group at : ℕ) (s : InputSection) → has_bytes l (as_ordered l s) ≡ true → section_step l group at (as_ordered l s) ≡ bytes_step l.primary_part group at s

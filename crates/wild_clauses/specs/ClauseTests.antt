@@ -27,7 +27,7 @@ use Rattle.wild_clauses.specs.SlotPlaces.{slots_astray, slot_is_even, block_is_a
 use Rattle.wild_needs.specs.DynamicSymbols.{dynamic_symbols, misplaced, misfit, first_listed}
 use Rattle.wild_clauses.specs.SlotFlags.{first_asked_failing, dynamic_is_interposable, stub_is_value, stub_has_slot, one_slot_for_address, thread_slot_alone, resolver_is_own, slot_agrees, resolver_moves, second_slot_fits}
 use Rattle.wild_clauses.specs.Contents.{addresses, each_section, share_mismatch, has_share_for_each_part, section_misplaced, sorted_named_once, names_sorted, length_fits, frames_part_fits, discarded_is_empty, part_is_raw, merged_is_raw, identity_is_raw, primary_fits, front_is_free, allocation_agrees, bytes_take_room, fields_lie, relocations_are_read, tls_fits}
-use Rattle.wild_clauses.specs.Fronts.{reversed_fits, merged_fill, identity_fills, front_shared, identity_is_alone, properties_differ, keeps_all}
+use Rattle.wild_clauses.specs.Fronts.{reversed_fits, merged_fill, identity_fills, front_shared, identity_is_alone, properties_differ, keeps_tables, dynamic_is_dropped, headers_are_kept}
 use Rattle.wild_clauses.specs.Partial.{has_no_segments, has_no_slot, has_no_pair, has_no_thunks, lists_no_symbols, has_no_index, is_no_debug, is_of_kind, tables_fit, group_fits_members, table_has_data}
 use Rattle.wild_types.specs.FilePlaces.{file_misplaced}
 use Rattle.wild_clauses.specs.Thunks.{ascends, thunks_misplaced, block_lost, machine_takes}
@@ -93,11 +93,11 @@ check_entries l =
 unfoldable pub check_segments : Layout → Result (Unit {0}) Clause
 check_segments l =
     first_error (fails 6 (segment_out_of_order l.page_size 0 0 l.segments))
-    (first_error (fails 6 (first_failing (bytes_are_loaded side.Memory l.segments) 1 (loaded_sections l)))
+    (first_error (fails 6 (first_failing (bytes_are_loaded side.Memory l l.segments) 1 (loaded_sections l)))
     (first_error (fails 6 (first_failing (leaves_zero_free l.kind) 0 l.segments))
-    (first_error (fails 6 (first_failing (bytes_are_loaded side.File l.segments) 1 (loaded_sections l)))
+    (first_error (fails 6 (first_failing (bytes_are_loaded side.File l l.segments) 1 (loaded_sections l)))
     (first_error (fails 6 (first_failing (segment_in_image (image_size l)) 0 l.segments))
-    (first_error (fails 6 (dynamic_astray (part_with role.Dynamic l.parts) 0 l.segments))
+    (first_error (fails 6 (dynamic_astray l (part_with role.Dynamic l.parts) 0 l.segments))
     (first_error (check_entries l)
     (fails 6 (first_failing (table_is_loaded l) 0 l.parts))))))))
 
@@ -247,6 +247,8 @@ check_fronts l =
     first_error (fails 22 (merged_fill l))
     (first_error (fails 22 (unless (identity_fills l)))
     (first_error (fails 22 (properties_differ [] 0 l.properties))
-    (first_error (fails 22 (unless (keeps_all l)))
+    (first_error (fails 22 (unless (keeps_tables l)))
+    (first_error (fails 22 (first_failing (dynamic_is_dropped l) 0 l.parts))
     (first_error (fails 22 (front_shared 0 l.merged))
-    (fails 22 (unless (identity_is_alone l)))))))
+    (first_error (fails 22 (unless (identity_is_alone l)))
+    (fails 22 (first_failing (headers_are_kept l) 0 l.parts))))))))

@@ -24,7 +24,7 @@ use Rattle.wild_types.specs.declared.layout.SortedSection.{SortedSection}
 use Rattle.wild_types.specs.declared.layout.Merged.{Merged}
 use Rattle.wild_types.specs.declared.layout.Layout.{Layout}
 use Rattle.wild_types.specs.Lists.{total, through}
-use Rattle.wild_types.specs.Lookups.{allocated, section_of, is_allocated_section, is_allocated_part, takes_file_bytes, is_frame, is_discarded, is_rela, is_filled, owns_bytes}
+use Rattle.wild_types.specs.Lookups.{allocated, section_of, is_allocated_section, is_allocated_part, has_data, is_frame, is_discarded, is_rela, is_given, brings_bytes}
 use Rattle.wild_types.specs.Kinds.{is_partial_link}
 use Rattle.wild_types.specs.FileThunks.{thunks_of}
 use Rattle.wild_types.specs.Parts.{has_role}
@@ -64,11 +64,11 @@ abbrev pub ends_of : Group → ℕ → List ℕ → List ℕ
 ends_of g part [] = []
 ends_of g part (start ∷ starts) = (start + given part g) ∷ ends_of g (part + 1) starts
 
--- the end of the last input section of a part that owns bytes; none where one begins before the end of the one
+-- the end of the last input section of a part that has bytes; none where one begins before the end of the one
 -- before it, or ends past the end of its group's range
 abbrev pub placed_in : Layout → ℕ → ℕ → ℕ → InputSection → Option ℕ
 placed_in l part end cursor s =
-    if is_filled l s && s.part == part
+    if is_given l s && s.part == part
     then (if nat_le cursor s.address && nat_le (s.address + s.size) end then Some (s.address + s.size) else None)
     else Some cursor
 
@@ -162,7 +162,7 @@ part_is_raw l s = is_discarded s.slot || (is_frame s.slot || is_raw (slice_get l
 -- bytes, but where there are none, can stand in the part: a raw one in a section with data
 abbrev pub holds_bytes : Layout → Bool → Option Part → Bool
 holds_bytes l none None = false
-holds_bytes l none (Some p) = is_raw (Some p) && (none || takes_file_bytes l p.section)
+holds_bytes l none (Some p) = is_raw (Some p) && (none || has_data l p.section)
 
 -- so do merged strings, and the linker's name of itself where it has bytes
 abbrev pub merged_is_raw : Layout → Merged → Bool
@@ -174,7 +174,7 @@ identity_is_raw l = length l.identity.bytes == 0 || holds_bytes l false (slice_g
 -- code of the linker's own can stand in the part: a raw one in an allocated section with data
 abbrev pub holds_thunks : Layout → Option Part → Bool
 holds_thunks l None = false
-holds_thunks l (Some p) = is_raw (Some p) && (takes_file_bytes l p.section && is_allocated_section l p.section)
+holds_thunks l (Some p) = is_raw (Some p) && (has_data l p.section && is_allocated_section l p.section)
 
 -- thunks stand in such a part
 abbrev pub primary_fits : Layout → Bool
@@ -186,7 +186,7 @@ has_front l part = list_any (λ (m : Merged). m.part == part) l.merged || (not (
 
 -- the section has bytes, or in a section with data zeros
 abbrev pub takes_bytes : Layout → InputSection → Bool
-takes_bytes l s = not (length s.bytes == 0) || owns_bytes l s
+takes_bytes l s = not (length s.bytes == 0) || brings_bytes l s
 
 -- no bytes of the section stand in such a part
 abbrev pub leaves_front : Layout → InputSection → Bool
@@ -221,7 +221,7 @@ has_some s = not (length s.bytes == 0) || (is_rela s.slot && not (s.size == 0))
 
 -- bytes stand in no section without data
 abbrev pub bytes_take_room : Layout → InputSection → Bool
-bytes_take_room l s = not (has_some s) || takes_file_bytes l (section_of l s.part)
+bytes_take_room l s = not (has_some s) || has_data l (section_of l s.part)
 
 -- ---- clause 10: fields
 

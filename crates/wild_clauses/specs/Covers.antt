@@ -1,10 +1,11 @@
 -- The bytes of a section and the segments, side by side.
 --   is_passed a g          the segment loads nothing at address a or behind it
---   covers side s a gs     the segments have the section's bytes from address a on, one segment behind the other
+--   covers side l s a gs   the segments have the section's bytes from address a on, one segment behind the other
 use Rattle.std.specs.Prelude.{ℕ, ◌+◌, ◌==◌, Bool, true, false, not, ◌&&◌, if◌then◌else◌, nat_lt, nat_le, List, [], ◌∷◌}
 use Rattle.wild_records.specs.Abi.Segment.{pt_load}
 use Rattle.wild_types.specs.declared.section.Section.{Section}
 use Rattle.wild_types.specs.declared.section.Segment.{Segment}
+use Rattle.wild_types.specs.declared.layout.Layout.{Layout}
 use Rattle.wild_clauses.specs.declared.loaded.Side.{Side}
 use Rattle.wild_clauses.specs.Segments.{size_on, has_byte}
 
@@ -13,9 +14,9 @@ abbrev pub is_passed : ℕ → Segment → Bool
 is_passed a g = not (g.kind == pt_load && nat_lt a (g.address + g.mem_size))
 
 -- the segments have the section's bytes from address a on, one segment behind the other
-abbrev pub covers : Side → Section → ℕ → List Segment → Bool
-covers on s a [] = nat_le (s.address + s.size) a
-covers on s a (g ∷ gs) =
+abbrev pub covers : Side → Layout → Section → ℕ → List Segment → Bool
+covers on l s a [] = nat_le (s.address + s.size) a
+covers on l s a (g ∷ gs) =
     if nat_le (s.address + s.size) a
     then true
-    else (if is_passed a g then covers on s a gs else (if has_byte on s a g then covers on s (g.address + size_on on g) gs else false))
+    else (if is_passed a g then covers on l s a gs else (if has_byte on l s a g then covers on l s (g.address + size_on on g) gs else false))

@@ -1,11 +1,13 @@
--- The clauses on what stands at the front of its part in the first group, on reversed sections and on properties.
+-- The clauses on what stands at the front of its part in the first group, on reversed sections, on properties, and on images for debuggers alone.
 --   reversed_fits m s        a section whose words are reversed has words alone, and its relocations are of whole words
 --   merged_fill l            the first merged strings that are not the room of their part in the first group
 --   identity_fills l         the linker's name of itself is, where it has bytes
 --   front_shared l           the first merged strings that stand in a part where others stand too
 --   properties_differ ..     the first property of a type that one before it has
---   keeps_all l              the output is no image of what debuggers read alone
-use Rattle.std.specs.Prelude.{ℕ, ◌+◌, ◌%◌, ◌==◌, Bool, true, not, ◌&&◌, ◌||◌, if◌then◌else◌, List, [], ◌∷◌, ◌++◌, length, Option, Some, None, slice_get}
+--   keeps_tables l           a relocatable object is no image for debuggers alone
+--   dynamic_is_dropped l p   in such an image the dynamic section is not written
+--   headers_are_kept l p     the headers and the names of sections are
+use Rattle.std.specs.Prelude.{ℕ, ◌+◌, ◌%◌, ◌==◌, Bool, true, false, not, ◌&&◌, ◌||◌, if◌then◌else◌, List, [], ◌∷◌, ◌++◌, length, Option, Some, None, slice_get}
 use Rattle.std.specs.List.{flat_map, list_all, list_any}
 use Rattle.wild_laid.specs.Turned.{word_size}
 use Rattle.wild_types.specs.declared.kind.Machine.{Machine}
@@ -15,6 +17,13 @@ use Rattle.wild_types.specs.declared.file.Group.{Group}
 use Rattle.wild_types.specs.declared.layout.Merged.{Merged}
 use Rattle.wild_types.specs.declared.layout.Property.{Property}
 use Rattle.wild_types.specs.declared.layout.Layout.{Layout}
+use Rattle.wild_types.specs.declared.part.Part.{Part}
+use Rattle.wild_types.specs.declared.part.Role.{Role}
+use Rattle.wild_types.specs.declared.part.Role.TheVariants as role
+use Rattle.wild_records.specs.Abi.Section.{sht_note}
+use Rattle.wild_types.specs.Kinds.{is_partial_link}
+use Rattle.wild_types.specs.Lookups.{kind_at, is_hollow_at}
+use Rattle.wild_types.specs.Parts.{has_role}
 use Rattle.wild_types.specs.FilePlaces.{given}
 use Rattle.wild_types.specs.Lists.{first_failing, unless}
 use Rattle.wild_types.specs.Rows.{field_bytes}
@@ -67,9 +76,28 @@ front_shared i (m ∷ ms) = if stands_in_front m.part m && list_any (stands_in_f
 abbrev pub identity_is_alone : Layout → Bool
 identity_is_alone l = length l.identity.bytes == 0 || not (list_any (stands_in_front l.identity.part) l.merged)
 
--- an image of what debuggers read alone is not written
-abbrev pub keeps_all : Layout → Bool
-keeps_all l = not l.options.only_keep_debug
+-- ---- images for debuggers alone
+
+-- a relocatable object has all that the next linker reads
+abbrev pub keeps_tables : Layout → Bool
+keeps_tables l = not (l.options.only_keep_debug && is_partial_link l.kind)
+
+-- such an image has no dynamic section, by which a loader would look for tables that are not there: it stands in no section of notes (gABI,
+-- "Sections": SHT_NOTE)
+abbrev pub dynamic_is_dropped : Layout → Part → Bool
+dynamic_is_dropped l p = not (l.options.only_keep_debug && (has_role role.Dynamic p && kind_at l p.section == sht_note))
+
+-- the headers, and the names of sections
+abbrev pub is_header_role : Role → Bool
+is_header_role role.FileHeader = true
+is_header_role role.ProgramHeaders = true
+is_header_role role.SectionHeaders = true
+is_header_role role.Shstrtab = true
+is_header_role other = false
+
+-- these are written: they stand in no section that is not
+abbrev pub headers_are_kept : Layout → Part → Bool
+headers_are_kept l p = not (is_header_role p.role && is_hollow_at l p.section)
 
 -- the property is of that type
 abbrev pub has_type : ℕ → Property → Bool

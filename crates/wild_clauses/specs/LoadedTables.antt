@@ -14,7 +14,7 @@ use Rattle.wild_types.specs.declared.section.Section.{Section}
 use Rattle.wild_types.specs.declared.section.Segment.{Segment}
 use Rattle.wild_types.specs.Kinds.{needs_dynamic}
 use Rattle.wild_types.specs.Lists.{total}
-use Rattle.wild_types.specs.Lookups.{allocated, is_allocated_section, kind_at}
+use Rattle.wild_types.specs.Lookups.{allocated, is_allocated_section, is_hollow_at, kind_at}
 use Rattle.wild_types.specs.Parts.{has_role, part_with, is_entry_role, bytes_in, is_table_role, is_look_up_role, has_hashes}
 use Rattle.wild_clauses.specs.Places.{within}
 
@@ -52,19 +52,26 @@ rest_of_table parts p = if has_role role.RelaDynRelative p then part_with role.R
 abbrev pub is_asked_whole : Layout → Role → Bool
 is_asked_whole l r = is_table_role r || (is_look_up_role r && has_hashes l)
 
--- the file bytes of the segment have those of the part, at equal distance in file and memory
-abbrev pub carries_part : Part → Segment → Bool
-carries_part p g = g.kind == pt_load && within g.offset g.file_size p.offset p.size && p.offset + g.address == p.address + g.offset
+-- the file bytes of the segment have those of the part, at equal distance in file and memory; where nothing of its section is written, the
+-- segment has its addresses
+abbrev pub holds_part : Layout → Part → Segment → Bool
+holds_part l p g =
+    if is_hollow_at l p.section
+    then within g.address g.mem_size p.address p.size
+    else within g.offset g.file_size p.offset p.size && p.offset + g.address == p.address + g.offset
+
+abbrev pub carries_part : Layout → Part → Segment → Bool
+carries_part l p g = g.kind == pt_load && holds_part l p g
 
 -- and those of the rest of its table, where that has some
-abbrev pub carries_rest : Option Part → Segment → Bool
-carries_rest None g = true
-carries_rest (Some q) g = q.size == 0 || carries_part q g
+abbrev pub carries_rest : Layout → Option Part → Segment → Bool
+carries_rest l None g = true
+carries_rest l (Some q) g = q.size == 0 || carries_part l q g
 
-abbrev pub carries_table : Part → Option Part → Segment → Bool
-carries_table p rest g = carries_part p g && carries_rest rest g
+abbrev pub carries_table : Layout → Part → Option Part → Segment → Bool
+carries_table l p rest g = carries_part l p g && carries_rest l rest g
 
 -- one segment carries the whole table to its addresses
 abbrev pub table_is_loaded : Layout → Part → Bool
 table_is_loaded l p =
-    not (needs_dynamic l.kind) || not (is_asked_whole l p.role) || p.size == 0 || list_any (carries_table p (rest_of_table l.parts p)) l.segments
+    not (needs_dynamic l.kind) || not (is_asked_whole l p.role) || p.size == 0 || list_any (carries_table l p (rest_of_table l.parts p)) l.segments

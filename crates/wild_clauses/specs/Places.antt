@@ -1,5 +1,5 @@
 -- The clauses on sizes, counts, and where parts and sections stand.
---   stands_loaded l p   a part that a loader or a program reads stands in a section with bytes in memory and file
+--   stands_loaded l p   a part that a loader or a program reads stands in an allocated section with data
 use Rattle.std.specs.Prelude.{ℕ, ◌+◌, ◌%◌, ◌^◌, ◌==◌, Bool, true, not, ◌&&◌, ◌||◌, if◌then◌else◌, nat_le, List, [], ◌∷◌, ◌++◌, drop, length, Option, Some, None, slice_get}
 use Rattle.std.specs.Int.{is_power_of_two}
 use Rattle.std.specs.List.{list_any, list_all}
@@ -16,7 +16,7 @@ use Rattle.wild_types.specs.declared.file.Group.{Group}
 use Rattle.wild_types.specs.declared.layout.Layout.{Layout}
 use Rattle.wild_types.specs.Lists.{first_failing, total}
 use Rattle.wild_types.specs.Kinds.{is_partial_link, is_fixed_static}
-use Rattle.wild_types.specs.Lookups.{allocated, is_allocated_section, is_without_data, takes_file_bytes}
+use Rattle.wild_types.specs.Lookups.{allocated, is_allocated_section, fills_file, has_data, takes_file_bytes}
 use Rattle.wild_types.specs.Parts.{role_place, has_role, is_loaded_role}
 
 -- ---- clause 1: sizes and alignments
@@ -137,26 +137,26 @@ within a n b m = nat_le a b && nat_le (b + m) (a + n)
 abbrev pub is_level : Section → Part → Bool
 is_level s p = nat_le s.address p.address && p.address + s.offset == p.offset + s.address
 
--- the part lies in the section: by its addresses in one without data, else by its file bytes, and where the section
--- is allocated at equal distance in both
-abbrev pub lies_in : Section → Part → Bool
-lies_in s p =
-    if is_without_data s
-    then within s.address s.size p.address p.size
-    else within s.offset s.size p.offset p.size && (not (allocated s.flags) || is_level s p)
+-- the part lies in the section: by its file bytes, and where the section is allocated at equal distance in file and memory; in a section
+-- without file bytes by its addresses
+abbrev pub lies_in : Layout → Section → Part → Bool
+lies_in l s p =
+    if fills_file l s
+    then within s.offset s.size p.offset p.size && (not (allocated s.flags) || is_level s p)
+    else within s.address s.size p.address p.size
 
-abbrev pub lies_by : Option Section → Part → Bool
-lies_by None p = true
-lies_by (Some s) p = lies_in s p
+abbrev pub lies_by : Layout → Option Section → Part → Bool
+lies_by l None p = true
+lies_by l (Some s) p = lies_in l s p
 
 abbrev pub part_lies : Layout → Part → Bool
-part_lies l p = p.section == 0 || lies_by (slice_get l.sections p.section) p
+part_lies l p = p.section == 0 || lies_by l (slice_get l.sections p.section) p
 
 -- such a part stands in an allocated section with data, except in relocatable objects
 abbrev pub stands_loaded : Layout → Part → Bool
 stands_loaded l p =
-    is_partial_link l.kind || not (is_loaded_role p.role) || (is_allocated_section l p.section && takes_file_bytes l p.section)
+    is_partial_link l.kind || not (is_loaded_role p.role) || (is_allocated_section l p.section && has_data l p.section)
 
--- a part other than a raw one takes file bytes
+-- a part other than a raw one stands in a section with data, or in none
 abbrev pub takes_room : Layout → Part → Bool
-takes_room l p = has_role role.Raw p || takes_file_bytes l p.section
+takes_room l p = has_role role.Raw p || has_data l p.section

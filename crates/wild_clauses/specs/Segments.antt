@@ -1,8 +1,8 @@
 -- Clause 6: where segments stand, and which bytes of a section they load (gABI, "Program Header").
---   has_byte side s a g           the segment loads the byte of the section with address a
---   bytes_are_loaded side gs s    each byte of the section that is to lie in a segment lies in one
---   is_segment_of p g             the segment has the place and the size of the part
---   dynamic_astray p i gs         the first PT_DYNAMIC segment that is not that of the part
+--   has_byte side l s a g         the segment loads the byte of the section with address a
+--   bytes_are_loaded side l gs s  each byte of the section that is to lie in a segment lies in one
+--   is_segment_of l p g           the segment has the place and the size of the part
+--   dynamic_astray l p i gs       the first PT_DYNAMIC segment that is not that of the part
 use Rattle.std.specs.Prelude.{ℕ, zero, suc, ◌+◌, ◌%◌, ◌==◌, Bool, true, false, not, ◌&&◌, ◌||◌, if◌then◌else◌, nat_lt, nat_le, List, [], ◌∷◌, Option, Some, None}
 use Rattle.std.specs.List.{list_any}
 use Rattle.wild_records.specs.Abi.Segment.{pt_load, pt_dynamic}
@@ -10,10 +10,11 @@ use Rattle.wild_types.specs.declared.kind.OutputKind.{OutputKind}
 use Rattle.wild_types.specs.declared.part.Part.{Part}
 use Rattle.wild_types.specs.declared.section.Section.{Section}
 use Rattle.wild_types.specs.declared.section.Segment.{Segment}
+use Rattle.wild_types.specs.declared.layout.Layout.{Layout}
 use Rattle.wild_clauses.specs.declared.loaded.Side.{Side}
 use Rattle.wild_clauses.specs.declared.loaded.Side.TheVariants as side
 use Rattle.wild_types.specs.Kinds.{has_fixed_load_address}
-use Rattle.wild_types.specs.Lookups.{allocated, thread_local, is_without_data}
+use Rattle.wild_types.specs.Lookups.{allocated, thread_local, is_without_data, fills_file, is_hollow_at}
 
 -- ---- the order
 
@@ -45,21 +46,21 @@ abbrev pub at_equal_distance : Section → Segment → Bool
 at_equal_distance s g = s.offset + g.address == s.address + g.offset
 
 -- address a lies in the loaded segment, at equal distance in file and memory where the section has file bytes
-abbrev pub has_byte : Side → Section → ℕ → Segment → Bool
-has_byte on s a g = g.kind == pt_load && (nat_le g.address a && nat_lt a (g.address + size_on on g)) && (is_without_data s || at_equal_distance s g)
+abbrev pub has_byte : Side → Layout → Section → ℕ → Segment → Bool
+has_byte on l s a g = g.kind == pt_load && (nat_le g.address a && nat_lt a (g.address + size_on on g)) && (not (fills_file l s) || at_equal_distance s g)
 
 -- an allocated section, other than thread-local ones without data
 abbrev pub is_to_load : Section → Bool
 is_to_load s = allocated s.flags && not (thread_local s.flags && is_without_data s)
 
--- an allocated section with data
-abbrev pub has_file_bytes : Section → Bool
-has_file_bytes s = allocated s.flags && not (is_without_data s)
+-- an allocated section with bytes in the file
+abbrev pub has_file_bytes : Layout → Section → Bool
+has_file_bytes l s = allocated s.flags && fills_file l s
 
 -- the section's bytes are to lie in memory, or among the file bytes of segments
-abbrev pub is_asked : Side → Section → Bool
-is_asked side.Memory s = is_to_load s
-is_asked side.File s = has_file_bytes s
+abbrev pub is_asked : Side → Layout → Section → Bool
+is_asked side.Memory l s = is_to_load s
+is_asked side.File l s = has_file_bytes l s
 
 -- every number below n passes
 abbrev pub all_below : (ℕ → Bool) → ℕ → Bool
@@ -67,8 +68,8 @@ all_below test zero = true
 all_below test (suc n) = test n && all_below test n
 
 -- each byte of the section that is to lie in a segment lies in one
-abbrev pub bytes_are_loaded : Side → List Segment → Section → Bool
-bytes_are_loaded on segments s = not (is_asked on s) || all_below (λ k. list_any (has_byte on s (s.address + k)) segments) s.size
+abbrev pub bytes_are_loaded : Side → Layout → List Segment → Section → Bool
+bytes_are_loaded on l segments s = not (is_asked on l s) || all_below (λ k. list_any (has_byte on l s (s.address + k)) segments) s.size
 
 -- ---- other tests
 
@@ -81,10 +82,14 @@ segment_in_image size g = nat_le (g.offset + g.file_size) size
 
 -- ---- the dynamic section (gABI, "Program Header": PT_DYNAMIC)
 
+-- how many bytes of the file the part's segment has: none where nothing of its section is written
+abbrev pub size_in_file : Layout → Part → ℕ
+size_in_file l p = if is_hollow_at l p.section then 0 else p.size
+
 -- the segment has the place and the size of the part
-abbrev pub is_segment_of : Option Part → Segment → Bool
-is_segment_of None g = false
-is_segment_of (Some p) g = g.offset == p.offset && g.address == p.address && g.file_size == p.size && g.mem_size == p.size
+abbrev pub is_segment_of : Layout → Option Part → Segment → Bool
+is_segment_of l None g = false
+is_segment_of l (Some p) g = g.offset == p.offset && g.address == p.address && g.file_size == size_in_file l p && g.mem_size == p.size
 
 -- place 0, where a part is left that has no segment
 abbrev pub segment_lacking : Option Part → Option ℕ
@@ -92,9 +97,9 @@ segment_lacking None = None
 segment_lacking (Some p) = Some 0
 
 -- the first PT_DYNAMIC segment that is not that of the part; only one is
-abbrev pub dynamic_astray : Option Part → ℕ → List Segment → Option ℕ
-dynamic_astray p i [] = segment_lacking p
-dynamic_astray p i (g ∷ gs) =
+abbrev pub dynamic_astray : Layout → Option Part → ℕ → List Segment → Option ℕ
+dynamic_astray l p i [] = segment_lacking p
+dynamic_astray l p i (g ∷ gs) =
     if g.kind == pt_dynamic
-    then (if is_segment_of p g then dynamic_astray None (i + 1) gs else Some i)
-    else dynamic_astray p (i + 1) gs
+    then (if is_segment_of l p g then dynamic_astray l None (i + 1) gs else Some i)
+    else dynamic_astray l p (i + 1) gs

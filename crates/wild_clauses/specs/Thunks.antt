@@ -18,7 +18,7 @@ use Rattle.wild_types.specs.declared.layout.Thunk.{Thunk}
 use Rattle.wild_types.specs.declared.layout.Layout.{Layout}
 use Rattle.wild_types.specs.FilePlaces.{given}
 use Rattle.wild_types.specs.FileThunks.{thunk_size, thunks_of}
-use Rattle.wild_types.specs.Lookups.{is_filled}
+use Rattle.wild_types.specs.Lookups.{is_given}
 use Rattle.wild_laid.specs.Laid.{Input, sorted_inputs, of_last_file}
 use Rattle.wild_clauses.specs.SlotPlaces.{and_then, walk}
 
@@ -62,7 +62,7 @@ block_step block end at ts = if is_used ts then behind_thunks block end (next_co
 -- the place behind an input section of the primary part; the group where that begins before the free place
 abbrev pub section_step : Layout → ℕ → ℕ → InputSection → Result ℕ ℕ
 section_step l group at s =
-    if is_filled l s && s.part == l.primary_part
+    if is_given l s && s.part == l.primary_part
     then (if nat_le at s.address then Ok (s.address + s.size) else Err group)
     else Ok at
 

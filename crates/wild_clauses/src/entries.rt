@@ -2,9 +2,9 @@
 ghost use Rattle.std.specs.Prelude.{◌≡◌};
 ghost use Rattle.std.specs.List.{list_any};
 ghost use Rattle.wild_types.specs.Lists.{first_failing, total};
-ghost use Rattle.wild_clauses.specs.Segments.{is_segment_of, dynamic_astray};
+ghost use Rattle.wild_clauses.specs.Segments.{size_in_file, is_segment_of, dynamic_astray};
 ghost use Rattle.wild_types.specs.Parts.{part_with, entry_parts, bytes_in, is_hash_role, has_hashes};
-ghost use Rattle.wild_clauses.specs.LoadedTables.{holds_entries, entries_astray, stands_in_entries, is_asked_whole, carries_part, carries_table, rest_of_table, table_is_loaded};
+ghost use Rattle.wild_clauses.specs.LoadedTables.{holds_entries, entries_astray, stands_in_entries, is_asked_whole, holds_part, carries_part, carries_table, rest_of_table, table_is_loaded};
 ghost use Rattle.wild_clauses.specs.ClauseTests.{check_entries};
 
 use crate::roles::is_fixed_static;
@@ -17,15 +17,26 @@ use wild_types::{
     has_role, is_allocated, part_with, wide_sum,
 };
 
+/// How many bytes of the file the part's segment has: none where nothing of its section is written.
+fn size_in_file(layout: &Layout, part: &Part) -> u64
+    ensures { result ≡ size_in_file layout.now part.now }
+{
+    if layout.is_hollow_at(part.section) {
+        0
+    } else {
+        part.size
+    }
+}
+
 /// Whether the segment has the place and the size of the part.
-fn is_segment_of(part: Option<Part>, segment: &Segment) -> bool
-    ensures { result ≡ is_segment_of part segment.now }
+fn is_segment_of(layout: &Layout, part: Option<Part>, segment: &Segment) -> bool
+    ensures { result ≡ is_segment_of layout.now part segment.now }
 {
     match part {
         Some(part) => {
             segment.offset == part.offset
                 && segment.address == part.address
-                && segment.file_size == part.size
+                && segment.file_size == size_in_file(layout, &part)
                 && segment.mem_size == part.size
         }
         None => false,
@@ -34,12 +45,12 @@ fn is_segment_of(part: Option<Part>, segment: &Segment) -> bool
 
 /// The place of the first `PT_DYNAMIC` segment that is not that of the dynamic section; only one is.
 pub(crate) fn dynamic_astray(layout: &Layout, segments: &[Segment]) -> Option<usize>
-    ensures { result ≡ dynamic_astray (part_with Role.Dynamic layout.now.parts) 0 segments.now }
+    ensures { result ≡ dynamic_astray layout.now (part_with Role.Dynamic layout.now.parts) 0 segments.now }
 {
     let mut part = part_with(Role::Dynamic, layout.parts.as_slice());
     for (i, segment) in segments.iter().enumerate() {
         if segment.kind == PT_DYNAMIC {
-            if !is_segment_of(part, segment) {
+            if !is_segment_of(layout, part, segment) {
                 return Some(i);
             }
             part = None;
@@ -160,32 +171,42 @@ fn is_asked_whole(layout: &Layout, hashes: bool, role: Role) -> bool
     has_entries || is_looked_up && hashes
 }
 
-/// Whether the file bytes of the segment have those of the part, at equal distance in file and memory.
-fn carries_part(part: &Part, segment: &Segment) -> bool
-    ensures { result ≡ carries_part part.now segment.now }
+/// Whether the segment has the bytes of the part, at equal distance in file and memory; where nothing of the part's section is
+/// written, whether it has its addresses.
+fn holds_part(layout: &Layout, part: &Part, segment: &Segment) -> bool
+    ensures { result ≡ holds_part layout.now part.now segment.now }
 {
-    segment.kind == PT_LOAD
-        && within(segment.offset, segment.file_size, part.offset, part.size)
+    if layout.is_hollow_at(part.section) {
+        return within(segment.address, segment.mem_size, part.address, part.size);
+    }
+    within(segment.offset, segment.file_size, part.offset, part.size)
         && wide_sum(part.offset, segment.address) == wide_sum(part.address, segment.offset)
 }
 
-/// Whether it has those of the part, and of the rest of its table.
-fn carries_table(part: &Part, rest: &Option<Part>, segment: &Segment) -> bool
-    ensures { result ≡ carries_table part.now rest.now segment.now }
+/// Whether the segment is loaded and has those.
+fn carries_part(layout: &Layout, part: &Part, segment: &Segment) -> bool
+    ensures { result ≡ carries_part layout.now part.now segment.now }
 {
-    carries_part(part, segment)
+    segment.kind == PT_LOAD && holds_part(layout, part, segment)
+}
+
+/// Whether it has those of the part, and of the rest of its table.
+fn carries_table(layout: &Layout, part: &Part, rest: &Option<Part>, segment: &Segment) -> bool
+    ensures { result ≡ carries_table layout.now part.now rest.now segment.now }
+{
+    carries_part(layout, part, segment)
         && match rest {
-            Some(rest) => rest.size == 0 || carries_part(rest, segment),
+            Some(rest) => rest.size == 0 || carries_part(layout, rest, segment),
             None => true,
         }
 }
 
 /// Whether one of the segments carries the table.
-fn is_carried(segments: &[Segment], part: &Part, rest: &Option<Part>) -> bool
-    ensures { result ≡ list_any (carries_table part.now rest.now) segments.now }
+fn is_carried(layout: &Layout, part: &Part, rest: &Option<Part>) -> bool
+    ensures { result ≡ list_any (carries_table layout.now part.now rest.now) layout.now.segments }
 {
-    for segment in segments {
-        if carries_table(part, rest, segment) {
+    for segment in layout.segments.as_slice() {
+        if carries_table(layout, part, rest, segment) {
             return true;
         }
     }
@@ -211,11 +232,7 @@ fn table_is_loaded(layout: &Layout, hashes: bool, part: &Part) -> bool
     !layout.kind.needs_dynamic()
         || !is_asked_whole(layout, hashes, part.role)
         || part.size == 0
-        || is_carried(
-            layout.segments.as_slice(),
-            part,
-            &rest_of_table(layout.parts.as_slice(), part),
-        )
+        || is_carried(layout, part, &rest_of_table(layout.parts.as_slice(), part))
 }
 
 pub(crate) fn table_not_loaded(layout: &Layout, parts: &[Part]) -> Option<usize>

@@ -40,7 +40,7 @@ impl Test<InputSection> for LeavesFront<'_> {
     ghost test = { λ t. leaves_front t.layout.now };
 
     fn passes(&self, section: &InputSection) -> bool {
-        let takes_bytes = section.bytes.len() != 0 || section.owns_bytes(self.layout);
+        let takes_bytes = section.bytes.len() != 0 || section.brings_bytes(self.layout);
         !takes_bytes || !has_front(self.layout, section.part)
     }
 }

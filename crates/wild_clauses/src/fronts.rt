@@ -1,14 +1,15 @@
-//! Clauses 20 and 22: reversed sections, what stands at the front of its part in the first group, properties.
+//! Clauses 20 and 22: reversed sections, what stands at the front of its part in the first group, properties, images for debuggers alone.
 ghost use Rattle.std.specs.Prelude.{◌≡◌, ◌==◌, not, ◌&&◌, [], drop, slice_get};
 ghost use Rattle.std.specs.List.{list_any};
-ghost use Rattle.wild_clauses.specs.Fronts.{is_whole_word, reversed_fits, given_by, fills_front, merged_size, merged_fits, identity_fills, stands_in_front, front_shared, identity_is_alone, has_type, properties_differ, keeps_all};
+ghost use Rattle.wild_clauses.specs.Fronts.{is_whole_word, reversed_fits, given_by, fills_front, merged_size, merged_fits, identity_fills, stands_in_front, front_shared, identity_is_alone, has_type, properties_differ, keeps_tables, dynamic_is_dropped, is_header_role, headers_are_kept};
 ghost use Rattle.wild_clauses.specs.ClauseTests.{check_reversed, check_fronts};
 
 use crate::each_section::failing_group;
 use crate::verdict::{fails, unless};
+use wild_records::abi::section::SHT_NOTE;
 use wild_types::{
-    Clause, InputRelocation, InputSection, Layout, Machine, Merged, Property, Test, all_pass,
-    field_bytes, first_failing,
+    Clause, InputRelocation, InputSection, Layout, Machine, Merged, Part, Property, Role, Test,
+    all_pass, field_bytes, first_failing, has_role,
 };
 
 /// The bytes of a word of a reversed section.
@@ -154,11 +155,52 @@ fn property_again(properties: &[Property]) -> Option<usize>
     None
 }
 
-/// Whether the output is no image of what debuggers read alone.
-fn keeps_all(layout: &Layout) -> bool
-    ensures { result ≡ keeps_all layout.now }
+/// Whether the output is no relocatable object of which debuggers alone would read something.
+fn keeps_tables(layout: &Layout) -> bool
+    ensures { result ≡ keeps_tables layout.now }
 {
-    !layout.options.only_keep_debug
+    !(layout.options.only_keep_debug && layout.kind.is_partial_link())
+}
+
+/// In an image for debuggers alone the dynamic section stands in no section of notes, which are written.
+#[derive(Clone, Copy)]
+struct DynamicIsDropped<'a> {
+    layout: &'a Layout,
+}
+
+impl Test<Part> for DynamicIsDropped<'_> {
+    ghost test = { λ t. dynamic_is_dropped t.layout.now };
+
+    fn passes(&self, part: &Part) -> bool {
+        let layout = self.layout;
+        !(layout.options.only_keep_debug
+            && has_role(Role::Dynamic, part)
+            && layout.kind_at(part.section) == SHT_NOTE)
+    }
+}
+
+/// Whether a part of the role has headers, or the names of sections.
+fn is_header_role(role: Role) -> bool
+    ensures { result ≡ is_header_role role }
+{
+    matches!(
+        role,
+        Role::FileHeader | Role::ProgramHeaders | Role::SectionHeaders | Role::Shstrtab
+    )
+}
+
+/// Headers and the names of sections stand in no section of which nothing is written.
+#[derive(Clone, Copy)]
+struct HeadersAreKept<'a> {
+    layout: &'a Layout,
+}
+
+impl Test<Part> for HeadersAreKept<'_> {
+    ghost test = { λ t. headers_are_kept t.layout.now };
+
+    fn passes(&self, part: &Part) -> bool {
+        !(is_header_role(part.role) && self.layout.is_hollow_at(part.section))
+    }
 }
 
 #[tactic(auto, unfolding(crate::specs::ClauseTests::check_fronts))]
@@ -166,10 +208,13 @@ pub(crate) fn check_fronts(layout: &Layout) -> Result<(), Clause>
     ensures { result ≡ check_fronts layout.now }
 {
     let merged = layout.merged.as_slice();
+    let parts = layout.parts.as_slice();
     fails(22, first_failing(&MergedFits { layout }, merged))?;
     fails(22, unless(identity_fills(layout)))?;
     fails(22, property_again(layout.properties.as_slice()))?;
-    fails(22, unless(keeps_all(layout)))?;
+    fails(22, unless(keeps_tables(layout)))?;
+    fails(22, first_failing(&DynamicIsDropped { layout }, parts))?;
     fails(22, front_shared(merged))?;
-    fails(22, unless(identity_is_alone(layout)))
+    fails(22, unless(identity_is_alone(layout)))?;
+    fails(22, first_failing(&HeadersAreKept { layout }, parts))
 }

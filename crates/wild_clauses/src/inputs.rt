@@ -90,9 +90,7 @@ fn holds_bytes(layout: &Layout, none: bool, part: usize) -> bool
     ensures { result ≡ holds_bytes layout.now none (slice_get layout.now.parts part) }
 {
     match layout.parts.as_slice().get(part) {
-        Some(part) => {
-            matches!(part.role, Role::Raw) && (none || layout.takes_file_bytes(part.section))
-        }
+        Some(part) => { matches!(part.role, Role::Raw) && (none || layout.has_data(part.section)) }
         None => false,
     }
 }
@@ -141,7 +139,7 @@ fn holds_thunks(layout: &Layout, part: usize) -> bool
     match layout.parts.as_slice().get(part) {
         Some(part) => {
             matches!(part.role, Role::Raw)
-                && layout.takes_file_bytes(part.section)
+                && layout.has_data(part.section)
                 && layout.is_allocated_section(part.section)
         }
         None => false,
@@ -196,7 +194,7 @@ impl Test<InputSection> for BytesTakeRoom<'_> {
 
     fn passes(&self, section: &InputSection) -> bool {
         let layout = self.layout;
-        !has_some(section) || layout.takes_file_bytes(layout.section_of(section.part))
+        !has_some(section) || layout.has_data(layout.section_of(section.part))
     }
 }
 

@@ -5,7 +5,7 @@ ghost use Rattle.wild_types.specs.Lists.{first_failing};
 ghost use Rattle.wild_clauses.specs.Segments.{segment_out_of_order, size_on, has_byte, is_asked, bytes_are_loaded};
 
 use wild_records::abi::segment::PT_LOAD;
-use wild_types::{Section, Segment, is_allocated, is_thread_local, wide_sum};
+use wild_types::{Layout, Section, Segment, is_allocated, is_thread_local, wide_sum};
 
 /// Where the bytes of a section are to lie: in the memory of segments, or among their file bytes.
 #[derive(Clone, Copy)]
@@ -25,28 +25,34 @@ impl Side {
     }
 
     /// Whether the section's bytes are to lie there.
-    fn is_asked(self, section: &Section) -> bool
-        ensures { result ≡ is_asked self section.now }
+    fn is_asked(self, layout: &Layout, section: &Section) -> bool
+        ensures { result ≡ is_asked self layout.now section.now }
     {
         match self {
             Side::Memory => {
                 is_allocated(section.flags)
                     && !(is_thread_local(section.flags) && section.is_without_data())
             }
-            Side::File => is_allocated(section.flags) && !section.is_without_data(),
+            Side::File => is_allocated(section.flags) && layout.fills_file(section),
         }
     }
 }
 
 /// Whether the segment loads the byte of the section with that address: its file bytes are as far from the segment's as its
 /// addresses are.
-fn has_byte(side: Side, section: &Section, address: u128, segment: &Segment) -> bool
-    ensures { result ≡ has_byte side section.now address segment.now }
+fn has_byte(
+    side: Side,
+    layout: &Layout,
+    section: &Section,
+    address: u128,
+    segment: &Segment,
+) -> bool
+    ensures { result ≡ has_byte side layout.now section.now address segment.now }
 {
     segment.kind == PT_LOAD
         && u128::from(segment.address) <= address
         && address < wide_sum(segment.address, side.size(segment))
-        && (section.is_without_data()
+        && (!layout.fills_file(section)
             || wide_sum(section.offset, segment.address)
                 == wide_sum(section.address, segment.offset))
 }
@@ -60,8 +66,8 @@ fn is_passed(address: u128, segment: &Segment) -> bool
 
 /// Whether the segments have all bytes of the section, one segment behind the other.
 #[tactic(auto, using(crate::proofs::CoverLemmas::covers_done))]
-fn covers(side: Side, section: &Section, segments: &[Segment]) -> bool
-    ensures { result ≡ covers side section.now section.now.address segments.now }
+fn covers(side: Side, layout: &Layout, section: &Section, segments: &[Segment]) -> bool
+    ensures { result ≡ covers side layout.now section.now section.now.address segments.now }
 {
     let end = wide_sum(section.address, section.size);
     let mut reached = u128::from(section.address);
@@ -70,7 +76,7 @@ fn covers(side: Side, section: &Section, segments: &[Segment]) -> bool
             return true;
         }
         if !is_passed(reached, segment) {
-            if !has_byte(side, section, reached, segment) {
+            if !has_byte(side, layout, section, reached, segment) {
                 return false;
             }
             reached = wide_sum(segment.address, side.size(segment));
@@ -111,20 +117,21 @@ fn go_on(segments: &[Segment], next: usize, low: u64, address: u64) -> usize
 /// behind section 0. A section that begins before the one ahead of it starts anew at the first segment.
 pub(crate) fn not_loaded(
     side: Side,
+    layout: &Layout,
     segments: &[Segment],
     later: &[Section],
     page: u64,
 ) -> Option<usize>
     requires { segment_out_of_order page 0 0 segments.now ≡ None }
-    ensures { result ≡ first_failing (bytes_are_loaded side segments.now) 1 later.now }
+    ensures { result ≡ first_failing (bytes_are_loaded side layout.now segments.now) 1 later.now }
 {
     let mut next = 0;
     let mut low = 0;
     for (i, section) in later.iter().enumerate() {
-        if side.is_asked(section) {
+        if side.is_asked(layout, section) {
             next = go_on(segments, next, low, section.address);
             low = section.address;
-            if !covers(side, section, &segments[next..]) {
+            if !covers(side, layout, section, &segments[next..]) {
                 return Some(i + 1);
             }
         }

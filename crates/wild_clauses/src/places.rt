@@ -43,7 +43,7 @@ fn pass_bytes(part: usize, ends: &[u128], cursors: &mut [u128], section: &InputS
     true
 }
 
-/// The same of a section of a file, which stands there only where it owns bytes.
+/// The same of a section of a file, which stands there only where it has bytes.
 #[tactic(auto, using(crate::proofs::BlockLemmas::filled, crate::proofs::BlockLemmas::unfilled))]
 fn pass_section(
     layout: &Layout,
@@ -55,7 +55,7 @@ fn pass_section(
     requires { length ends.now ≡ length cursors.old }
     ensures { all_placed layout.now part ends.now cursors.old section.now ≡ (if result then Some cursors.new else None) }
 {
-    !section.is_filled(layout) || pass_bytes(part, ends, cursors, section)
+    !section.is_given(layout) || pass_bytes(part, ends, cursors, section)
 }
 
 /// The same of a section in a given order.

@@ -26,11 +26,12 @@ pub(crate) fn within(start: u64, size: u64, inner: u64, inner_size: u64) -> bool
     start <= inner && wide_sum(inner, inner_size) <= wide_sum(start, size)
 }
 
-/// Whether the part lies in the section, in an allocated one at equal distance in file and memory.
-fn lies_in(section: &Section, part: &Part) -> bool
-    ensures { result ≡ lies_in section.now part.now }
+/// Whether the part lies in the section, in an allocated one at equal distance in file and memory; in one without file bytes by its
+/// addresses.
+fn lies_in(layout: &Layout, section: &Section, part: &Part) -> bool
+    ensures { result ≡ lies_in layout.now section.now part.now }
 {
-    if section.is_without_data() {
+    if !layout.fills_file(section) {
         return within(section.address, section.size, part.address, part.size);
     }
     within(section.offset, section.size, part.offset, part.size)
@@ -50,7 +51,7 @@ impl Test<Part> for PartLies<'_> {
 
     fn passes(&self, part: &Part) -> bool {
         match self.layout.sections.as_slice().get(part.section.0) {
-            Some(section) if part.section.0 != 0 => lies_in(section, part),
+            Some(section) if part.section.0 != 0 => lies_in(self.layout, section, part),
             _ => true,
         }
     }
@@ -71,11 +72,11 @@ impl Test<Part> for StandsLoaded<'_> {
         let is_read = place_of(Role::Got) <= place && place <= place_of(Role::Dynamic);
         layout.kind.is_partial_link()
             || !is_read
-            || layout.is_allocated_section(part.section) && layout.takes_file_bytes(part.section)
+            || layout.is_allocated_section(part.section) && layout.has_data(part.section)
     }
 }
 
-/// A part is raw, or takes file bytes.
+/// A part is raw, or stands in no section without data.
 #[derive(Clone, Copy)]
 struct TakesRoom<'a> {
     layout: &'a Layout,
@@ -85,7 +86,7 @@ impl Test<Part> for TakesRoom<'_> {
     ghost test = { λ t. takes_room t.layout.now };
 
     fn passes(&self, part: &Part) -> bool {
-        has_role(Role::Raw, part) || self.layout.takes_file_bytes(part.section)
+        has_role(Role::Raw, part) || self.layout.has_data(part.section)
     }
 }
 

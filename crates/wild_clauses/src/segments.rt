@@ -88,9 +88,9 @@ pub(crate) fn check_segments(layout: &Layout) -> Result<(), Clause>
     let kind = layout.kind;
     let size = layout.image_end();
     fails(6, segment_out_of_order(page, segments))?;
-    fails(6, not_loaded(Side::Memory, segments, later, page))?;
+    fails(6, not_loaded(Side::Memory, layout, segments, later, page))?;
     fails(6, first_failing(&LeavesZeroFree { kind }, segments))?;
-    fails(6, not_loaded(Side::File, segments, later, page))?;
+    fails(6, not_loaded(Side::File, layout, segments, later, page))?;
     fails(6, first_failing(&SegmentInImage { size }, segments))?;
     fails(6, dynamic_astray(layout, segments))?;
     check_entries(layout)?;

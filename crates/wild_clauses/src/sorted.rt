@@ -97,7 +97,7 @@ pub(crate) fn has_ordered_bytes(layout: &Layout, section: &InputSection) -> bool
     ensures { result ≡ has_bytes layout.now (as_ordered layout.now section.now) }
 {
     if section.nobits {
-        section.size != 0 && layout.takes_file_bytes(layout.section_of(section.part))
+        section.size != 0 && layout.has_data(layout.section_of(section.part))
     } else {
         section.bytes.len() != 0
     }

@@ -114,7 +114,7 @@ fn step_bytes(primary: usize, group: usize, at: u128, section: &InputSection) ->
     Ok(wide_sum(section.address, section.size))
 }
 
-/// The same of a section of a file, which stands there only where it owns bytes.
+/// The same of a section of a file, which stands there only where it has bytes.
 #[tactic(auto, using(crate::proofs::OrderedLemmas::filled_step, crate::proofs::OrderedLemmas::unfilled_step))]
 fn section_step(
     layout: &Layout,
@@ -126,7 +126,7 @@ fn section_step(
     ensures is { result ≡ section_step layout.now group at section.now }
     ensures small { IfOk result (λ n. n ≤ 2 ^ 65) }
 {
-    if !section.is_filled(layout) {
+    if !section.is_given(layout) {
         return Ok(at);
     }
     step_bytes(layout.primary_part, group, at, section)

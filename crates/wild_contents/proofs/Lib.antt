@@ -13,3 +13,4 @@ pub mod LaidLemmas
 pub mod FileLemmas
 pub mod NoteLemmas
 pub mod SearchTableLemmas
+pub mod ThunkLemmas

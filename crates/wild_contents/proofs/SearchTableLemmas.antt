@@ -1,13 +1,15 @@
 -- Laws of the search table.
-use Rattle.std.proofs.Common.{◌≡◌, ℕ, ◌+◌, ◌<◌, ◌≤◌, Bool, true, false, if◌then◌else◌, List, [], ◌∷◌, ◌++◌, map, length, take, drop, get_or, refl, sym, ap, ◌∙◌}
+use Rattle.std.proofs.Common.{◌≡◌, ℕ, ◌+◌, ◌<◌, ◌≤◌, Bool, true, false, not, ◌&&◌, if◌then◌else◌, List, [], ◌∷◌, ◌++◌, map, length, take, drop, get_or, refl, sym, ap, ◌∙◌}
 use Rattle.std.specs.Prelude.{Option, Some, None}
 use Rattle.std.specs.List.{flat_map}
+use Rattle.std.proofs.lemmas.Bool.{and_parts}
 use Rattle.std.proofs.lemmas.List.{append-nil, append_assoc, drop_more, drop_all}
 use Rattle.wild_types.specs.declared.fault.Fault.{Fault}
 use Rattle.wild_types.specs.declared.fault.Fault.TheVariants as faults
 use Rattle.wild_types.specs.declared.part.Role.TheVariants as role
 use Rattle.wild_types.specs.declared.input.InputSection.{InputSection}
 use Rattle.wild_types.specs.Lookups.{is_frame}
+use Rattle.wild_types.specs.Hollow.{is_hollow_role}
 use Rattle.wild_types.specs.declared.file.File.{File}
 use Rattle.wild_types.specs.declared.layout.Layout.{Layout}
 use Rattle.wild_frames.specs.declared.entry.Found.{Found}
@@ -93,22 +95,39 @@ frames_none l f at s now other = rw other (sym (append-nil now))
 none_first : (f : Option Fault) (fs : List Fault) → f ≡ None → fs ≡ [] → FaultIsFirst f fs
 none_first f fs e h = rw e h
 
--- it was not asked for
-pub table_none : (l : Layout) (t : SearchTable) → l.options.eh_frame_hdr ≡ false → t.fault ≡ None → t.bytes ≡ [] → IsSearchTable l t
-unfolding search_table search_table_faults
-table_none l t asked fault bytes = record { fault = none_first t.fault (search_table_faults l) fault (rw asked refl); bytes = λ h. rw asked bytes }
+not_asked : (asked hollow : Bool) → (asked && not hollow) ≡ false → hollow ≡ false → asked ≡ false
+not_asked true true h e = cc
+not_asked true false h e = cc
+not_asked false hollow h e = refl
+
+nothing_asked : (l : Layout) → l.options.eh_frame_hdr ≡ false → search_table l ≡ []
+unfolding search_table
+nothing_asked l asked = rw asked refl
+
+-- it was not asked for, or nothing of it is written
+pub table_none : (l : Layout) (t : SearchTable) → (l.options.eh_frame_hdr && not (is_hollow_role l role.EhFrameHdr)) ≡ false → t.fault ≡ None → t.bytes ≡ [] → IsSearchTable l t
+unfolding search_table_faults
+table_none l t asked fault bytes = record {
+  fault = none_first t.fault (search_table_faults l) fault (ap (λ (b : Bool). if b then map fault_of (table_errors (address_of_role l role.EhFrameHdr) (address_of_role l role.EhFrame) (layout_fdes l)) else []) asked);
+  bytes = λ written h. bytes ∙ sym (nothing_asked l (not_asked l.options.eh_frame_hdr (is_hollow_role l role.EhFrameHdr) asked written));
+}
 
 -- what a choice takes
 chosen : {X : Type 0} (b : Bool) (x y : X) → b ≡ true → (if b then x else y) ≡ x
 chosen b x y h = rw h refl
 
-faults_asked : (l : Layout) → l.options.eh_frame_hdr ≡ true → search_table_faults l ≡ map fault_of (table_errors (address_of_role l role.EhFrameHdr) (address_of_role l role.EhFrame) (layout_fdes l))
-unfolding search_table_faults
-faults_asked l asked = chosen l.options.eh_frame_hdr (map fault_of (table_errors (address_of_role l role.EhFrameHdr) (address_of_role l role.EhFrame) (layout_fdes l))) [] asked
+-- it is asked for, and written
+abbrev IsAsked : Layout → Type 0
+IsAsked l = (l.options.eh_frame_hdr && not (is_hollow_role l role.EhFrameHdr)) ≡ true
 
-table_asked : (l : Layout) → l.options.eh_frame_hdr ≡ true → search_table l ≡ table_of (address_of_role l role.EhFrameHdr) (address_of_role l role.EhFrame) (layout_fdes l)
+faults_asked : (l : Layout) → IsAsked l → search_table_faults l ≡ map fault_of (table_errors (address_of_role l role.EhFrameHdr) (address_of_role l role.EhFrame) (layout_fdes l))
+unfolding search_table_faults
+faults_asked l asked =
+    chosen (l.options.eh_frame_hdr && not (is_hollow_role l role.EhFrameHdr)) (map fault_of (table_errors (address_of_role l role.EhFrameHdr) (address_of_role l role.EhFrame) (layout_fdes l))) [] asked
+
+table_asked : (l : Layout) → IsAsked l → search_table l ≡ table_of (address_of_role l role.EhFrameHdr) (address_of_role l role.EhFrame) (layout_fdes l)
 unfolding search_table
-table_asked l asked = chosen l.options.eh_frame_hdr (table_of (address_of_role l role.EhFrameHdr) (address_of_role l role.EhFrame) (layout_fdes l)) [] asked
+table_asked l asked = chosen l.options.eh_frame_hdr (table_of (address_of_role l role.EhFrameHdr) (address_of_role l role.EhFrame) (layout_fdes l)) [] (and_parts l.options.eh_frame_hdr _ asked).0
 
 -- the errors of the table that was made are those of the layout's
 errors_same : (fs gs : List Fde) (h i e d : ℕ) → fs ≡ gs → h ≡ i → e ≡ d → table_errors i d gs ≡ table_errors h e fs
@@ -121,13 +140,13 @@ some_first : (f : Option Fault) (fs gs : List Fault) (x : Fault) → f ≡ Some 
 some_first f fs gs x e is h = rw (e, is) h
 
 -- it was made of all FDEs
-pub table_made : (l : Layout) (t : SearchTable) (fs : List Fde) (header eh_frame : ℕ) → l.options.eh_frame_hdr ≡ true → fs ≡ layout_fdes l → header ≡ address_of_role l role.EhFrameHdr → eh_frame ≡ address_of_role l role.EhFrame
+pub table_made : (l : Layout) (t : SearchTable) (fs : List Fde) (header eh_frame : ℕ) → IsAsked l → fs ≡ layout_fdes l → header ≡ address_of_role l role.EhFrameHdr → eh_frame ≡ address_of_role l role.EhFrame
     → table_errors header eh_frame fs ≡ [] → t.fault ≡ None → t.bytes ≡ table_of header eh_frame fs → IsSearchTable l t
 table_made l t fs header eh_frame asked is at frames good fault bytes =
     let same = errors_same fs (layout_fdes l) header (address_of_role l role.EhFrameHdr) eh_frame (address_of_role l role.EhFrame) is at frames in
     record {
       fault = none_first t.fault (search_table_faults l) fault (faults_asked l asked ∙ ap (map fault_of) (same ∙ good));
-      bytes = λ h. bytes ∙ bytes_same fs (layout_fdes l) header (address_of_role l role.EhFrameHdr) eh_frame (address_of_role l role.EhFrame) is at frames ∙ sym (table_asked l asked);
+      bytes = λ here h. bytes ∙ bytes_same fs (layout_fdes l) header (address_of_role l role.EhFrameHdr) eh_frame (address_of_role l role.EhFrame) is at frames ∙ sym (table_asked l asked);
     }
 
 first_far : (es : List TableError) (v : ℕ) → IsFirst (error.FrameOffsetOverflow v) es → FaultIsFirst (Some (faults.FrameOffsetOverflow v)) (map fault_of es)
@@ -141,14 +160,14 @@ never : (f : Option Fault) (x : Fault) (bs cs : List ℕ) → f ≡ Some x → f
 never f x bs cs e h = cc
 
 -- something is too far from it
-pub table_far : (l : Layout) (t : SearchTable) (fs : List Fde) (header eh_frame v : ℕ) → l.options.eh_frame_hdr ≡ true → fs ≡ layout_fdes l → header ≡ address_of_role l role.EhFrameHdr → eh_frame ≡ address_of_role l role.EhFrame
+pub table_far : (l : Layout) (t : SearchTable) (fs : List Fde) (header eh_frame v : ℕ) → IsAsked l → fs ≡ layout_fdes l → header ≡ address_of_role l role.EhFrameHdr → eh_frame ≡ address_of_role l role.EhFrame
     → IsFirst (error.FrameOffsetOverflow v) (table_errors header eh_frame fs) → t.fault ≡ Some (faults.FrameOffsetOverflow v) → IsSearchTable l t
 table_far l t fs header eh_frame v asked is at frames far fault =
     let errors = table_errors (address_of_role l role.EhFrameHdr) (address_of_role l role.EhFrame) (layout_fdes l) in
     let same = errors_same fs (layout_fdes l) header (address_of_role l role.EhFrameHdr) eh_frame (address_of_role l role.EhFrame) is at frames in
     record {
       fault = some_first t.fault (search_table_faults l) (map fault_of errors) (faults.FrameOffsetOverflow v) fault (faults_asked l asked) (first_far errors v (first_same (error.FrameOffsetOverflow v) (table_errors header eh_frame fs) errors same far));
-      bytes = λ h. never t.fault (faults.FrameOffsetOverflow v) t.bytes (search_table l) fault h;
+      bytes = λ here h. never t.fault (faults.FrameOffsetOverflow v) t.bytes (search_table l) fault h;
     }
 
 front_taken : (xs ys : List ℕ) → take (length xs) (xs ++ ys) ≡ xs

@@ -1,12 +1,14 @@
 -- The search table of frames, as it was made.
 --   FaultIsFirst f fs      the fault is the first of these; none where there are none
---   IsSearchTable l t      it is the layout's, or tells the first fault
+--   IsSearchTable l t      it is the layout's, where that is written, or tells the first fault
 --   found_fdes l fs at f   what was found as an FDE with its address, where it is one that is kept
-use Rattle.std.specs.Prelude.{◌≡◌, ℕ, true, List, [], ◌∷◌, map, Option, None, Some}
+use Rattle.std.specs.Prelude.{◌≡◌, ℕ, true, false, List, [], ◌∷◌, map, Option, None, Some}
 use Rattle.wild_types.specs.declared.fault.Fault.{Fault}
 use Rattle.wild_types.specs.declared.file.File.{File}
 use Rattle.wild_types.specs.declared.layout.Layout.{Layout}
+use Rattle.wild_types.specs.declared.part.Role.TheVariants as role
 use Rattle.wild_types.specs.FileRoles.{is_prelude}
+use Rattle.wild_types.specs.Hollow.{is_hollow_role}
 use Rattle.wild_frames.specs.declared.entry.Found.{Found}
 use Rattle.wild_frames.specs.declared.table.Fde.{Fde}
 use Rattle.wild_frames.specs.Frames.{Frames, fde_of}
@@ -19,10 +21,10 @@ FaultIsFirst None fs = fs ≡ []
 FaultIsFirst (Some f) [] = ⊥
 FaultIsFirst (Some f) (g ∷ gs) = f ≡ g
 
--- the layout's, or its first fault
+-- the layout's, where that is written, or its first fault
 pub record IsSearchTable (l : Layout) (t : SearchTable) : Type 0 where
   pub fault : FaultIsFirst t.fault (search_table_faults l)
-  pub bytes : t.fault ≡ None → t.bytes ≡ search_table l
+  pub bytes : is_hollow_role l role.EhFrameHdr ≡ false → t.fault ≡ None → t.bytes ≡ search_table l
 
 -- it is that, where the file is the first one
 abbrev pub IsTableFor : Layout → SearchTable → File → Type 0

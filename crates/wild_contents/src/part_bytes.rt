@@ -1,5 +1,6 @@
 //! The bytes that a group has of a part.
 ghost use Rattle.std.specs.Prelude.{◌≡◌, [], ◌++◌, true, length, All, IfOk, OnOk};
+ghost use Rattle.wild_frames.specs.Frames.{terminator};
 ghost use Rattle.wild_types.specs.Faults.{Answers};
 ghost use Rattle.wild_types.specs.Item.{item_now};
 ghost use Rattle.wild_types.specs.Kinds.{is_partial_link};
@@ -14,6 +15,7 @@ use std::alloc::{AllocError, Global};
 use std::marker::Model;
 use std::thread::Threads;
 use wild_debug::{ShardedArch, Workers};
+use wild_frames::write_eh_frame_terminator;
 use wild_relax::Arch;
 use wild_sections::{Origin, Resolved, write_data, write_group_section, write_rela_section};
 use wild_types::{Error, InputSection, ItemRef};
@@ -63,6 +65,13 @@ impl PartBytes {
         ensures { OnOk result (self.new ≡ self.old ++ bytes.now) }
     {
         self.entries.extend_from_slice(bytes)
+    }
+
+    /// Adds what ends the frames of an output.
+    pub fn end_frames(&mut self) -> Result<(), AllocError>
+        ensures { OnOk result (self.new ≡ self.old ++ terminator) }
+    {
+        write_eh_frame_terminator(&mut self.entries)
     }
 
     /// Adds the bytes of an item with its fields, or answers its first fault, with the place that it has in the input.

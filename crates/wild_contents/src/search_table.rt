@@ -1,7 +1,8 @@
 //! The search table of the frames of all files (LSB, "The .eh_frame_hdr section").
-ghost use Rattle.std.specs.Prelude.{◌≡◌, ◌<◌, ◌+◌, ◌^◌, ◌++◌, true, None, [], length, IfOk, OnOk};
+ghost use Rattle.std.specs.Prelude.{◌≡◌, not, ◌&&◌, ◌<◌, ◌+◌, ◌^◌, ◌++◌, true, false, None, [], length, IfOk, OnOk};
 ghost use Rattle.std.specs.List.{flat_map};
 ghost use Rattle.wild_types.specs.declared.part.Role.TheVariants as role;
+ghost use Rattle.wild_types.specs.Hollow.{is_hollow_role};
 ghost use Rattle.wild_types.specs.Parts.{part_with};
 ghost use Rattle.wild_frames.specs.Frames.{start, rest_of};
 ghost use Rattle.wild_frames.specs.Walks.{IsAtStart, AreOwn};
@@ -19,7 +20,9 @@ use wild_laid::{FileFrames, frames_at, kept_size};
 use wild_records::{EhFrameHdr, EhFrameHdrEntry};
 use wild_relax::Arch;
 use wild_sections::{Resolved, or_zero, raw_address};
-use wild_types::{Fault, File, Group, InputRelocation, InputSection, Part, Role, part_with};
+use wild_types::{
+    Fault, File, Group, InputRelocation, InputSection, Layout, Part, Role, part_with,
+};
 
 /// The search table of frames, or what is too far from it.
 #[derive(Drop)]
@@ -193,7 +196,7 @@ fn table_of<A: Arch>(
     resolved: &Resolved<A>,
     fdes: &[Fde],
 ) -> Result<SearchTable, AllocError>
-    requires asked { resolved.now.layout.now.options.eh_frame_hdr ≡ true }
+    requires asked { (resolved.now.layout.now.options.eh_frame_hdr && not (is_hollow_role resolved.now.layout.now role.EhFrameHdr)) ≡ true }
     requires fdes { fdes.now ≡ layout_fdes resolved.now.layout.now }
     requires few { length fdes.now < 2 ^ 32 }
     requires place { address_of_role resolved.now.layout.now role.EhFrameHdr + 4 < 2 ^ 64 }
@@ -217,9 +220,16 @@ fn table_of<A: Arch>(
     }
 }
 
-/// The search table of all frames, where the option asks for one, or what is too far from it. One pass over all frames, and a sort
-/// of their FDEs, on as many threads as there are processors. More FDEs than the table can count, 2^32, are more than there is memory
-/// for.
+/// Whether the option asks for the search table, and it is written.
+fn is_asked(layout: &Layout) -> bool
+    ensures { result ≡ (layout.now.options.eh_frame_hdr && not (is_hollow_role layout.now role.EhFrameHdr)) }
+{
+    layout.options.eh_frame_hdr && !layout.is_hollow_role(Role::EhFrameHdr)
+}
+
+/// The search table of all frames, where the option asks for one and it is written, or what is too far from it. One pass over all
+/// frames, and a sort of their FDEs, on as many threads as there are processors. More FDEs than the table can count, 2^32, are more
+/// than there is memory for.
 pub fn make_search_table<A: Arch>(
     rt: &(impl Threads + Sync),
     alloc: Global,
@@ -228,7 +238,7 @@ pub fn make_search_table<A: Arch>(
     requires place { address_of_role resolved.now.layout.now role.EhFrameHdr + 4 < 2 ^ 64 }
     ensures { IfOk result (IsSearchTable resolved.now.layout.now) }
 {
-    if !resolved.layout.options.eh_frame_hdr {
+    if !is_asked(resolved.layout) {
         return Ok(SearchTable::none(alloc));
     }
     let fdes = fdes_of(alloc, resolved)?;

@@ -2,11 +2,11 @@
 ghost use Rattle.std.specs.Prelude.{◌≡◌, Some};
 ghost use Rattle.wild_types.specs.Faults.{Answers};
 ghost use Rattle.wild_slot.specs.SymbolWords.{slots_of};
-ghost use Rattle.wild_layout.specs.Faults.{at_file, slot_fault, slot_refusal, symbol_errors, slot_errors};
+ghost use Rattle.wild_layout.specs.Faults.{at_file, slot_fault, slot_refusal, slot_role, symbol_errors, slot_errors};
 
 use wild_sections::InputPlace;
-use wild_slot::{SlotFault, SymbolSlots};
-use wild_types::{Error, Fault, File, Layout, Missing, Resolution, Symbol};
+use wild_slot::{SlotFault, SymbolSlots, begins_block};
+use wild_types::{Error, Fault, File, Layout, Missing, Resolution, Role, Symbol};
 
 /// The fault of the slots of a symbol with that number.
 fn fault_of(index: usize, fault: SlotFault) -> Fault
@@ -43,7 +43,19 @@ fn fault_in(layout: &Layout, symbol: &Symbol) -> Option<SlotFault>
     }
 }
 
-/// Refuses slots of the symbol with that number that are not written.
+/// The part that the slots of a symbol stand in.
+fn slot_role(layout: &Layout, symbol: &Symbol) -> Role
+    ensures { result ≡ slot_role layout.now symbol.now }
+{
+    let slots = SymbolSlots::of(layout, symbol);
+    if begins_block(slots.words()) {
+        Role::GotRelr
+    } else {
+        Role::Got
+    }
+}
+
+/// Refuses slots of the symbol with that number that are not written, though other bytes of their section are.
 fn check_symbol(
     layout: &Layout,
     place: InputPlace,
@@ -53,11 +65,11 @@ fn check_symbol(
     ensures { Answers result (symbol_errors layout.now place.group place.file index symbol.now) }
 {
     match fault_in(layout, symbol) {
-        Some(fault) => Err(Error {
+        Some(fault) if !layout.is_hollow_role(slot_role(layout, symbol)) => Err(Error {
             fault: fault_of(index, fault),
             at: place.file(),
         }),
-        None => Ok(()),
+        _ => Ok(()),
     }
 }
 

@@ -7,7 +7,7 @@ ghost use Rattle.wild_types.specs.FileRoles.{is_prelude};
 ghost use Rattle.wild_laid.specs.Laid.{laid_files};
 ghost use Rattle.wild_layout.specs.Content.{whole_bytes, file_content, group_bytes, content};
 ghost use Rattle.wild_layout.specs.SlotBytes.{header_bytes};
-ghost use Rattle.wild_types.specs.declared.part.Role.TheVariants.{RelrDyn};
+ghost use Rattle.wild_types.specs.declared.part.Role.TheVariants.{RelrDyn, EhFrame, EhFrameHdr};
 ghost use Rattle.wild_contents.specs.Given.{NeedsFit};
 ghost use Rattle.wild_contents.specs.Laid.{is_applied, is_apart, first_given, group_frames, HaveSearchTable};
 
@@ -144,8 +144,8 @@ fn add_files<A: Arch>(
     beside: &Beside<'_>,
     bytes: &mut PartBytes,
 ) -> Result<(), AllocError>
-    requires frames { beside.now.frames.now ≡ group_frames resolved.now.layout.now group.now }
-    requires table { HaveSearchTable resolved.now.layout.now beside.now.table.now group.now.files }
+    requires frames { role ≡ EhFrame → beside.now.frames.now ≡ group_frames resolved.now.layout.now group.now }
+    requires table { role ≡ EhFrameHdr → HaveSearchTable resolved.now.layout.now beside.now.table.now group.now.files }
     ensures { OnOk result (bytes.new ≡ bytes.old ++ flat_map (file_content resolved.now.layout.now role) (laid_files resolved.now.layout.now group.now)) }
 {
     match role {
@@ -208,8 +208,8 @@ pub fn add_content<A: Arch>(
     bytes: &mut PartBytes,
 ) -> Result<(), AllocError>
     requires few { NeedsFit group.now }
-    requires frames { beside.now.frames.now ≡ group_frames resolved.now.layout.now group.now }
-    requires table { HaveSearchTable resolved.now.layout.now beside.now.table.now group.now.files }
+    requires frames { role ≡ EhFrame → beside.now.frames.now ≡ group_frames resolved.now.layout.now group.now }
+    requires table { role ≡ EhFrameHdr → HaveSearchTable resolved.now.layout.now beside.now.table.now group.now.files }
     ensures { OnOk result (bytes.new ≡ bytes.old ++ content resolved.now.layout.now role group.now) }
 {
     add_files(alloc, resolved, role, group, beside, bytes)?;

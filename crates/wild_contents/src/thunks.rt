@@ -4,6 +4,7 @@ ghost use Rattle.std.specs.List.{flat_map};
 ghost use Rattle.wild_types.specs.Faults.{Answers};
 ghost use Rattle.wild_types.specs.FileThunks.{thunks_of};
 ghost use Rattle.wild_layout.specs.Faults.{at_file, thunk_error, thunk_errors};
+ghost use Rattle.wild_layout.specs.Image.{unless_hollow};
 ghost use Rattle.wild_layout.specs.Thunks.{thunk_target, thunk_bytes, thunk_fault, file_thunks};
 
 use crate::part_bytes::PartBytes;
@@ -58,8 +59,25 @@ fn add_thunk<A: Arch>(
     }
 }
 
-/// Adds the bytes of the thunks that a file writes behind its sections, or answers the first fault of one.
-#[tactic(auto, using(wild_sections::proofs::FaultLemmas::first_faults), unfolding(wild_layout::specs::Faults::thunk_errors))]
+/// Adds the bytes of the thunks of a file, or answers the first fault of one.
+#[tactic(auto, using(wild_sections::proofs::FaultLemmas::first_faults))]
+fn add_all_thunks<A: Arch>(
+    resolved: &Resolved<A>,
+    place: InputPlace,
+    file: &File,
+    bytes: &mut PartBytes,
+) -> Result<(), Error>
+    ensures faults { Answers result (flat_map (thunk_error resolved.now.layout.now (at_file place.group place.file)) (thunks_of resolved.now.layout.now file.now)) }
+    ensures bytes { OnOk result (bytes.new ≡ bytes.old ++ file_thunks resolved.now.layout.now file.now) }
+{
+    for thunk in resolved.layout.thunks_of(file) {
+        add_thunk(resolved, place, thunk, bytes)?;
+    }
+    Ok(())
+}
+
+/// Adds the bytes of the thunks that a file writes behind its sections, or answers the first fault of one. Nothing is asked of them where
+/// nothing of their section is written.
 pub fn add_thunks<A: Arch>(
     resolved: &Resolved<A>,
     place: InputPlace,
@@ -67,10 +85,11 @@ pub fn add_thunks<A: Arch>(
     bytes: &mut PartBytes,
 ) -> Result<(), Error>
     ensures faults { Answers result (thunk_errors resolved.now.layout.now place.group place.file file.now) }
-    ensures bytes { OnOk result (bytes.new ≡ bytes.old ++ file_thunks resolved.now.layout.now file.now) }
+    ensures bytes { OnOk result (bytes.new ≡ bytes.old ++ unless_hollow resolved.now.layout.now resolved.now.layout.now.primary_part (file_thunks resolved.now.layout.now file.now)) }
 {
-    for thunk in resolved.layout.thunks_of(file) {
-        add_thunk(resolved, place, thunk, bytes)?;
+    let layout = resolved.layout;
+    if layout.is_hollow_part(layout.primary_part) {
+        return Ok(());
     }
-    Ok(())
+    add_all_thunks(resolved, place, file, bytes)
 }

@@ -32,7 +32,8 @@ fn refusal_of(alloc: Global, layout: &Layout, error: Error) -> Result<(u8, Strin
     }
 }
 
-/// What is said of an image: whose its bytes are, what a loader would stumble over, and what is asked besides.
+/// What is said of an image: whose its bytes are, what a loader would stumble over, and what is asked besides. Nothing loads an image for
+/// debuggers alone.
 fn image_words(
     alloc: Global,
     layout: &Layout,
@@ -41,7 +42,9 @@ fn image_words(
 ) -> Result<String, AllocError> {
     let mut text = String::new(alloc);
     push_image(&mut text, layout)?;
-    push_advice(&mut text, alloc, layout)?;
+    if !layout.options.only_keep_debug {
+        push_advice(&mut text, alloc, layout)?;
+    }
     if let Some(offset) = view.byte {
         push_owner(&mut text, layout, offset)?;
     }

@@ -129,8 +129,8 @@ const CLAUSES: [(u32, &str, &str); 22] = [
     ),
     (
         22,
-        "merged strings, the linker's name of itself, properties",
-        "the first group's entry of `part_sizes` for the part, which was not changed with the strings; a property listed twice; `only_keep_debug`",
+        "merged strings, the linker's name of itself, properties, images of debug sections alone",
+        "the first group's entry of `part_sizes` for the part, which was not changed with the strings; a property listed twice; `only_keep_debug` in a plan of kind `partial`",
     ),
 ];
 

@@ -173,7 +173,8 @@ pub fn push_fields(out: &mut String, layout: &Layout, image: &[u8]) -> Result<()
     for (group, found) in layout.groups.as_slice().iter().enumerate() {
         for (file, held) in found.files.as_slice().iter().enumerate() {
             for (section, input) in held.sections.as_slice().iter().enumerate() {
-                if input.is_written() && !layout.kind.is_partial_link() {
+                let is_here = input.is_written() && !input.is_dropped(layout);
+                if is_here && !layout.kind.is_partial_link() {
                     let at = SectionPlace {
                         group,
                         file,

@@ -2,7 +2,7 @@
 
 use crate::tests::{PartTest, SectionTest, SegmentTest};
 use crate::verdict::{Verdict, due, plain};
-use wild_records::abi::section::SHT_RELA;
+use wild_records::abi::section::{SHT_NOTE, SHT_RELA};
 use wild_records::abi::segment::{PT_DYNAMIC, PT_LOAD};
 use wild_types::{
     Layout, Part, Role, Section, Segment, has_role, is_allocated, is_thread_local, place_of,
@@ -51,8 +51,8 @@ fn end_before(layout: &Layout, index: usize) -> u64 {
 }
 
 /// Whether a part lies in its section.
-fn lies_in(section: &Section, part: &Part) -> bool {
-    if section.is_without_data() {
+fn lies_in(layout: &Layout, section: &Section, part: &Part) -> bool {
+    if !layout.fills_file(section) {
         return lies_within(section.address, section.size, part.address, part.size);
     }
     let is_even = section.address <= part.address
@@ -62,14 +62,20 @@ fn lies_in(section: &Section, part: &Part) -> bool {
         && (!is_allocated(section.flags) || is_even)
 }
 
-/// Whether the file bytes of a loaded segment have a part.
+/// Whether a segment has the file bytes of a part, or where nothing of its section is written its addresses.
+fn holds_part(layout: &Layout, part: &Part, segment: &Segment) -> bool {
+    if layout.is_hollow_at(part.section) {
+        return lies_within(segment.address, segment.mem_size, part.address, part.size);
+    }
+    lies_within(segment.offset, segment.file_size, part.offset, part.size)
+        && part.offset.saturating_add(segment.address)
+            == part.address.saturating_add(segment.offset)
+}
+
+/// Whether a loaded segment has a part.
 fn is_carried(layout: &Layout, part: &Part) -> bool {
     for segment in layout.segments.as_slice() {
-        if segment.kind == PT_LOAD
-            && lies_within(segment.offset, segment.file_size, part.offset, part.size)
-            && part.offset.saturating_add(segment.address)
-                == part.address.saturating_add(segment.offset)
-        {
+        if segment.kind == PT_LOAD && holds_part(layout, part, segment) {
             return true;
         }
     }
@@ -115,7 +121,7 @@ pub(crate) fn test_part(layout: &Layout, index: usize, part: &Part, test: PartTe
             None => plain(false),
         },
         PartTest::Outside => plain(match layout.sections.as_slice().get(part.section.0) {
-            Some(section) => part.section.0 != 0 && !lies_in(section, part),
+            Some(section) => part.section.0 != 0 && !lies_in(layout, section, part),
             None => false,
         }),
         PartTest::Unallocated => {
@@ -132,6 +138,17 @@ pub(crate) fn test_part(layout: &Layout, index: usize, part: &Part, test: PartTe
         }
         PartTest::Section => plain(part.section.0 >= layout.sections.len()),
         PartTest::Unasked => plain(has_role(Role::GotRelr, part) && !layout.options.relr),
+        PartTest::Noted => {
+            let is_noted = layout.kind_at(part.section) == SHT_NOTE;
+            plain(layout.options.only_keep_debug && has_role(Role::Dynamic, part) && is_noted)
+        }
+        PartTest::Dropped => {
+            let is_header = matches!(
+                part.role,
+                Role::FileHeader | Role::ProgramHeaders | Role::SectionHeaders | Role::Shstrtab
+            );
+            plain(is_header && layout.is_hollow_at(part.section))
+        }
         PartTest::Last => plain(true),
     }
 }
@@ -146,7 +163,7 @@ fn reached(layout: &Layout, section: &Section, in_file: bool) -> u64 {
             segment.mem_size
         };
         let end = segment.address.saturating_add(size);
-        let is_even = section.is_without_data()
+        let is_even = !layout.fills_file(section)
             || section.offset.saturating_add(segment.address)
                 == section.address.saturating_add(segment.offset);
         if segment.kind == PT_LOAD && segment.address <= reached && reached < end && is_even {
@@ -192,7 +209,10 @@ pub(crate) fn test_section(
         }
         SectionTest::Bytes => {
             let reached = reached(layout, section, true);
-            due(is_loaded && !zeros && reached < end, reached)
+            due(
+                is_loaded && layout.fills_file(section) && reached < end,
+                reached,
+            )
         }
         SectionTest::Entries => {
             let bytes = entry_bytes(layout, index);
@@ -229,9 +249,14 @@ pub(crate) fn dynamic_before(layout: &Layout, index: usize) -> usize {
 fn is_dynamic(layout: &Layout, segment: &Segment) -> bool {
     match first_of(layout, Role::Dynamic) {
         Some((_, part)) => {
+            let in_file = if layout.is_hollow_at(part.section) {
+                0
+            } else {
+                part.size
+            };
             segment.offset == part.offset
                 && segment.address == part.address
-                && segment.file_size == part.size
+                && segment.file_size == in_file
                 && segment.mem_size == part.size
         }
         None => false,

@@ -191,7 +191,7 @@ pub(crate) fn first_astray(
     let to = start.saturating_add(given_before(layout, part, group.saturating_add(1)));
     for (file, held) in found.files.as_slice().iter().enumerate() {
         for (section, input) in held.sections.as_slice().iter().enumerate() {
-            if input.part == part && input.is_filled(layout) {
+            if input.part == part && input.is_given(layout) {
                 let at = SectionPlace {
                     group,
                     file,
@@ -284,7 +284,7 @@ pub(crate) fn test_input(layout: &Layout, section: &InputSection, test: InputTes
         InputTest::Discarded => discarded && (section.address != 0 || length != 0),
         InputTest::RawPart => { !discarded && !section.slot.is_frame() && role != Role::Raw }
         InputTest::Front => {
-            (length != 0 || section.owns_bytes(layout)) && has_front(layout, section.part)
+            (length != 0 || section.brings_bytes(layout)) && has_front(layout, section.part)
         }
         InputTest::Allocation => {
             let allocated = layout.is_allocated_part(section.part);
@@ -294,7 +294,7 @@ pub(crate) fn test_input(layout: &Layout, section: &InputSection, test: InputTes
         }
         InputTest::Room => {
             let is_made = matches!(section.slot, Slot::Rela) && section.size != 0;
-            (length != 0 || is_made) && !layout.takes_file_bytes(layout.section_of(section.part))
+            (length != 0 || is_made) && !layout.has_data(layout.section_of(section.part))
         }
         InputTest::Singleton | InputTest::Members => names_no_section(layout, section, test),
         InputTest::Debug | InputTest::Partial | InputTest::NoData => {

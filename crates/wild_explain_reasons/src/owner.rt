@@ -114,7 +114,7 @@ fn push_in_part(
 fn push_padding(out: &mut String, layout: &Layout, offset: u64) -> Result<(), AllocError> {
     for (i, section) in layout.sections.as_slice().iter().enumerate() {
         let end = section.offset.saturating_add(section.size);
-        if i != 0 && !section.is_without_data() && section.offset <= offset && offset < end {
+        if i != 0 && layout.fills_file(section) && section.offset <= offset && offset < end {
             write!(out, "padding: of ")?;
             push_section(out, layout, i)?;
             writeln!(out)?;

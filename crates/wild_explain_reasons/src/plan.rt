@@ -35,7 +35,7 @@ fn holds_thunks(layout: &Layout) -> bool {
     match layout.parts.as_slice().get(layout.primary_part) {
         Some(part) => {
             has_role(Role::Raw, part)
-                && layout.takes_file_bytes(part.section)
+                && layout.has_data(part.section)
                 && layout.is_allocated_section(part.section)
         }
         None => false,
@@ -109,7 +109,9 @@ pub(crate) fn test_plan(layout: &Layout, index: usize, test: PlanTest) -> Verdic
         PlanTest::Segmented | PlanTest::Paired | PlanTest::Listed => {
             plain(layout.kind.is_partial_link() && test_object(layout, test))
         }
-        PlanTest::KeepsAll => plain(layout.options.only_keep_debug),
+        PlanTest::KeepsAll => {
+            plain(layout.options.only_keep_debug && layout.kind.is_partial_link())
+        }
         PlanTest::Interpreter => plain(ends_without_zero(layout.interp.as_slice())),
         PlanTest::NoPair | PlanTest::TooMany | PlanTest::NoTable | PlanTest::Versions => {
             plain(true)

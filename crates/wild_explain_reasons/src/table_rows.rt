@@ -17,7 +17,7 @@ const SHAPE: &str = "the shape of the GNU hash table";
 const ZERO: &str = "a name has a zero byte; the one that ends a string is added when it is written";
 
 /// Those of the clauses on indexes, slots, tables and names.
-pub(crate) const TABLE_ROWS: [Row; 95] = [
+pub(crate) const TABLE_ROWS: [Row; 97] = [
     (
         9,
         Test::Part(PartTest::Section),
@@ -503,8 +503,14 @@ pub(crate) const TABLE_ROWS: [Row; 95] = [
     (
         22,
         Test::Plan(PlanTest::KeepsAll),
-        "an image of debug sections alone is not written",
+        "a relocatable object keeps debug sections alone",
         "/options/only_keep_debug",
+    ),
+    (
+        22,
+        Test::Part(PartTest::Noted),
+        "the dynamic section stands in a section of notes, in an image of debug sections alone",
+        "/section",
     ),
     (
         22,
@@ -517,5 +523,11 @@ pub(crate) const TABLE_ROWS: [Row; 95] = [
         Test::Plan(PlanTest::IdentityAlone),
         "merged strings stand in the part of the linker's name of itself",
         "/identity/part",
+    ),
+    (
+        22,
+        Test::Part(PartTest::Dropped),
+        "headers or names of sections stand in an allocated section, in an image of debug sections alone",
+        "/section",
     ),
 ];

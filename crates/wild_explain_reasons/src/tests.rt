@@ -45,6 +45,7 @@ pub(crate) enum PlanTest {
     Paired,
     /// The same.
     Listed,
+    /// Of a relocatable object.
     KeepsAll,
 }
 
@@ -63,6 +64,10 @@ pub(crate) enum PartTest {
     Shares,
     Section,
     Unasked,
+    /// Of an image for debuggers alone.
+    Noted,
+    /// The same.
+    Dropped,
     Last,
 }
 

@@ -1,10 +1,9 @@
 -- The segments carry the bytes of parts and of input sections to their addresses.
 use Rattle.std.proofs.Common.{◌≡◌, ℕ, zero, suc, ◌+◌, ◌-◌, ◌<◌, ◌≤◌, ◌==◌, nat_lt, nat_le, true, false, not, ◌&&◌, ◌||◌, List, [], ◌∷◌, length, drop, get_or, All, Option, Some, slice_get, refl, arith, subst}
 use Rattle.std.specs.List.{list_any}
-use Rattle.std.proofs.lemmas.Bool.{and_parts, and_from, leb-true, ltb-true, eqb-true, eqb-false, ne_eqb, not-true, not_from_false}
+use Rattle.std.proofs.lemmas.Bool.{and_parts, and_from, leb-true, ltb-true, eqb-true, eqb-false, ne_eqb, not-true}
 use Rattle.wild_words.proofs.ListLemmas.{Found, Found-from_list_any, ItemAt-within, holds_at}
 use Rattle.wild_words.proofs.Basics.{implied, or_other}
-use Rattle.wild_records.specs.Abi.Section.{sht_nobits}
 use Rattle.wild_records.specs.Abi.Segment.{pt_load}
 use Rattle.wild_types.specs.declared.part.Part.{Part}
 use Rattle.wild_types.specs.declared.section.Section.{Section}
@@ -15,7 +14,7 @@ use Rattle.wild_types.specs.declared.input.Slot.TheVariants as slot
 use Rattle.wild_types.specs.declared.input.InputSection.{InputSection}
 use Rattle.wild_types.specs.declared.layout.Layout.{Layout}
 use Rattle.wild_types.specs.Kinds.{is_partial_link}
-use Rattle.wild_types.specs.Lookups.{allocated, without_data, flags_of, section_of_part, is_allocated_section, is_allocated_part, takes_file_bytes, is_loaded, is_filled}
+use Rattle.wild_types.specs.Lookups.{allocated, without_data, flags_of, section_of_part, is_allocated_section, is_allocated_part, is_without_data, is_hollow, hollow, is_hollow_at, fills_file, has_data, takes_file_bytes, is_loaded, is_filled}
 use Rattle.wild_clauses.specs.Places.{within, is_level, lies_in, lies_by, part_lies}
 use Rattle.wild_types.specs.Parts.{is_loaded_role}
 use Rattle.wild_clauses.specs.Segments.{at_equal_distance, has_byte, has_file_bytes, all_below, bytes_are_loaded}
@@ -35,18 +34,20 @@ pub record Filled (l : Layout) (k : ℕ) : Type 0 where
   pub section : Section
   pub is : slice_get l.sections k ≡ Some section
   pub later : k ≡ 0 → ⊥
-  pub bits : (section.kind == sht_nobits) ≡ false
+  pub bits : fills_file l section ≡ true
   pub allocated : allocated section.flags ≡ true
 
 pub Filled-from_tests : (l : Layout) (k : ℕ) → k < length l.sections → is_allocated_section l k ≡ true → takes_file_bytes l k ≡ true → Filled l k
 Filled-from_tests l k named place takes =
     let both = and_parts (not (k == 0)) (allocated (flags_of (slice_get l.sections k))) place in
     let item = ItemAt-within l.sections k named in
+    let written = and_parts (has_data l k) (not (is_hollow_at l k)) takes in
+    let here : not (not (k == 0) && hollow l (Some item.item)) ≡ true = subst (λ (o : Option Section). not (not (k == 0) && hollow l o) ≡ true) item.is written.1 in
     record {
       section = item.item;
       is = item.is;
       later = eqb-false _ _ (not-true _ both.0);
-      bits = not-true _ (subst (λ (o : Option Section). not (without_data o) ≡ true) item.is takes);
+      bits = and_from (not (is_without_data item.item)) (not (is_hollow l item.item)) (subst (λ (o : Option Section). not (without_data o) ≡ true) item.is written.0) (rw both.0 at here);
       allocated = subst (λ (o : Option Section). allocated (flags_of o) ≡ true) item.is both.1;
     }
 
@@ -64,8 +65,8 @@ pub record Level (s : Section) (p : Part) : Type 0 where
   pub address : s.address ≤ p.address
   pub distance : p.address + s.offset ≡ p.offset + s.address
 
-level_by : (s : Section) (p : Part) → lies_in s p ≡ true → (s.kind == sht_nobits) ≡ false → allocated s.flags ≡ true → Level s p
-level_by s p h k a =
+level_by : (l : Layout) (s : Section) (p : Part) → lies_in l s p ≡ true → fills_file l s ≡ true → allocated s.flags ≡ true → Level s p
+level_by l s p h k a =
     let b = and_parts (within s.offset s.size p.offset p.size) (not (allocated s.flags) || is_level s p) (rw k at h) in
     let c = and_parts (nat_le s.offset p.offset) (nat_le (p.offset + p.size) (s.offset + s.size)) b.0 in
     let d : is_level s p ≡ true = implied (allocated s.flags) (is_level s p) b.1 a in
@@ -74,8 +75,8 @@ level_by s p h k a =
 
 pub part_level : (l : Layout) (p : Part) → part_lies l p ≡ true → (o : Filled l p.section) → Level o.section p
 part_level l p lies o =
-    let in' : lies_by (slice_get l.sections p.section) p ≡ true = or_other (p.section == 0) (lies_by (slice_get l.sections p.section) p) lies (ne_eqb _ _ o.later) in
-    level_by o.section p (subst (λ (x : Option Section). lies_by x p ≡ true) o.is in') o.bits o.allocated
+    let in' : lies_by l (slice_get l.sections p.section) p ≡ true = or_other (p.section == 0) (lies_by l (slice_get l.sections p.section) p) lies (ne_eqb _ _ o.later) in
+    level_by l o.section p (subst (λ (x : Option Section). lies_by l x p ≡ true) o.is in') o.bits o.allocated
 
 -- ---- the segment of a byte
 
@@ -86,19 +87,19 @@ record Carries (s : Section) (a : ℕ) (g : Segment) : Type 0 where
   to : a < g.address + g.file_size
   distance : s.offset + g.address ≡ s.address + g.offset
 
-carries_by : (s : Section) (a : ℕ) (g : Segment) → has_byte side.File s a g ≡ true → (s.kind == sht_nobits) ≡ false → Carries s a g
-carries_by s a g h k =
-    let b = and_parts (g.kind == pt_load && (nat_le g.address a && nat_lt a (g.address + g.file_size))) (s.kind == sht_nobits || at_equal_distance s g) h in
+carries_by : (l : Layout) (s : Section) (a : ℕ) (g : Segment) → has_byte side.File l s a g ≡ true → fills_file l s ≡ true → Carries s a g
+carries_by l s a g h k =
+    let b = and_parts (g.kind == pt_load && (nat_le g.address a && nat_lt a (g.address + g.file_size))) (not (fills_file l s) || at_equal_distance s g) h in
     let c = and_parts (g.kind == pt_load) (nat_le g.address a && nat_lt a (g.address + g.file_size)) b.0 in
     let d = and_parts (nat_le g.address a) (nat_lt a (g.address + g.file_size)) c.1 in
-    let e : at_equal_distance s g ≡ true = or_other (s.kind == sht_nobits) (at_equal_distance s g) b.1 k in
+    let e : at_equal_distance s g ≡ true = or_other (not (fills_file l s)) (at_equal_distance s g) b.1 (rw k refl) in
     record { loaded = eqb-true _ _ c.0; from = leb-true _ _ d.0; to = ltb-true _ _ d.1; distance = eqb-true _ _ e }
 
-segment_of : (segments : List Segment) (s : Section) → bytes_are_loaded side.File segments s ≡ true → allocated s.flags ≡ true → (s.kind == sht_nobits) ≡ false → (k : ℕ) → k < s.size → Found (has_byte side.File s (s.address + k)) segments
-segment_of segments s h a bits k lt =
-    let has : has_file_bytes s ≡ true = and_from (allocated s.flags) (not (s.kind == sht_nobits)) a (not_from_false _ bits) in
-    let each = implied (has_file_bytes s) (all_below (λ n. list_any (has_byte side.File s (s.address + n)) segments) s.size) h has in
-    Found-from_list_any (has_byte side.File s (s.address + k)) segments (all_below_each (λ n. list_any (has_byte side.File s (s.address + n)) segments) s.size each k lt)
+segment_of : (l : Layout) (segments : List Segment) (s : Section) → bytes_are_loaded side.File l segments s ≡ true → allocated s.flags ≡ true → fills_file l s ≡ true → (k : ℕ) → k < s.size → Found (has_byte side.File l s (s.address + k)) segments
+segment_of l segments s h a bits k lt =
+    let has : has_file_bytes l s ≡ true = and_from (allocated s.flags) (fills_file l s) a bits in
+    let each = implied (has_file_bytes l s) (all_below (λ n. list_any (has_byte side.File l s (s.address + n)) segments) s.size) h has in
+    Found-from_list_any (has_byte side.File l s (s.address + k)) segments (all_below_each (λ n. list_any (has_byte side.File l s (s.address + n)) segments) s.size each k lt)
 
 -- a segment carries the byte with that offset and that address
 abbrev pub IsByteCarried : Layout → ℕ → ℕ → Type 0
@@ -107,9 +108,9 @@ IsByteCarried l offset address = (h : Segment) × CarriesByte l h offset address
 -- byte n of a section with data
 byte_of : (l : Layout) → Laid l → is_partial_link l.kind ≡ false → (k : ℕ) (o : Filled l k) (n : ℕ) → n < o.section.size → IsByteCarried l (o.section.offset + n) (o.section.address + n)
 byte_of l h kind k o n lt =
-    let loaded = later_item (λ x. bytes_are_loaded side.File l.segments x ≡ true) l.sections k o.section o.is o.later (h.segments.loaded kind) in
-    let found = segment_of l.segments o.section loaded o.allocated o.bits n lt in
-    let c = carries_by o.section (o.section.address + n) found.item found.passes o.bits in
+    let loaded = later_item (λ x. bytes_are_loaded side.File l l.segments x ≡ true) l.sections k o.section o.is o.later (h.segments.loaded kind) in
+    let found = segment_of l l.segments o.section loaded o.allocated o.bits n lt in
+    let c = carries_by l o.section (o.section.address + n) found.item found.passes o.bits in
     let a = c.from in
     let b = c.to in
     let d = c.distance in
@@ -132,11 +133,11 @@ byte_of_part l h kind p lies o k lt =
 -- ---- parts
 
 pub IsPartMapped-from_laid : (l : Layout) → Laid l → (i : ℕ) (d : Part) → i < length l.parts → IsPartMapped l (get_or l.parts i d)
-IsPartMapped-from_laid l h i d low kind loaded k lt =
+IsPartMapped-from_laid l h i d low kind loaded written k lt =
     let p = get_or l.parts i d in
     let asked : (is_partial_link l.kind || not (is_loaded_role p.role)) ≡ false = rw (kind, loaded) refl in
-    let both = and_parts (is_allocated_section l p.section) (takes_file_bytes l p.section) (or_other (is_partial_link l.kind || not (is_loaded_role p.role)) (is_allocated_section l p.section && takes_file_bytes l p.section) (h.parts.loaded i d low) asked) in
-    let o = Filled-from_tests l p.section (ltb-true _ _ (h.indexes.parts i d low)) both.0 both.1 in
+    let both = and_parts (is_allocated_section l p.section) (has_data l p.section) (or_other (is_partial_link l.kind || not (is_loaded_role p.role)) (is_allocated_section l p.section && has_data l p.section) (h.parts.loaded i d low) asked) in
+    let o = Filled-from_tests l p.section (ltb-true _ _ (h.indexes.parts i d low)) both.0 (and_from (has_data l p.section) (not (is_hollow_at l p.section)) both.1 (rw written refl)) in
     let c = byte_of_part l h kind p (h.parts.lie i d low) o k lt in
     (c.0, record { listed = c.1.listed; loaded = c.1.loaded; from = c.1.from; to = c.1.to; distance = c.1.distance })
 

@@ -1,6 +1,6 @@
 -- The relocation entries of an executable that is loaded at its own addresses, which are found by their sections.
-use Rattle.std.proofs.Common.{◌≡◌, ℕ, zero, suc, ◌+◌, ◌-◌, ◌<◌, ◌≤◌, inl, inr, ◌==◌, true, not, ◌&&◌, List, [], ◌∷◌, length, drop, Option, Some, None, slice_get, refl, sym, ap, ◌∙◌, arith, subst}
-use Rattle.std.proofs.lemmas.Bool.{cases_Bool, and_parts, ltb-true, eqb-true, eq-eqb}
+use Rattle.std.proofs.Common.{◌≡◌, ℕ, zero, suc, ◌+◌, ◌-◌, ◌<◌, ◌≤◌, inl, inr, ◌==◌, Bool, true, false, not, ◌&&◌, List, [], ◌∷◌, length, drop, Option, Some, None, slice_get, refl, sym, ap, ◌∙◌, arith, subst}
+use Rattle.std.proofs.lemmas.Bool.{cases_Bool, and_parts, and_from, ltb-true, eqb-true, eqb-false, eq-eqb, not-true}
 use Rattle.std.proofs.lemmas.Option.{same_Some}
 use Rattle.wild_words.proofs.Basics.{implied}
 use Rattle.wild_records.specs.Abi.Section.{sht_rela}
@@ -9,7 +9,7 @@ use Rattle.wild_types.specs.declared.part.Role.{Role}
 use Rattle.wild_types.specs.declared.section.Section.{Section}
 use Rattle.wild_types.specs.declared.layout.Layout.{Layout}
 use Rattle.wild_types.specs.Lists.{total}
-use Rattle.wild_types.specs.Lookups.{allocated, kind_of, kind_at, without_data, is_allocated_section}
+use Rattle.wild_types.specs.Lookups.{allocated, flags_of, kind_of, kind_at, without_data, has_data, is_hollow, hollow, is_hollow_at, is_allocated_section}
 use Rattle.wild_types.specs.Parts.{has_role, part_with, is_entry_role, entry_parts, bytes_in}
 use Rattle.wild_types.specs.Kinds.{is_fixed_static}
 use Rattle.wild_clauses.specs.Places.{part_lies}
@@ -59,15 +59,16 @@ size_is l k s h a r = eqb-true _ _ (implied (allocated s.flags && s.kind == sht_
 
 -- ---- a part with entries
 
--- it is listed, and its section is allocated and of type SHT_RELA
-record PartOfEntries (l : Layout) (p : Part) : Type 0 where
-  filled : Filled l p.section
+-- what the clauses say of it: it is listed, and its section is allocated and of type SHT_RELA
+record EntriesStand (l : Layout) (p : Part) : Type 0 where
+  allocated : is_allocated_section l p.section ≡ true
+  kind : kind_at l p.section ≡ sht_rela
+  named : p.section < length l.sections
   lies : part_lies l p ≡ true
-  kind : filled.section.kind ≡ sht_rela
 
-part_of_entries : (l : Layout) → Laid l → is_fixed_static l.kind ≡ true → (r : Role) (p : Part) → is_entry_role r ≡ true → part_with r l.parts ≡ Some p → PartOfEntries l p
+entries_stand : (l : Layout) → Laid l → is_fixed_static l.kind ≡ true → (r : Role) (p : Part) → is_entry_role r ≡ true → part_with r l.parts ≡ Some p → EntriesStand l p
 unfolding check_entries
-part_of_entries l h fixed r p entries there =
+entries_stand l h fixed r p entries there =
     let f = FoundAt-from_find (has_role r) l.parts p there in
     let asked = rw fixed at h.segments.entries in
     let stand = All-from_none_fails (stands_in_entries l) 0 l.parts (None-from_fails 6 _ (Both-from_first_error _ _ asked).rest) f.place p f.within in
@@ -75,30 +76,56 @@ part_of_entries l h fixed r p entries there =
     let is = same_role p.role r (eqb-true _ _ f.passes) in
     let both = implied (is_entry_role p.role) (is_allocated_section l p.section && kind_at l p.section == sht_rela) (subst P (f.is p) stand) (ap is_entry_role is ∙ entries) in
     let tests = and_parts (is_allocated_section l p.section) (kind_at l p.section == sht_rela) both in
-    let kind = eqb-true (kind_at l p.section) sht_rela tests.1 in
     let Q : Part → Type 0 = λ x. x.section < length l.sections in
     let named = subst Q (f.is p) (ltb-true _ _ (h.indexes.parts f.place p f.within)) in
     let R : Part → Type 0 = λ x. part_lies l x ≡ true in
-    let o = Filled-from_tests l p.section named tests.0 (with_bits (slice_get l.sections p.section) kind) in
     record {
-      filled = o;
+      allocated = tests.0;
+      kind = eqb-true (kind_at l p.section) sht_rela tests.1;
+      named = named;
       lies = subst R (f.is p) (h.parts.lie f.place p f.within);
-      kind = sym (ap kind_of o.is) ∙ kind;
     }
+
+-- it is written
+record PartOfEntries (l : Layout) (p : Part) : Type 0 where
+  filled : Filled l p.section
+  lies : part_lies l p ≡ true
+  kind : filled.section.kind ≡ sht_rela
+
+part_of_entries : (l : Layout) → Laid l → is_fixed_static l.kind ≡ true → (r : Role) (p : Part) → is_entry_role r ≡ true → part_with r l.parts ≡ Some p → is_hollow_at l p.section ≡ false → PartOfEntries l p
+part_of_entries l h fixed r p entries there written =
+    let st = entries_stand l h fixed r p entries there in
+    let takes = and_from (has_data l p.section) (not (is_hollow_at l p.section)) (with_bits (slice_get l.sections p.section) st.kind) (rw written refl) in
+    let o = Filled-from_tests l p.section st.named st.allocated takes in
+    record { filled = o; lies = st.lies; kind = sym (ap kind_of o.is) ∙ st.kind }
   where
     with_bits : (o : Option Section) → kind_of o ≡ sht_rela → not (without_data o) ≡ true
     with_bits None e = refl
     with_bits (Some s) e = rw e refl
 
 pub stands_later : (l : Layout) → Laid l → is_fixed_static l.kind ≡ true → (r : Role) (p : Part) → is_entry_role r ≡ true → part_with r l.parts ≡ Some p → 1 ≤ p.section
-stands_later l h fixed r p entries there = let later = (part_of_entries l h fixed r p entries there).filled.later in omega arith
+stands_later l h fixed r p entries there =
+    let st = entries_stand l h fixed r p entries there in
+    let named = and_parts (not (p.section == 0)) (allocated (flags_of (slice_get l.sections p.section))) st.allocated in
+    let later = eqb-false _ _ (not-true _ named.0) in
+    omega arith
 
 -- ---- the sections
 
+-- the section of its part is written
+written_at : (l : Layout) (k n : ℕ) (s : Section) → slice_get l.sections k ≡ Some s → is_hollow l s ≡ false → n ≡ k → is_hollow_at l n ≡ false
+written_at l k n s is written at =
+    let here : hollow l (slice_get l.sections n) ≡ false = ap (λ (i : ℕ). hollow l (slice_get l.sections i)) at ∙ ap (hollow l) is ∙ written in
+    by (not (n == 0)) (hollow l (slice_get l.sections n)) here
+  where
+    by : (a b : Bool) → b ≡ false → (a && b) ≡ false
+    by true b e = e
+    by false b e = refl
+
 -- the part lies in its section
-entries_lie : (l : Layout) → Laid l → is_fixed_static l.kind ≡ true → (k : ℕ) (s : Section) → slice_get l.sections k ≡ Some s → (r : Role) (p : Part) → is_entry_role r ≡ true → part_with r l.parts ≡ Some p → p.section ≡ k → EntriesLie p s
-entries_lie l h fixed k s is r p entries there at =
-    let part = part_of_entries l h fixed r p entries there in
+entries_lie : (l : Layout) → Laid l → is_fixed_static l.kind ≡ true → (k : ℕ) (s : Section) → slice_get l.sections k ≡ Some s → is_hollow l s ≡ false → (r : Role) (p : Part) → is_entry_role r ≡ true → part_with r l.parts ≡ Some p → p.section ≡ k → EntriesLie p s
+entries_lie l h fixed k s is written r p entries there at =
+    let part = part_of_entries l h fixed r p entries there (written_at l k p.section s is written at) in
     let o = part.filled in
     let same : o.section ≡ s = same_Some o.section s (sym o.is ∙ ap (slice_get l.sections) at ∙ is) in
     let level = part_level l p part.lies o in
@@ -115,6 +142,6 @@ entries_lie l h fixed k s is r p entries there at =
 
 pub HasEntriesAlone-from_laid : (l : Layout) → Laid l → is_fixed_static l.kind ≡ true → (k : ℕ) (s : Section) → 1 ≤ k → slice_get l.sections k ≡ Some s → HasEntriesAlone l k s
 HasEntriesAlone-from_laid l h fixed k s later is = record {
-  own = λ r p entries there at. entries_lie l h fixed k s is r p entries there at;
+  own = λ written r p entries there at. entries_lie l h fixed k s is written r p entries there at;
   full = λ a r. size_is l k s (held l h fixed k s later is) a r;
 }

@@ -11,8 +11,7 @@ use Rattle.wild_words.specs.Overlay.{Piece, Apart}
 use Rattle.wild_words.proofs.Basics.{or_other}
 use Rattle.wild_words.proofs.ListLemmas.{AllPairs-nil, AllPairs-append, AllPairs-flat_map, All-flat_map, All-from_list_all}
 use Rattle.wild_types.specs.declared.part.Part.{Part}
-use Rattle.wild_types.specs.declared.input.Slot.{Slot}
-use Rattle.wild_types.specs.declared.input.Slot.TheVariants as slot
+use Rattle.wild_types.specs.declared.part.Role.TheVariants as role
 use Rattle.wild_types.specs.declared.input.InputSection.{InputSection}
 use Rattle.wild_types.specs.declared.file.File.{File}
 use Rattle.wild_types.specs.declared.file.Group.{Group}
@@ -21,7 +20,7 @@ use Rattle.wild_types.specs.declared.layout.Layout.{Layout}
 use Rattle.wild_types.specs.FilePlaces.{given}
 use Rattle.wild_types.specs.FileThunks.{thunks_of}
 use Rattle.wild_types.specs.Lists.{total}
-use Rattle.wild_types.specs.Lookups.{has_range, has_counted, has_bytes, is_filled, owns_bytes, takes_file_bytes}
+use Rattle.wild_types.specs.Lookups.{section_of_part, has_range, has_counted, has_bytes, is_given, is_filled, brings_bytes, has_data, is_hollow_at, is_hollow_part}
 use Rattle.wild_clauses.specs.Contents.{is_raw, holds_bytes, has_front, takes_bytes, leaves_front, file_leaves_front, group_leaves_front, section_misplaced}
 use Rattle.wild_clauses.specs.Fronts.{given_by, fills_front, merged_size, stands_in_front, front_shared}
 use Rattle.wild_clauses.specs.Thunks.{standing}
@@ -32,8 +31,8 @@ use Rattle.wild_geometry.proofs.OrderLemmas.{Follows, EndsBy-image}
 use Rattle.wild_geometry.proofs.ShareLemmas.{size_from_shares}
 use Rattle.wild_geometry.proofs.RunLemmas.{sections_in, Run-behind}
 use Rattle.wild_geometry.proofs.StandingLemmas.{all_sections}
-use Rattle.wild_geometry.proofs.SectionLemmas.{raw_role, right_or}
-use Rattle.wild_geometry.proofs.PieceLemmas.{owner_at, owners_apart, owner_ends, InImage}
+use Rattle.wild_geometry.proofs.SectionLemmas.{raw_role, right_or, filled_given}
+use Rattle.wild_geometry.proofs.PieceLemmas.{All-written, AllPairs-written, owner_at, owners_apart, owner_ends, InImage}
 
 -- ---- as one list
 
@@ -69,22 +68,48 @@ once_is l =
 abbrev pub HasSome : Front → Type 0
 HasSome x = 1 ≤ length x.bytes
 
+-- and they are written
+pub record IsWritten (l : Layout) (x : Front) : Type 0 where
+  pub some : HasSome x
+  pub written : is_hollow_part l x.part ≡ false
+
 -- in a raw part with data, all that the first group is given of it
+pub record FrontGiven (l : Layout) (x : Front) : Type 0 where
+  pub part : Part
+  pub listed : slice_get l.parts x.part ≡ Some part
+  pub raw : part.role ≡ role.Raw
+  pub holds : has_data l part.section ≡ true
+  pub within : length x.bytes ≤ part.size
+  pub fills : (g : Group) (gs : List Group) → l.groups ≡ g ∷ gs → given x.part g ≡ length x.bytes
+  pub has : has_front l x.part ≡ true
+
+-- in one that takes file bytes
 pub record FrontStands (l : Layout) (x : Front) : Type 0 where
   pub part : Part
   pub room : HasRoom l x.part part.address (length x.bytes) part
   pub fills : (g : Group) (gs : List Group) → l.groups ≡ g ∷ gs → given x.part g ≡ length x.bytes
   pub has : has_front l x.part ≡ true
 
+front_stands : (l : Layout) (x : Front) → FrontGiven l x → is_hollow_part l x.part ≡ false → FrontStands l x
+front_stands l x h written =
+    let here : is_hollow_at l h.part.section ≡ false = sym (ap (λ (o : Option Part). is_hollow_at l (section_of_part o)) h.listed) ∙ written in
+    let within = h.within in
+    record {
+      part = h.part;
+      room = record { listed = h.listed; raw = h.raw; takes = and_from (has_data l h.part.section) (not (is_hollow_at l h.part.section)) h.holds (rw here refl); from = omega arith; to = omega arith };
+      fills = h.fills;
+      has = h.has;
+    }
+
 abbrev Differ : Front → Front → Type 0
 Differ x y = HasSome x → HasSome y → x.part ≡ y.part → ⊥
 
 pub record FrontsStand (l : Layout) : Type 0 where
-  pub stood : All (λ x. HasSome x → FrontStands l x) (fronts l)
+  pub stood : All (λ x. IsWritten l x → FrontStands l x) (fronts l)
   pub differ : AllPairs Differ (fronts l)
 
-front_stands : (l : Layout) → Laid l → (x : Front) → HasSome x → (none : Bool) → none ≡ false → holds_bytes l none (slice_get l.parts x.part) ≡ true → fills_front l x.part (length x.bytes) ≡ true → has_front l x.part ≡ true → FrontStands l x
-front_stands l h x some none is_none holds fills has = by_part (slice_get l.parts x.part) refl holds
+front_given : (l : Layout) → Laid l → (x : Front) → HasSome x → (none : Bool) → none ≡ false → holds_bytes l none (slice_get l.parts x.part) ≡ true → fills_front l x.part (length x.bytes) ≡ true → has_front l x.part ≡ true → FrontGiven l x
+front_given l h x some none is_none holds fills has = by_part (slice_get l.parts x.part) refl holds
   where
     fills_by : (g : Group) (gs : List Group) → l.groups ≡ g ∷ gs → given x.part g ≡ length x.bytes
     fills_by g gs split =
@@ -98,16 +123,19 @@ front_stands l h x some none is_none holds fills has = by_part (slice_get l.part
         let whole = ap (total (given x.part)) split in
         omega arith
 
-    by_part : (o : Option Part) → slice_get l.parts x.part ≡ o → holds_bytes l none o ≡ true → FrontStands l x
+    by_part : (o : Option Part) → slice_get l.parts x.part ≡ o → holds_bytes l none o ≡ true → FrontGiven l x
     by_part None is t = cc
     by_part (Some p) is t =
-        let both = and_parts (is_raw (Some p)) (none || takes_file_bytes l p.section) t in
+        let both = and_parts (is_raw (Some p)) (none || has_data l p.section) t in
         let low = slice_get_within l.parts x.part p is in
         let size = size_from_shares l.groups 0 l.parts h.shares.sums x.part x.part p (omega arith) low ∙ ap (λ (q : Part). q.size) (get_or_from_slice_get l.parts x.part p p is) in
         let most = within l.groups refl h.counts.some_group in
         record {
           part = p;
-          room = record { listed = is; raw = raw_role p p.role refl both.0; takes = or_other none (takes_file_bytes l p.section) both.1 is_none; from = omega arith; to = omega arith };
+          listed = is;
+          raw = raw_role p p.role refl both.0;
+          holds = or_other none (has_data l p.section) both.1 is_none;
+          within = omega arith;
           fills = fills_by;
           has = has;
         }
@@ -125,19 +153,19 @@ left_or : (a b : Bool) → a ≡ true → (a || b) ≡ true
 left_or true b e = refl
 left_or false b e = cc
 
-merged_stands : (l : Layout) → Laid l → All (λ (m : Merged). HasSome (merged_front m) → FrontStands l (merged_front m)) l.merged
-merged_stands l h i m low some =
+merged_given : (l : Layout) → Laid l → All (λ (m : Merged). HasSome (merged_front m) → FrontGiven l (merged_front m)) l.merged
+merged_given l h i m low some =
     let x = get_or l.merged i m in
     let named = any_at (λ (y : Merged). y.part == x.part) l.merged i m low (eq-eqb x.part x.part refl) in
-    front_stands l h (merged_front x) some (0 == merged_size x) (ne_eqb 0 (merged_size x) (λ e. omega arith)) (h.inputs.merged i m low) (h.fronts.merged i m low) (left_or (list_any (λ (y : Merged). y.part == x.part) l.merged) (not (length l.identity.bytes == 0) && l.identity.part == x.part) named)
+    front_given l h (merged_front x) some (0 == merged_size x) (ne_eqb 0 (merged_size x) (λ e. omega arith)) (h.inputs.merged i m low) (h.fronts.merged i m low) (left_or (list_any (λ (y : Merged). y.part == x.part) l.merged) (not (length l.identity.bytes == 0) && l.identity.part == x.part) named)
 
-identity_stands : (l : Layout) → Laid l → HasSome (identity_front l) → FrontStands l (identity_front l)
-identity_stands l h some =
+identity_given : (l : Layout) → Laid l → HasSome (identity_front l) → FrontGiven l (identity_front l)
+identity_given l h some =
     let none = ne_eqb (length l.identity.bytes) 0 (λ e. omega arith) in
     let holds = or_other (length l.identity.bytes == 0) (holds_bytes l false (slice_get l.parts l.identity.part)) h.inputs.identity none in
     let fills = or_other (length l.identity.bytes == 0) (fills_front l l.identity.part (length l.identity.bytes)) h.fronts.identity none in
     let has = and_from (not (length l.identity.bytes == 0)) (l.identity.part == l.identity.part) (ap not none) (eq-eqb l.identity.part l.identity.part refl) in
-    front_stands l h (identity_front l) some false refl holds fills (right_or (list_any (λ (m : Merged). m.part == l.identity.part) l.merged) (not (length l.identity.bytes == 0) && l.identity.part == l.identity.part) has)
+    front_given l h (identity_front l) some false refl holds fills (right_or (list_any (λ (m : Merged). m.part == l.identity.part) l.merged) (not (length l.identity.bytes == 0) && l.identity.part == l.identity.part) has)
 
 -- ---- no two of one part
 
@@ -180,9 +208,11 @@ identity_differs l h = All-map (λ (x : Front). All (Differ x) (identity_front l
 
 pub FrontsStand-from_laid : (l : Layout) → Laid l → FrontsStand l
 FrontsStand-from_laid l h =
-    let P : Front → Type 0 = λ x. HasSome x → FrontStands l x in
+    let P : Front → Type 0 = λ x. IsWritten l x → FrontStands l x in
     record {
-      stood = All-append P (map merged_front l.merged) (identity_front l ∷ []) (All-map P merged_front l.merged (merged_stands l h)) (All-cons P (identity_front l) [] (identity_stands l h) (All-nil P));
+      stood = All-append P (map merged_front l.merged) (identity_front l ∷ [])
+          (All-map P merged_front l.merged (λ i m low w. front_stands l (merged_front (get_or l.merged i m)) (merged_given l h i m low w.some) w.written))
+          (All-cons P (identity_front l) [] (λ w. front_stands l (identity_front l) (identity_given l h w.some) w.written) (All-nil P));
       differ = AllPairs-append Differ (map merged_front l.merged) (identity_front l ∷ []) (merged_differ 0 l.merged h.fronts.shared) (AllPairs-cons Differ (identity_front l) [] (All-nil (Differ (identity_front l))) (AllPairs-nil Differ)) (identity_differs l h);
     }
 
@@ -200,50 +230,55 @@ front_is l x st =
     let place = ap (λ (o : Option Part). offset_in o p.address) listed ∙ here ∙ sym (ap offset_of_part listed) in
     ap (λ (n : ℕ). record { at = n; bytes = x.bytes }) place
 
-All-some : (P : Piece → Type 0) (at : ℕ) (bs : List ℕ) → (1 ≤ length bs → P (record { at = at; bytes = bs })) → All P (some_piece at bs)
+pub All-some : (P : Piece → Type 0) (at : ℕ) (bs : List ℕ) → (1 ≤ length bs → P (record { at = at; bytes = bs })) → All P (some_piece at bs)
 All-some P at bs h =
     elim (cases_Bool (length bs == 0)) [
       | inl t ↦ rw t (All-nil P)
       | inr f ↦ rw f (All-cons P (record { at = at; bytes = bs }) [] (h (let e = eqb-false (length bs) 0 f in omega arith)) (All-nil P))
     ]
 
-AllPairs-some : (R : Piece → Piece → Type 0) (at : ℕ) (bs : List ℕ) → AllPairs R (some_piece at bs)
+pub AllPairs-some : (R : Piece → Piece → Type 0) (at : ℕ) (bs : List ℕ) → AllPairs R (some_piece at bs)
 AllPairs-some R at bs =
     elim (cases_Bool (length bs == 0)) [
       | inl t ↦ rw t (λ i j d l m. absurd (omega arith))
       | inr f ↦ rw f (λ i j d l m. absurd (omega arith))
     ]
 
--- what holds of each that has bytes holds of their pieces
-pub each_front : (l : Layout) (P : Piece → Type 0) → All (λ (x : Front). HasSome x → P (front_at l x)) (fronts l) → All P (once_pieces l)
-each_front l P h =
-    subst (All P) (sym (once_is l)) (All-flat_map P (front_of l) (fronts l) (λ i x m. let y = get_or (fronts l) i x in All-some P (offset_of_part (slice_get l.parts y.part)) y.bytes (h i x m)))
+-- the piece of one
+of_front : (l : Layout) (P : Piece → Type 0) (x : Front) → (IsWritten l x → P (front_at l x)) → All P (front_of l x)
+of_front l P x h =
+    All-written P (is_hollow_part l x.part) (some_piece (offset_of_part (slice_get l.parts x.part)) x.bytes) (λ written.
+    All-some P (offset_of_part (slice_get l.parts x.part)) x.bytes (λ some. h (record { some = some; written = written })))
 
-two_fronts : (l : Layout) → AllPairs (Follows l) l.parts → FrontsStand l → (i j : ℕ) (d : Front) → i < j → j < length (fronts l) → HasSome (get_or (fronts l) i d) → HasSome (get_or (fronts l) j d) → Apart (front_at l (get_or (fronts l) i d)) (front_at l (get_or (fronts l) j d))
+-- what holds of each that is written holds of their pieces
+pub each_front : (l : Layout) (P : Piece → Type 0) → All (λ (x : Front). IsWritten l x → P (front_at l x)) (fronts l) → All P (once_pieces l)
+each_front l P h = subst (All P) (sym (once_is l)) (All-flat_map P (front_of l) (fronts l) (λ i x m. of_front l P (get_or (fronts l) i x) (h i x m)))
+
+two_fronts : (l : Layout) → AllPairs (Follows l) l.parts → FrontsStand l → (i j : ℕ) (d : Front) → i < j → j < length (fronts l) → IsWritten l (get_or (fronts l) i d) → IsWritten l (get_or (fronts l) j d) → Apart (front_at l (get_or (fronts l) i d)) (front_at l (get_or (fronts l) j d))
 two_fronts l f h i j d lt m some other =
     let x = get_or (fronts l) i d in
     let y = get_or (fronts l) j d in
     let a = h.stood i d (omega arith) some in
     let b = h.stood j d m other in
-    let apart = owners_apart l f x.part y.part a.part.address b.part.address x.bytes y.bytes a.part b.part a.room b.room (λ e. absurd (h.differ i j d lt m some other e)) in
+    let apart = owners_apart l f x.part y.part a.part.address b.part.address x.bytes y.bytes a.part b.part a.room b.room (λ e. absurd (h.differ i j d lt m some.some other.some e)) in
     subst (λ (p : Piece). Apart p (front_at l y)) (front_is l x a) (subst (Apart (owner_at l x.part a.part.address x.bytes)) (front_is l y b) apart)
 
 pub fronts_apart : (l : Layout) → AllPairs (Follows l) l.parts → FrontsStand l → AllPairs Apart (once_pieces l)
 fronts_apart l f h =
     subst (AllPairs Apart) (sym (once_is l))
     (AllPairs-flat_map Apart (front_of l) (fronts l)
-    (λ i x m. let y = get_or (fronts l) i x in AllPairs-some Apart (offset_of_part (slice_get l.parts y.part)) y.bytes)
+    (λ i x m. (let y = get_or (fronts l) i x in let at = offset_of_part (slice_get l.parts y.part) in AllPairs-written Apart (is_hollow_part l y.part) (some_piece at y.bytes) (λ written. AllPairs-some Apart at y.bytes)))
     (λ i j d lt m.
     let x = get_or (fronts l) i d in
     let y = get_or (fronts l) j d in
-    All-some (λ a. All (Apart a) (front_of l y)) (offset_of_part (slice_get l.parts x.part)) x.bytes (λ some.
-    All-some (Apart (front_at l x)) (offset_of_part (slice_get l.parts y.part)) y.bytes (λ other. two_fronts l f h i j d lt m some other))))
+    of_front l (λ a. All (Apart a) (front_of l y)) x (λ some.
+    of_front l (Apart (front_at l x)) y (λ other. two_fronts l f h i j d lt m some other))))
 
 front_ends : (l : Layout) (x : Front) (st : FrontStands l x) → HasSome x → InImage l (front_at l x)
 front_ends l x st some = subst (InImage l) (front_is l x st) (owner_ends l (EndsBy-image l) x.part st.part.address (length x.bytes) st.part st.room some)
 
 pub fronts_within : (l : Layout) → FrontsStand l → All (InImage l) (once_pieces l)
-fronts_within l h = each_front l (InImage l) (λ i x m some. front_ends l (get_or (fronts l) i x) (h.stood i x m some) some)
+fronts_within l h = each_front l (InImage l) (λ i x m w. front_ends l (get_or (fronts l) i x) (h.stood i x m w) w.some)
 
 -- ---- nothing else of the first group stands there, and the others' stand behind
 
@@ -260,9 +295,9 @@ absurd_or false b h t u = cc
 
 filled_takes : (l : Layout) (s : InputSection) → is_filled l s ≡ true → takes_bytes l s ≡ true
 filled_takes l s h =
-    let both = and_parts (has_range s.slot) (has_bytes l s) h in
+    let both = and_parts (has_range s.slot) (has_bytes l s) (filled_given l s h) in
     let ranges = both.0 in
-    right_or (not (length s.bytes == 0)) (owns_bytes l s) (and_from (has_range s.slot || has_counted s.slot) (has_bytes l s) (rw ranges refl) both.1)
+    right_or (not (length s.bytes == 0)) (brings_bytes l s) (and_from (has_range s.slot || has_counted s.slot) (has_bytes l s) (rw ranges refl) both.1)
 
 abbrev StandsBehind : Layout → Front → ℕ → InputSection → Type 0
 StandsBehind l x at s = is_filled l s ≡ true → s.part ≡ x.part → at + length x.bytes ≤ s.address
@@ -288,7 +323,7 @@ sections_behind l h x st = by l.groups refl
         let address = ap (λ (q : Part). q.address) same in
         let run = Run-behind l g gs (subst (λ (hs : List Group). section_misplaced l (map (λ (q : Part). q.address) l.parts) 0 hs ≡ None) split h.inputs.order) x.part st.part low in
         let fills = st.fills g gs split in
-        λ i s m filled at. (let from = run i s m (and_from (is_filled l (get_or (flat_map (sections_in l) gs) i s)) ((get_or (flat_map (sections_in l) gs) i s).part == x.part) filled (eq-eqb _ _ at)) in omega arith)
+        λ i s m filled at. (let from = run i s m (and_from (is_given l (get_or (flat_map (sections_in l) gs) i s)) ((get_or (flat_map (sections_in l) gs) i s).part == x.part) (filled_given l (get_or (flat_map (sections_in l) gs) i s) filled) (eq-eqb _ _ at)) in omega arith)
 
     by : (gs : List Group) → l.groups ≡ gs → All P (all_sections l)
     by [] split = subst (λ (hs : List Group). All P (flat_map (sections_in l) hs)) (sym split) (All-nil P)
@@ -308,20 +343,26 @@ no_thunks_there l h x st same g gs split i f m =
 
 -- ---- the whole
 
-pub FrontLies-from_stood : (l : Layout) (k : ℕ) (bs : List ℕ) (p : Part) → slice_get l.parts k ≡ Some p → is_raw (Some p) ≡ true → (1 ≤ length bs → FrontStands l (record { part = k; bytes = bs })) → FrontLies l k bs
-FrontLies-from_stood l k bs p is raw stood = record {
+FrontLies-from_given : (l : Layout) (k : ℕ) (bs : List ℕ) (p : Part) → slice_get l.parts k ≡ Some p → is_raw (Some p) ≡ true → (1 ≤ length bs → FrontGiven l (record { part = k; bytes = bs })) → FrontLies l k bs
+FrontLies-from_given l k bs p is raw given = record {
   part = p;
   listed = is;
   raw = raw_role p p.role refl raw;
-  takes = λ some. (let st = stood some in subst (λ (q : Part). takes_file_bytes l q.section ≡ true) (same_part st) st.room.takes);
+  holds = λ some. (let g = given some in subst (λ (q : Part). has_data l q.section ≡ true) (same_part g) g.holds);
   within = within (cases_none (length bs));
-  ends = λ some. (let st = stood some in let e = front_ends l (record { part = k; bytes = bs }) st some in let place = ap offset_of_part is in omega arith);
+  ends = λ some written. (
+      let here : is_hollow_part l k ≡ false = ap (λ (o : Option Part). is_hollow_at l (section_of_part o)) is ∙ written in
+      let st = front_stands l (record { part = k; bytes = bs }) (given some) here in
+      let e = front_ends l (record { part = k; bytes = bs }) st some in
+      let place = ap offset_of_part is in
+      omega arith
+      );
 }
   where
-    same_part : (st : FrontStands l (record { part = k; bytes = bs })) → st.part ≡ p
-    same_part st = same (sym st.room.listed ∙ is)
+    same_part : (g : FrontGiven l (record { part = k; bytes = bs })) → g.part ≡ p
+    same_part g = same (sym g.listed ∙ is)
       where
-        same : Some st.part ≡ Some p → st.part ≡ p
+        same : Some g.part ≡ Some p → g.part ≡ p
         same e = cc
 
     cases_none : (n : ℕ) → (n ≡ 0) ⊎ (1 ≤ n)
@@ -330,20 +371,20 @@ FrontLies-from_stood l k bs p is raw stood = record {
 
     within : (length bs ≡ 0) ⊎ (1 ≤ length bs) → length bs ≤ p.size
     within (inl none) = omega arith
-    within (inr some) = (let st = stood some in let to = st.room.to in let size = ap (λ (q : Part). q.size) (same_part st) in let at = ap (λ (q : Part). q.address) (same_part st) in omega arith)
+    within (inr some) = (let g = given some in let fits = g.within in let size = ap (λ (q : Part). q.size) (same_part g) in omega arith)
 
 part_of : (l : Layout) (none : Bool) (o : Option Part) → holds_bytes l none o ≡ true → (p : Part) × (o ≡ Some p) × (is_raw (Some p) ≡ true)
 part_of l none None h = cc
-part_of l none (Some p) h = (p, refl, (and_parts (is_raw (Some p)) (none || takes_file_bytes l p.section) h).0)
+part_of l none (Some p) h = (p, refl, (and_parts (is_raw (Some p)) (none || has_data l p.section) h).0)
 
 pub merged_lies : (l : Layout) → Laid l → All (λ (m : Merged). FrontLies l m.part (merged_bytes m)) l.merged
 merged_lies l h i m low =
     let x = get_or l.merged i m in
     let there = part_of l (0 == merged_size x) (slice_get l.parts x.part) (h.inputs.merged i m low) in
-    FrontLies-from_stood l x.part (merged_bytes x) there.0 there.1 there.2 (merged_stands l h i m low)
+    FrontLies-from_given l x.part (merged_bytes x) there.0 there.1 there.2 (merged_given l h i m low)
 
 pub identity_lies : (l : Layout) → Laid l → 1 ≤ length l.identity.bytes → FrontLies l l.identity.part l.identity.bytes
 identity_lies l h some =
     let none = ne_eqb (length l.identity.bytes) 0 (λ e. omega arith) in
     let there = part_of l false (slice_get l.parts l.identity.part) (or_other (length l.identity.bytes == 0) (holds_bytes l false (slice_get l.parts l.identity.part)) h.inputs.identity none) in
-    FrontLies-from_stood l l.identity.part l.identity.bytes there.0 there.1 there.2 (identity_stands l h)
+    FrontLies-from_given l l.identity.part l.identity.bytes there.0 there.1 there.2 (identity_given l h)

@@ -2,10 +2,10 @@
 use Rattle.std.proofs.lemmas.Option.{slice_get-get_or}
 use Rattle.wild_layout.proofs.SiteLemmas.{Contains-flat_map}
 use Rattle.wild_records.specs.Abi.Section.{shf_write, shf_execinstr}
-use Rattle.wild_layout.specs.TablePlaces.{table_bytes, bytes_before}
+use Rattle.wild_layout.specs.TablePlaces.{table_bytes}
 use Rattle.wild_layout.specs.Content.{content, frame_bytes_of, frames_bytes, end_of_frames}
 use Rattle.wild_types.specs.FilePlaces.{bool_eq, file_placed, later_placed, files_placed, file_misplaced}
-use Rattle.std.proofs.Common.{◌≡◌, ℕ, zero, suc, ◌+◌, ◌-◌, ◌%◌, ◌^◌, ◌<◌, ◌≤◌, inl, inr, Bool, true, false, if◌then◌else◌, List, [], ◌∷◌, ◌++◌, length, map, take, get_or, refl, sym, ap, ◌∙◌, arith, subst}
+use Rattle.std.proofs.Common.{◌≡◌, ℕ, zero, suc, ◌+◌, ◌-◌, ◌%◌, ◌^◌, ◌≤◌, inl, inr, Bool, true, false, if◌then◌else◌, List, [], ◌∷◌, ◌++◌, length, take, refl, sym, ap, ◌∙◌, arith, subst}
 use Rattle.std.specs.Prelude.{All, Contains, Option, Some, None, slice_get, not, ◌&&◌, ◌==◌}
 use Rattle.std.specs.List.{flat_map}
 use Rattle.std.proofs.lemmas.Bool.{cases_Bool, and_parts}
@@ -28,7 +28,8 @@ use Rattle.wild_types.specs.declared.layout.Layout.{Layout}
 use Rattle.wild_types.specs.Item.{Item, item_of}
 use Rattle.wild_types.specs.Kinds.{is_partial_link}
 use Rattle.wild_types.specs.Lists.{total}
-use Rattle.wild_types.specs.Lookups.{is_read, is_frame, is_counted, allocated, has_address, files_of, file_of, bit}
+use Rattle.wild_types.specs.Hollow.{is_dropped}
+use Rattle.wild_types.specs.Lookups.{is_read, is_frame, is_hollow_part, is_counted, allocated, files_of, file_of, bit}
 use Rattle.wild_types.specs.FileRoles.{is_epilogue, is_prelude}
 use Rattle.wild_types.specs.Parts.{part_with}
 use Rattle.wild_types.specs.Rows.{field_bytes}
@@ -36,14 +37,15 @@ use Rattle.wild_frames.specs.declared.frames.Target.{Target}
 use Rattle.wild_frames.specs.Frames.{Frames, frame_bytes}
 use Rattle.wild_laid.specs.Turned.{turned, as_turned}
 use Rattle.wild_laid.specs.FrameInputs.{has_symbol, home_of, target_in, target_at, symbol_target, target_by, target_of, frames_of, kept_size, section_target}
-use Rattle.wild_laid.specs.Laid.{Input, framed, laid_by, laid_section, laid_sections, laid_file, laid_from, laid_files, file_frames, frames_at, behind, part_address, sorted_inputs, as_loaded, unread, processed, of_last_file, sorted_sections, frame_flags, laid_relocations}
+use Rattle.wild_laid.specs.Laid.{Input, framed, laid_by, laid_section, laid_sections, laid_file, laid_from, laid_files, file_frames, frames_at, behind, part_address, sorted_inputs, as_loaded, processed, of_last_file, sorted_sections, frame_flags, laid_relocations}
 use Rattle.wild_laid.proofs.PlainLemmas.{unread_linked}
 use Rattle.wild_layout.specs.SectionPlaces.{HasWords, SectionLies}
 use Rattle.wild_layout.specs.Geometry.{IsLaidOut}
 use Rattle.wild_meaning.specs.Frames.{code_in, code_at, code_by, code_of, frames_in, kept_bytes, kept_of_file, IsFrameInput, frames_item, frames_item_of, frames_address, code_section, kept_by, without, address_of_part}
 use Rattle.wild_meaning.specs.Item.{IsInput, IsLoadedSlot, IsKeptSection, stood_item, IsKept, OfSection, OfFrames}
 use Rattle.wild_meaning.proofs.BitLemmas.{alloc_bit}
-use Rattle.wild_geometry.specs.Laid.{IsOf, Own, Ordered, IsLaid, IsKeptLaid, IsLaidItem, KeptIsLaid}
+use Rattle.wild_geometry.specs.Laid.{Own, Ordered, IsLaid, IsLaidItem, KeptIsLaid}
+use Rattle.wild_geometry.proofs.HollowLemmas.{part_is_written, role_is_written}
 use Rattle.wild_geometry.proofs.StoodSections.{laid_of, laid_section_of, each_at}
 use Rattle.wild_geometry.proofs.TurnedItems.{turned_item}
 use Rattle.wild_geometry.proofs.FrameSizes.{sections_size, group_given}
@@ -73,6 +75,15 @@ turned_flags s = by s.reversed
     by true = refl
     by false = refl
 
+-- it is written, where its part is
+turned_written : (l : Layout) (s : InputSection) → is_frame s.slot ≡ false → is_hollow_part l s.part ≡ false → is_dropped l (as_turned s) ≡ false
+unfolding as_turned
+turned_written l s plain written = by s.reversed
+  where
+    by : (b : Bool) → is_dropped l (if b then turned s else s) ≡ false
+    by true = rw (plain, written) refl
+    by false = rw (plain, written) refl
+
 laid_loaded : (l : Layout) (f : File) (at : ℕ) (s : InputSection) → is_partial_link l.kind ≡ false → s.slot ≡ slot.Loaded → laid_section l f at s ≡ as_turned s
 unfolding laid_section
 laid_loaded l f at s kind e = ap (λ (k : Slot). laid_by k l f at s) e ∙ ap as_turned (unread_linked l s kind)
@@ -98,6 +109,7 @@ loaded_item l item s kind laid k e is =
         input = record { group = g; grouped = k.input.grouped; file = laid_file l a.0 f; filed = a.1; owner = laid_file l a.0 f; listed = Own refl c.1 };
         reads = subst (λ (x : InputSection). is_read x ≡ true) (sym same) (turned_reads s e n);
         room = λ plain. subst (λ (x : InputSection). allocated x.flags ≡ true) (sym same) (subst (λ (y : ℕ). allocated y ≡ true) (sym (turned_flags s)) (alloc_bit s.flags k.room));
+        written = subst (λ (x : InputSection). is_dropped l x ≡ false) (sym same) (turned_written l s (ap is_frame e) (part_is_written l s.part k.written));
       };
       is = is ∙ sym here ∙ ap (λ (x : InputSection). item_of l f x) (sym same);
     }
@@ -167,6 +179,7 @@ sorted_item l item s kind laid k e is =
         input = record { group = last.group; grouped = last.grouped; file = laid_file l a.0 last.file; filed = a.1; owner = f; listed = Ordered last.last (record { file = f; section = as_loaded s }) (is_sorted l s kind laid k.input e) refl refl };
         reads = turned_reads (as_loaded s) refl n;
         room = λ plain. subst (λ (y : ℕ). allocated y ≡ true) (sym (turned_flags (as_loaded s))) (alloc_bit s.flags k.room);
+        written = turned_written l (as_loaded s) refl (part_is_written l s.part k.written);
       };
       is = is ∙ sym here;
     }
@@ -460,7 +473,12 @@ frames_kept l item s laid k is =
     let at : found.at ≡ frames_address l s k = omega (arith, small, here, low, e) in
     record {
       section = t;
-      kept = record { input = input; reads = framed_reads t l k.file found.at s same; room = λ plain. absurd (let frame : is_frame t.slot ≡ true = ap (λ (x : InputSection). is_frame x.slot) same in let both : true ≡ false = sym frame ∙ plain in cc) };
+      kept = record {
+        input = input;
+        reads = framed_reads t l k.file found.at s same;
+        room = λ plain. absurd (let frame : is_frame t.slot ≡ true = ap (λ (x : InputSection). is_frame x.slot) same in let both : true ≡ false = sym frame ∙ plain in cc);
+        written = ap (is_dropped l) same ∙ role_is_written l role.EhFrame k.written;
+      };
       is = is ∙ sym (framed_item l k.file found.base found.at (frames_address l s k) s laid (file_listed l s k k.file (file_here l s k)) at) ∙ ap (λ (x : InputSection). item_of l (laid_file l found.base k.file) x) (sym same);
     }
 

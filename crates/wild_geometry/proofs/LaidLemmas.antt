@@ -13,7 +13,7 @@ use Rattle.wild_clauses.specs.GroupStarts.{start_places, no_starts, start_astray
 use Rattle.wild_clauses.specs.Indexes.{part_index_fits, primary_is_there, thunks_are_there, symbol_misfit, group_indexes_fit, listed_misfit, sorted_is_there, merged_is_there, identity_is_there, entry_is_there, definition_is_own, range_out_of_order}
 use Rattle.wild_types.specs.FileSymbols.{copied_again}
 use Rattle.wild_clauses.specs.VersionTables.{parent_is_there}
-use Rattle.wild_clauses.specs.Fronts.{reversed_fits, merged_fits, identity_fills, front_shared, identity_is_alone}
+use Rattle.wild_clauses.specs.Fronts.{reversed_fits, merged_fits, identity_fills, front_shared, identity_is_alone, keeps_tables, dynamic_is_dropped, headers_are_kept}
 use Rattle.wild_clauses.specs.ClauseTests.{fails, check_inputs, check_indexes, check_fields, check_thunks, check_tls, check_starts, check_reversed, check_partial, check_fronts}
 use Rattle.wild_clauses.specs.Thunks.{ascends, thunks_misplaced, block_lost, machine_takes}
 use Rattle.wild_clauses.specs.Partial.{has_no_segments, has_no_slot, has_no_pair, has_no_thunks, lists_no_symbols, has_no_index, is_no_debug, is_of_kind, tables_fit, group_fits_members, table_has_data}
@@ -183,8 +183,11 @@ PartialHolds-from_check l h =
 pub record FrontsHold (l : Layout) : Type 0 where
   pub merged : All (λ m. merged_fits l m ≡ true) l.merged
   pub identity : identity_fills l ≡ true
+  pub tables : keeps_tables l ≡ true
+  pub dropped : All (λ p. dynamic_is_dropped l p ≡ true) l.parts
   pub shared : front_shared 0 l.merged ≡ None
   pub alone : identity_is_alone l ≡ true
+  pub headers : All (λ p. headers_are_kept l p ≡ true) l.parts
 
 pub FrontsHold-from_check : (l : Layout) → check_fronts l ≡ Ok tt → FrontsHold l
 unfolding check_fronts
@@ -193,12 +196,17 @@ FrontsHold-from_check l h =
     let b = Both-from_first_error _ _ a.rest in
     let c = Both-from_first_error _ _ b.rest in
     let o = Both-from_first_error _ _ c.rest in
-    let d = Both-from_first_error _ _ o.rest in
+    let e = Both-from_first_error _ _ o.rest in
+    let d = Both-from_first_error _ _ e.rest in
+    let f = Both-from_first_error _ _ d.rest in
     record {
       merged = All-from_none_fails (merged_fits l) 0 l.merged (None-from_fails 22 _ a.first);
       identity = holds_from_unless (identity_fills l) (None-from_fails 22 _ b.first);
+      tables = holds_from_unless (keeps_tables l) (None-from_fails 22 _ o.first);
+      dropped = All-from_none_fails (dynamic_is_dropped l) 0 l.parts (None-from_fails 22 _ e.first);
       shared = None-from_fails 22 _ d.first;
-      alone = holds_from_unless (identity_is_alone l) (None-from_fails 22 _ d.rest);
+      alone = holds_from_unless (identity_is_alone l) (None-from_fails 22 _ f.first);
+      headers = All-from_none_fails (headers_are_kept l) 0 l.parts (None-from_fails 22 _ f.rest);
     }
 
 -- ---- all of them, and the shares

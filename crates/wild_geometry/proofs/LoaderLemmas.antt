@@ -13,10 +13,11 @@ use Rattle.wild_types.specs.declared.part.Role.TheVariants as role
 use Rattle.wild_types.specs.declared.section.Segment.{Segment}
 use Rattle.wild_types.specs.declared.layout.Layout.{Layout}
 use Rattle.wild_types.specs.Kinds.{needs_dynamic, is_fixed_static}
+use Rattle.wild_types.specs.Lookups.{is_hollow_at}
 use Rattle.wild_types.specs.Parts.{role_place, has_role, part_with, is_table_role, is_look_up_role, has_hashes}
 use Rattle.wild_clauses.specs.Places.{within}
-use Rattle.wild_clauses.specs.Segments.{is_segment_of, dynamic_astray}
-use Rattle.wild_clauses.specs.LoadedTables.{begins_behind, entries_follow, rest_of_table, is_asked_whole, carries_part, carries_rest, carries_table, table_is_loaded}
+use Rattle.wild_clauses.specs.Segments.{size_in_file, is_segment_of, dynamic_astray}
+use Rattle.wild_clauses.specs.LoadedTables.{begins_behind, entries_follow, rest_of_table, is_asked_whole, holds_part, carries_part, carries_rest, carries_table, table_is_loaded}
 use Rattle.wild_layout.specs.Loadable.{IsStatic, HasSegment, IsCarriedWhole, BeginsBehind, AreCarriedTogether}
 use Rattle.wild_geometry.proofs.LaidLemmas.{Laid}
 use Rattle.wild_geometry.proofs.RoleLemmas.{FoundAt-from_find, no_count, nothing_shared}
@@ -28,48 +29,48 @@ use Rattle.wild_geometry.proofs.TableLemmas.{same_role}
 
 -- ---- the segment of the dynamic section
 
-pub all_static : (i : ℕ) (gs : List Segment) → dynamic_astray None i gs ≡ None → All IsStatic gs
-all_static i [] h = All-nil IsStatic
-all_static i (g ∷ gs) h =
+pub all_static : (l : Layout) (i : ℕ) (gs : List Segment) → dynamic_astray l None i gs ≡ None → All IsStatic gs
+all_static l i [] h = All-nil IsStatic
+all_static l i (g ∷ gs) h =
     elim (cases_Bool (g.kind == pt_dynamic)) [
       | inl t ↦ cc (rw t at h)
-      | inr f ↦ All-cons IsStatic g gs (eqb-false g.kind pt_dynamic f) (all_static (i + 1) gs (rw f at h))
+      | inr f ↦ All-cons IsStatic g gs (eqb-false g.kind pt_dynamic f) (all_static l (i + 1) gs (rw f at h))
     ]
 
 -- the first segment of type PT_DYNAMIC, which is that of the part
-record SegmentOf (p : Part) (gs : List Segment) : Type 0 where
+record SegmentOf (l : Layout) (p : Part) (gs : List Segment) : Type 0 where
   segment : Segment
   first : find (λ (g : Segment). g.kind == pt_dynamic) gs ≡ Some segment
-  is : is_segment_of (Some p) segment ≡ true
+  is : is_segment_of l (Some p) segment ≡ true
 
-segment_of_part : (p : Part) (i : ℕ) (gs : List Segment) → dynamic_astray (Some p) i gs ≡ None → SegmentOf p gs
-segment_of_part p i [] h = cc
-segment_of_part p i (g ∷ gs) h =
+segment_of_part : (l : Layout) (p : Part) (i : ℕ) (gs : List Segment) → dynamic_astray l (Some p) i gs ≡ None → SegmentOf l p gs
+segment_of_part l p i [] h = cc
+segment_of_part l p i (g ∷ gs) h =
     elim (cases_Bool (g.kind == pt_dynamic)) [
       | inl t ↦
-          elim (cases_Bool (is_segment_of (Some p) g)) [
+          elim (cases_Bool (is_segment_of l (Some p) g)) [
             | inl s ↦ record { segment = g; first = rw t refl; is = s }
             | inr f ↦ cc (rw (t, f) at h)
           ]
       | inr f ↦
-          (let rest = segment_of_part p (i + 1) gs (rw f at h) in
+          (let rest = segment_of_part l p (i + 1) gs (rw f at h) in
           record { segment = rest.segment; first = rw f rest.first; is = rest.is })
     ]
 
 pub HasSegment-from_laid : (l : Layout) → Laid l → (p : Part) → part_with role.Dynamic l.parts ≡ Some p → HasSegment l p
 HasSegment-from_laid l h p there =
-    let P : Option Part → Type 0 = λ o. dynamic_astray o 0 l.segments ≡ None in
-    let s = segment_of_part p 0 l.segments (subst P there h.segments.dynamic) in
+    let P : Option Part → Type 0 = λ o. dynamic_astray l o 0 l.segments ≡ None in
+    let s = segment_of_part l p 0 l.segments (subst P there h.segments.dynamic) in
     let g = s.segment in
-    let a = and_parts (g.offset == p.offset && g.address == p.address && g.file_size == p.size) (g.mem_size == p.size) s.is in
-    let b = and_parts (g.offset == p.offset && g.address == p.address) (g.file_size == p.size) a.0 in
+    let a = and_parts (g.offset == p.offset && g.address == p.address && g.file_size == size_in_file l p) (g.mem_size == p.size) s.is in
+    let b = and_parts (g.offset == p.offset && g.address == p.address) (g.file_size == size_in_file l p) a.0 in
     let c = and_parts (g.offset == p.offset) (g.address == p.address) b.0 in
     record { segment = g; first = s.first; offset = eqb-true _ _ c.0; address = eqb-true _ _ c.1; file_size = eqb-true _ _ b.1; mem_size = eqb-true _ _ a.1 }
 
 pub all_static_from_laid : (l : Layout) → Laid l → part_with role.Dynamic l.parts ≡ None → All IsStatic l.segments
 all_static_from_laid l h none =
-    let P : Option Part → Type 0 = λ o. dynamic_astray o 0 l.segments ≡ None in
-    all_static 0 l.segments (subst P none h.segments.dynamic)
+    let P : Option Part → Type 0 = λ o. dynamic_astray l o 0 l.segments ≡ None in
+    all_static l 0 l.segments (subst P none h.segments.dynamic)
 
 -- ---- an executable that is loaded at its own addresses
 
@@ -111,8 +112,8 @@ dynamic_part l h needs = by (part_with role.Dynamic l.parts) refl
 record CarriesTable (l : Layout) (p : Part) (rest : Option Part) : Type 0 where
   segment : Segment
   listed : Contains l.segments segment
-  part : carries_part p segment ≡ true
-  behind : carries_rest rest segment ≡ true
+  part : carries_part l p segment ≡ true
+  behind : carries_rest l rest segment ≡ true
 
 table_carried : (l : Layout) → Laid l → needs_dynamic l.kind ≡ true → (r : Role) (p : Part) → is_asked_whole l r ≡ true → part_with r l.parts ≡ Some p → 1 ≤ p.size → CarriesTable l p (rest_of_table l.parts p)
 table_carried l h needs r p asked there some =
@@ -123,9 +124,9 @@ table_carried l h needs r p asked there some =
     let whole = ap (is_asked_whole l) is ∙ asked in
     let size = ne_eqb p.size 0 (λ e. omega arith) in
     let none : (not (needs_dynamic l.kind) || not (is_asked_whole l p.role) || p.size == 0) ≡ false = rw (needs, whole, size) refl in
-    let test = carries_table p (rest_of_table l.parts p) in
+    let test = carries_table l p (rest_of_table l.parts p) in
     let found = Found-from_list_any test l.segments (or_other (not (needs_dynamic l.kind) || not (is_asked_whole l p.role) || p.size == 0) (list_any test l.segments) loaded none) in
-    let both = and_parts (carries_part p found.item) (carries_rest (rest_of_table l.parts p) found.item) found.passes in
+    let both = and_parts (carries_part l p found.item) (carries_rest l (rest_of_table l.parts p) found.item) found.passes in
     record { segment = found.item; listed = found.listed; part = both.0; behind = both.1 }
 
 -- what it says that a segment has a part
@@ -135,27 +136,27 @@ record HasPart (p : Part) (g : Segment) : Type 0 where
   high : p.offset + p.size ≤ g.offset + g.file_size
   level : p.offset + g.address ≡ p.address + g.offset
 
-HasPart-from_test : (p : Part) (g : Segment) → carries_part p g ≡ true → HasPart p g
-HasPart-from_test p g h =
-    let a = and_parts (g.kind == pt_load && within g.offset g.file_size p.offset p.size) (p.offset + g.address == p.address + g.offset) h in
-    let b = and_parts (g.kind == pt_load) (within g.offset g.file_size p.offset p.size) a.0 in
-    let c = and_parts (nat_le g.offset p.offset) (nat_le (p.offset + p.size) (g.offset + g.file_size)) b.1 in
-    record { loaded = eqb-true _ _ b.0; low = leb-true _ _ c.0; high = leb-true _ _ c.1; level = eqb-true _ _ a.1 }
+HasPart-from_test : (l : Layout) (p : Part) (g : Segment) → is_hollow_at l p.section ≡ false → carries_part l p g ≡ true → HasPart p g
+HasPart-from_test l p g written h =
+    let a = and_parts (g.kind == pt_load) (holds_part l p g) h in
+    let b = and_parts (within g.offset g.file_size p.offset p.size) (p.offset + g.address == p.address + g.offset) (rw written at a.1) in
+    let c = and_parts (nat_le g.offset p.offset) (nat_le (p.offset + p.size) (g.offset + g.file_size)) b.0 in
+    record { loaded = eqb-true _ _ a.0; low = leb-true _ _ c.0; high = leb-true _ _ c.1; level = eqb-true _ _ b.1 }
 
-whole_carried : (l : Layout) → Laid l → needs_dynamic l.kind ≡ true → (r : Role) (p : Part) → is_asked_whole l r ≡ true → part_with r l.parts ≡ Some p → 1 ≤ p.size → IsCarriedWhole l p
-whole_carried l h needs r p asked there some =
+whole_carried : (l : Layout) → Laid l → needs_dynamic l.kind ≡ true → (r : Role) (p : Part) → is_asked_whole l r ≡ true → part_with r l.parts ≡ Some p → is_hollow_at l p.section ≡ false → 1 ≤ p.size → IsCarriedWhole l p
+whole_carried l h needs r p asked there written some =
     let c = table_carried l h needs r p asked there some in
-    let has = HasPart-from_test p c.segment c.part in
+    let has = HasPart-from_test l p c.segment written c.part in
     let low = has.low in
     let high = has.high in
     let level = has.level in
     record { segment = c.segment; listed = c.listed; loaded = has.loaded; from = omega arith; to = omega arith; distance = omega arith }
 
-pub table_carried_whole : (l : Layout) → Laid l → needs_dynamic l.kind ≡ true → (r : Role) (p : Part) → is_table_role r ≡ true → part_with r l.parts ≡ Some p → 1 ≤ p.size → IsCarriedWhole l p
+pub table_carried_whole : (l : Layout) → Laid l → needs_dynamic l.kind ≡ true → (r : Role) (p : Part) → is_table_role r ≡ true → part_with r l.parts ≡ Some p → is_hollow_at l p.section ≡ false → 1 ≤ p.size → IsCarriedWhole l p
 table_carried_whole l h needs r p table = whole_carried l h needs r p (rw table refl)
 
 -- the tables in which names are looked up
-pub look_up_carried_whole : (l : Layout) → Laid l → needs_dynamic l.kind ≡ true → has_hashes l ≡ true → (r : Role) (p : Part) → is_look_up_role r ≡ true → part_with r l.parts ≡ Some p → 1 ≤ p.size → IsCarriedWhole l p
+pub look_up_carried_whole : (l : Layout) → Laid l → needs_dynamic l.kind ≡ true → has_hashes l ≡ true → (r : Role) (p : Part) → is_look_up_role r ≡ true → part_with r l.parts ≡ Some p → is_hollow_at l p.section ≡ false → 1 ≤ p.size → IsCarriedWhole l p
 look_up_carried_whole l h needs hashes r p look = whole_carried l h needs r p (either (is_table_role r) (is_look_up_role r) (has_hashes l) look hashes)
   where
     either : (a b c : Bool) → b ≡ true → c ≡ true → (a || (b && c)) ≡ true
@@ -174,16 +175,16 @@ BeginsBehind-from_laid l h p q first second =
     let both = and_parts (q.offset == p.offset + p.size) (q.address == p.address + p.size) (subst Q first behind) in
     record { offset = eqb-true _ _ both.0; address = eqb-true _ _ both.1 }
 
-pub AreCarriedTogether-from_laid : (l : Layout) → Laid l → needs_dynamic l.kind ≡ true → (p q : Part) → part_with role.RelaDynRelative l.parts ≡ Some p → part_with role.RelaDynGeneral l.parts ≡ Some q → 1 ≤ p.size → 1 ≤ q.size → AreCarriedTogether l p q
-AreCarriedTogether-from_laid l h needs p q first second some more =
+pub AreCarriedTogether-from_laid : (l : Layout) → Laid l → needs_dynamic l.kind ≡ true → (p q : Part) → part_with role.RelaDynRelative l.parts ≡ Some p → part_with role.RelaDynGeneral l.parts ≡ Some q → is_hollow_at l p.section ≡ false → is_hollow_at l q.section ≡ false → 1 ≤ p.size → 1 ≤ q.size → AreCarriedTogether l p q
+AreCarriedTogether-from_laid l h needs p q first second written other some more =
     let c = table_carried l h needs role.RelaDynRelative p refl first some in
     let g = c.segment in
     let f = FoundAt-from_find (has_role role.RelaDynRelative) l.parts p first in
     let rest : rest_of_table l.parts p ≡ Some q = rw f.passes second in
-    let P : Option Part → Type 0 = λ o. carries_rest o g ≡ true in
-    let passes = or_other (q.size == 0) (carries_part q g) (subst P rest c.behind) (ne_eqb q.size 0 (λ e. omega arith)) in
-    let has = HasPart-from_test p g c.part in
-    let has_rest = HasPart-from_test q g passes in
+    let P : Option Part → Type 0 = λ o. carries_rest l o g ≡ true in
+    let passes = or_other (q.size == 0) (carries_part l q g) (subst P rest c.behind) (ne_eqb q.size 0 (λ e. omega arith)) in
+    let has = HasPart-from_test l p g written c.part in
+    let has_rest = HasPart-from_test l q g other passes in
     let low = has.low in
     let level = has.level in
     let high = has_rest.high in

@@ -1,5 +1,5 @@
 -- All that files own: input sections as their rooms, what stands at the fronts of parts, and thunks, each apart from the others.
-use Rattle.std.proofs.Common.{◌≡◌, ℕ, ◌+◌, ◌<◌, ◌≤◌, inl, inr, ◌==◌, Bool, true, false, ◌&&◌, List, [], ◌∷◌, length, map, get_or, All, AllPairs, None, slice_get, flat_map, refl, sym, ap, ◌∙◌, arith, subst}
+use Rattle.std.proofs.Common.{◌≡◌, ℕ, ◌+◌, ◌<◌, ◌≤◌, inl, inr, ◌==◌, Bool, true, false, ◌&&◌, if◌then◌else◌, List, [], ◌∷◌, length, map, get_or, All, AllPairs, None, slice_get, flat_map, refl, sym, ap, ◌∙◌, arith, subst}
 use Rattle.std.proofs.lemmas.Bool.{cases_Bool, and_parts, and_from, eq-eqb}
 use Rattle.std.proofs.lemmas.List.{append-nil}
 use Rattle.std.proofs.lemmas.List.Elements.{All-nil, All-append}
@@ -14,7 +14,7 @@ use Rattle.wild_types.specs.declared.layout.Layout.{Layout}
 use Rattle.wild_types.specs.FilePlaces.{given, bool_eq, file_placed, later_placed, files_placed, file_misplaced}
 use Rattle.wild_types.specs.FileRoles.{is_prelude, is_epilogue}
 use Rattle.wild_types.specs.FileThunks.{thunks_of}
-use Rattle.wild_types.specs.Lookups.{is_filled, image_size, files_of}
+use Rattle.wild_types.specs.Lookups.{is_given, is_filled, is_hollow_part, image_size, files_of}
 use Rattle.wild_types.proofs.FileLemmas.{same_bool}
 use Rattle.wild_clauses.specs.Thunks.{standing}
 use Rattle.wild_layout.specs.Sites.{extent_of}
@@ -26,7 +26,7 @@ use Rattle.wild_geometry.proofs.LaidLemmas.{Laid}
 use Rattle.wild_geometry.proofs.OrderLemmas.{Follows}
 use Rattle.wild_geometry.proofs.RunLemmas.{sections_in}
 use Rattle.wild_geometry.proofs.StandingLemmas.{all_sections}
-use Rattle.wild_geometry.proofs.SectionLemmas.{Stood}
+use Rattle.wild_geometry.proofs.SectionLemmas.{Stood, filled_given}
 use Rattle.wild_geometry.proofs.Rooms.{room_of, length-room, section_room, rooms_in, others_in, file_rooms, all_at, apart_at}
 use Rattle.wild_geometry.proofs.ThunkRuns.{thunks_in, all_thunks, Beside}
 use Rattle.wild_geometry.proofs.PieceLemmas.{owners_apart, stood_room, section_rooms, InImage}
@@ -41,14 +41,14 @@ section_and_thunk l f s t filled a b beside =
     owners_apart l f s.part l.primary_part s.address t.address (room_of l s).bytes (thunk_bytes l t) a.part b.part (stood_room l s a) (thunk_room l t b) (λ e.
     let n = length-room l s in
     let m = length-thunk_bytes l t in
-    elim (beside (and_from (is_filled l s) (s.part == l.primary_part) filled (eq-eqb s.part l.primary_part e))) [ inl u ↦ inl (omega arith) | inr v ↦ inr (omega arith) ])
+    elim (beside (and_from (is_given l s) (s.part == l.primary_part) (filled_given l s filled) (eq-eqb s.part l.primary_part e))) [ inl u ↦ inl (omega arith) | inr v ↦ inr (omega arith) ])
 
 sections_and_thunks : (l : Layout) → AllPairs (Follows l) l.parts → SectionsStand l → ThunksStand l → All (λ a. All (Apart a) (pieces_of_thunks l)) (section_rooms l)
 sections_and_thunks l f stood h =
     All-flat_map (λ a. All (Apart a) (pieces_of_thunks l)) (section_room l) (all_sections l) (λ i s m.
     All-optional (λ a. All (Apart a) (pieces_of_thunks l)) (is_filled l (get_or (all_sections l) i s)) (room_of l (get_or (all_sections l) i s)) (λ filled.
-    each_thunk l (Apart (room_of l (get_or (all_sections l) i s))) (λ j t n.
-    section_and_thunk l f (get_or (all_sections l) i s) (get_or (all_thunks l) j t) filled (stood i s m filled) (h.stood j t n) (h.beside i s m j t n))))
+    each_thunk l (Apart (room_of l (get_or (all_sections l) i s))) (λ written j t n.
+    section_and_thunk l f (get_or (all_sections l) i s) (get_or (all_thunks l) j t) filled (stood i s m filled) (h.stood written j t n) (h.beside i s m j t n))))
 
 -- ---- what stands at fronts
 
@@ -96,15 +96,15 @@ fronts_and_thunks l h f thunks st =
     each_front l (λ a. All (Apart a) (pieces_of_thunks l)) (λ i x m some.
     let y = get_or (fronts l) i x in
     let a = st.stood i x m some in
-    each_thunk l (Apart (front_at l y)) (λ j t n.
+    each_thunk l (Apart (front_at l y)) (λ written j t n.
     let u = get_or (all_thunks l) j t in
-    let b = thunks.stood j t n in
+    let b = thunks.stood written j t n in
     let behind = thunks_behind l h thunks y a j t n in
     subst (λ (p : Piece). Apart p (thunk_at l u)) (front_is l y a)
     (owners_apart l f y.part l.primary_part a.part.address u.address y.bytes (thunk_bytes l u) a.part b.part a.room (thunk_room l u b) (λ e. inl (behind e)))))
 
 thunks_within : (l : Layout) → ThunksStand l → All (InImage l) (pieces_of_thunks l)
-thunks_within l h = each_thunk l (InImage l) (λ i t m. (let n = length-thunk_bytes l (get_or (all_thunks l) i t) in let e = thunk_in_image l (get_or (all_thunks l) i t) (h.stood i t m) in omega arith))
+thunks_within l h = each_thunk l (InImage l) (λ written i t m. (let n = length-thunk_bytes l (get_or (all_thunks l) i t) in let e = thunk_in_image l (get_or (all_thunks l) i t) (h.stood written i t m) in omega arith))
 
 -- ---- file by file
 
@@ -114,11 +114,20 @@ sections_by_file l =
     ∙ flat_map-same (λ g. flat_map (section_room l) (sections_in l g)) (λ g. flat_map (rooms_in l) g.files) l.groups (λ g. flat_map-flat_map (section_room l) (standing l) g.files)
     ∙ sym (flat_map-flat_map (rooms_in l) (λ (g : Group). g.files) l.groups)
 
+-- what is written of a list is what is written of its pieces
+written_items : {X : Type 0} (b : Bool) (f : X → List Piece) (xs : List X) → (if b then [] else flat_map f xs) ≡ flat_map (λ x. if b then [] else f x) xs
+written_items false f xs = refl
+written_items true f [] = refl
+written_items true f (x ∷ xs) = written_items true f xs
+
 thunks_by_file : (l : Layout) → pieces_of_thunks l ≡ flat_map (thunk_pieces l) (files_of l.groups)
 thunks_by_file l =
+    let of_file : File → List Piece = λ f. flat_map (thunk_piece l) (thunks_of l f) in
+    let joined : flat_map (thunk_piece l) (all_thunks l) ≡ flat_map of_file (files_of l.groups) =
     flat_map-flat_map (thunk_piece l) (thunks_in l) l.groups
-    ∙ flat_map-same (λ g. flat_map (thunk_piece l) (thunks_in l g)) (λ g. flat_map (thunk_pieces l) g.files) l.groups (λ g. flat_map-flat_map (thunk_piece l) (thunks_of l) g.files)
-    ∙ sym (flat_map-flat_map (thunk_pieces l) (λ (g : Group). g.files) l.groups)
+    ∙ flat_map-same (λ g. flat_map (thunk_piece l) (thunks_in l g)) (λ g. flat_map of_file g.files) l.groups (λ g. flat_map-flat_map (thunk_piece l) (thunks_of l) g.files)
+    ∙ sym (flat_map-flat_map of_file (λ (g : Group). g.files) l.groups) in
+    ap (λ (ps : List Piece). if is_hollow_part l l.primary_part then [] else ps) joined ∙ written_items (is_hollow_part l l.primary_part) of_file (files_of l.groups)
 
 -- files behind the first one have nothing of what is the first file's
 later_once : {X : Type 0} (xs : List X) (last : Bool) (fs : List File) → later_placed last fs ≡ true → flat_map (λ (f : File). of_first_file f xs) fs ≡ []

@@ -17,6 +17,7 @@ use Rattle.wild_clauses.specs.Contents.{has_share_for_each_part}
 use Rattle.wild_needs.specs.Needs.{has_last, total_share, group_share}
 use Rattle.wild_clauses.specs.Counts.{role_given}
 use Rattle.wild_types.specs.Lists.{total}
+use Rattle.wild_types.specs.Lookups.{is_hollow_at}
 use Rattle.wild_needs.specs.Dynamic.{dynamic_count}
 use Rattle.wild_types.specs.Shares.{part_of_role, part_of, given_by, share_of}
 use Rattle.wild_records.specs.Dynamic.{dynamic_entry_size}
@@ -27,15 +28,15 @@ use Rattle.wild_types.proofs.ListLemmas.{total-prefix}
 use Rattle.wild_types.proofs.PartLemmas.{not_raw}
 use Rattle.wild_layout.specs.Content.{room_behind, dynamic_room, content}
 use Rattle.wild_layout.specs.TablePlaces.{table_bytes, bytes_before, TableLies, HasTable}
-use Rattle.wild_layout.specs.Image.{given_before, some_piece, table_piece, table_pieces, owned_pieces, group_pieces, pieces}
+use Rattle.wild_layout.specs.Image.{given_before, table_piece, table_pieces, owned_pieces, group_pieces, pieces}
 use Rattle.wild_geometry.proofs.LaidLemmas.{Laid}
 use Rattle.wild_geometry.proofs.InterleaveLemmas.{Contains-flat_map_from}
-use Rattle.wild_geometry.proofs.OrderLemmas.{EndsBy-image}
+use Rattle.wild_geometry.proofs.OrderLemmas.{Takes, EndsBy-image}
 use Rattle.wild_geometry.proofs.ShareLemmas.{total_same, content_is_given, size_from_shares}
 use Rattle.wild_geometry.proofs.ContentLemmas.{length_joined, length-content, length-dynamic_content, dynamic_share}
 use Rattle.wild_geometry.proofs.LastGroupLemmas.{some_if, group_last}
 use Rattle.wild_geometry.proofs.TableLemmas.{role_at, role_listed, same_role}
-use Rattle.wild_geometry.proofs.TablePieces.{not_raw_takes, Contains-some}
+use Rattle.wild_geometry.proofs.TablePieces.{not_raw_takes, Contains-written}
 
 -- ---- the first item that passes a test
 
@@ -178,19 +179,20 @@ table_lies l h r some p i low is has =
     let whole : total (λ (g : Group). length (content l r g)) l.groups ≡ total (given i) l.groups = subst (λ (gs : List Group). total (λ (g : Group). length (content l r g)) gs ≡ total (given i) gs) (take_all l.groups) (sums (length l.groups)) in
     let joined = length_joined (content l r) l.groups in
     let total_is = size_from_shares l.groups 0 l.parts h.shares.sums i i p (omega arith) low in
-    let takes = not_raw_takes l (get_or l.parts i p) (h.parts.room i p low) raw in
+    let section_is = ap (λ (x : Part). is_hollow_at l x.section) read in
+    let takes : is_hollow_at l p.section ≡ false → Takes l (get_or l.parts i p) = λ written. not_raw_takes l (get_or l.parts i p) (h.parts.room i p low) raw (section_is ∙ written) in
     record {
       listed = (i, low, read);
       has = has;
       size = omega arith;
-      ends = λ n. let e = EndsBy-image l i p low takes (omega arith) in omega arith;
-      pieces = λ j g m n. (
+      ends = λ written n. (let e = EndsBy-image l i p low (takes written) (omega arith) in omega arith);
+      pieces = λ written j g m n. (
           let content_is = ap (λ (q : Role). content l q (get_or l.groups j g)) role_is in
           let long = ap length content_is in
           let at = (get_or l.parts i p).offset + given_before l i j in
           let bs = content l (get_or l.parts i p).role (get_or l.groups j g) in
           let piece : Piece = record { at = at; bytes = bs } in
-          let here : Contains (some_piece at bs) piece = Contains-some at bs (omega arith) in
+          let here : Contains (table_piece l j (get_or l.groups j g) i (get_or l.parts i p)) piece = Contains-written (is_hollow_at l (get_or l.parts i p).section) at bs (section_is ∙ written) (omega arith) in
           let in_tables = Contains-flat_map_from (table_piece l j (get_or l.groups j g)) 0 l.parts i i p piece (omega arith) low here in
           let in_group = Contains-append_left (table_pieces l j (get_or l.groups j g)) (owned_pieces l (get_or l.groups j g)) piece in_tables in
           let all = Contains-flat_map_from (group_pieces l) 0 l.groups j j g piece (omega arith) m in_group in

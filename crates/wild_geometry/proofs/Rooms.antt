@@ -24,7 +24,7 @@ use Rattle.wild_layout.specs.Sites.{section_bytes, extent_of}
 use Rattle.wild_geometry.proofs.StandingLemmas.{EachIn}
 use Rattle.wild_geometry.proofs.SectionLemmas.{Known, is_whole}
 use Rattle.wild_geometry.proofs.StayLemmas.{IsAt, Turns, turns, turns_unread, is_turned}
-use Rattle.wild_geometry.proofs.LongSections.{IsLong, IsTabled, IsTabledTable, long_turned, long_group, long_tabled}
+use Rattle.wild_geometry.proofs.LongSections.{IsLong, IsTabledTable, long_turned, long_group, long_tabled}
 
 -- ---- pieces at the same places
 

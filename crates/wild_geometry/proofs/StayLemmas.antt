@@ -15,7 +15,7 @@ use Rattle.wild_types.specs.declared.layout.Layout.{Layout}
 use Rattle.wild_types.specs.FileRoles.{is_epilogue}
 use Rattle.wild_types.specs.Lists.{total}
 use Rattle.wild_types.specs.Kinds.{is_partial_link}
-use Rattle.wild_types.specs.Lookups.{is_loaded, is_frame, is_discarded, is_rela, has_counted, has_range, is_filled, takes_file_bytes, section_of}
+use Rattle.wild_types.specs.Lookups.{is_loaded, is_frame, is_discarded, is_rela, has_counted, has_range, is_filled, has_data, is_hollow_part, section_of}
 use Rattle.wild_types.specs.Rows.{field_bytes}
 use Rattle.wild_frames.specs.Frames.{kept_in}
 use Rattle.wild_laid.specs.Turned.{turned_bytes, turned_offset, turned, as_turned}
@@ -89,7 +89,7 @@ turned_holds l s h whole e =
       length = subst (λ (n : ℕ). (is_discarded s.slot || (if s.nobits then n == 0 else (n == s.size || (may_lack_bytes s.slot && n == 0)))) ≡ true) (sym long) h.holds.length;
       raw = h.holds.raw;
       allocation = h.holds.allocation;
-      room = subst (λ (n : ℕ). (not (not (n == 0) || (is_rela s.slot && not (s.size == 0))) || takes_file_bytes l (section_of l s.part)) ≡ true) (sym long) h.holds.room;
+      room = subst (λ (n : ℕ). (not (not (n == 0) || (is_rela s.slot && not (s.size == 0))) || has_data l (section_of l s.part)) ≡ true) (sym long) h.holds.room;
       fields = turned_fields l s h e;
       symbols = All-map (NamesSymbol l) (turned_offset s.size) s.relocations h.holds.symbols;
     }
@@ -98,7 +98,7 @@ turned_holds l s h whole e =
 turned_filled : (l : Layout) (s : InputSection) → Known l s → is_whole s.slot ≡ true → s.reversed ≡ true → is_filled l (turned s) ≡ is_filled l s
 turned_filled l s h whole e =
     let long = length-turned l s h whole e in
-    ap (λ (n : ℕ). has_range s.slot && (if s.nobits then has_counted s.slot && (not (s.size == 0) && takes_file_bytes l (section_of l s.part)) else if is_rela s.slot then not (s.size == 0) else not (n == 0))) long
+    ap (λ (n : ℕ). (has_range s.slot && (if s.nobits then has_counted s.slot && (not (s.size == 0) && has_data l (section_of l s.part)) else if is_rela s.slot then not (s.size == 0) else not (n == 0))) && not (is_hollow_part l s.part)) long
 
 -- a section has the place and the room of another
 pub record IsAt (l : Layout) (s t : InputSection) : Type 0 where

@@ -1,8 +1,7 @@
 -- What the groups give to the parts lies in the image, each piece apart from the others.
-use Rattle.std.proofs.Common.{◌≡◌, ℕ, zero, suc, ◌+◌, ◌<◌, ◌≤◌, inl, inr, ◌==◌, true, false, List, [], ◌∷◌, length, get_or, All, AllPairs, Contains, Some, slice_get, flat_map, refl, sym, ap, ◌∙◌, arith, subst}
-use Rattle.std.proofs.lemmas.Bool.{cases_Bool, cases_order, and_parts, or_cases, leb-true, eqb-true, eqb-false}
+use Rattle.std.proofs.Common.{◌≡◌, ℕ, zero, suc, ◌+◌, ◌<◌, ◌≤◌, inl, inr, ◌==◌, Bool, true, false, not, if◌then◌else◌, List, [], ◌∷◌, length, get_or, All, AllPairs, Contains, Some, slice_get, flat_map, refl, sym, ap, ◌∙◌, arith, subst}
+use Rattle.std.proofs.lemmas.Bool.{cases_Bool, cases_order, and_parts, and_from, or_cases, leb-true, eqb-true, eqb-false}
 use Rattle.std.proofs.lemmas.Option.{slice_get-get_or, same_Some}
-use Rattle.std.proofs.lemmas.List.Elements.{All-nil, All-cons}
 use Rattle.wild_words.proofs.ListLemmas.{All-flat_map, All-optional}
 use Rattle.wild_words.proofs.OrderLemmas.{Apart-flip}
 use Rattle.wild_words.specs.Overlay.{Piece, Apart, AreApart}
@@ -10,7 +9,7 @@ use Rattle.wild_types.specs.declared.part.Part.{Part}
 use Rattle.wild_types.specs.declared.part.Role.TheVariants as role
 use Rattle.wild_types.specs.declared.file.Group.{Group}
 use Rattle.wild_types.specs.declared.layout.Layout.{Layout}
-use Rattle.wild_types.specs.Lookups.{is_filled, takes_file_bytes, image_size}
+use Rattle.wild_types.specs.Lookups.{is_filled, has_data, is_hollow_at, image_size}
 use Rattle.wild_types.specs.FilePlaces.{given}
 use Rattle.wild_types.specs.Parts.{role_place, has_role}
 use Rattle.wild_types.proofs.ListLemmas.{total-prefix}
@@ -28,18 +27,21 @@ use Rattle.wild_geometry.proofs.OrderLemmas.{Takes, EndsBy-image, Follows, Parts
 use Rattle.wild_geometry.proofs.ShareLemmas.{total_to, size_from_shares, content_is_given, content_of_raw}
 use Rattle.wild_geometry.proofs.StandingLemmas.{all_sections, sorted_loaded}
 use Rattle.wild_geometry.proofs.SectionLemmas.{each_known, sorted_known, Runs}
-use Rattle.wild_geometry.proofs.PieceLemmas.{parts_apart, owner_at, offset_is, stood_room, Standing, section_rooms_apart, InImage, section_rooms_within}
+use Rattle.wild_geometry.proofs.PieceLemmas.{All-written, AllPairs-written, parts_apart, owner_at, offset_is, stood_room, Standing, section_rooms_apart, InImage, section_rooms_within}
 use Rattle.wild_geometry.proofs.LongSections.{each_tabled}
 use Rattle.wild_geometry.proofs.Rooms.{AreBeside, room_of, section_room, place_of_known, place_of_sorted, rooms_stand}
 use Rattle.wild_geometry.proofs.ThunkRuns.{all_thunks}
 use Rattle.wild_geometry.proofs.ThunkLemmas.{SectionsStand, ThunksStand, thunk_room, each_thunk}
-use Rattle.wild_geometry.proofs.FrontLemmas.{Front, fronts, FrontStands, front_at, front_is, each_front, FrontsStand-from_laid}
+use Rattle.wild_geometry.proofs.FrontLemmas.{Front, fronts, FrontStands, All-some, AllPairs-some, front_at, front_is, each_front, FrontsStand-from_laid}
 use Rattle.wild_geometry.proofs.OwnedLemmas.{Owned, each_owned, owned_apart, owned_within}
 
 -- ---- parts
 
-pub not_raw_takes : (l : Layout) (p : Part) → takes_room l p ≡ true → has_role role.Raw p ≡ false → Takes l p
-not_raw_takes l p h raw = elim (or_cases (has_role role.Raw p) (takes_file_bytes l p.section) h) [ inl e ↦ cc | inr t ↦ t ]
+pub not_raw_holds : (l : Layout) (p : Part) → takes_room l p ≡ true → has_role role.Raw p ≡ false → has_data l p.section ≡ true
+not_raw_holds l p h raw = elim (or_cases (has_role role.Raw p) (has_data l p.section) h) [ inl e ↦ cc | inr t ↦ t ]
+
+pub not_raw_takes : (l : Layout) (p : Part) → takes_room l p ≡ true → has_role role.Raw p ≡ false → is_hollow_at l p.section ≡ false → Takes l p
+not_raw_takes l p h raw written = and_from (has_data l p.section) (not (is_hollow_at l p.section)) (not_raw_holds l p h raw) (rw written refl)
 
 pub PartLies-from_laid : (l : Layout) → Laid l → (i : ℕ) (p : Part) → i < length l.parts → PartLies l i (get_or l.parts i p)
 PartLies-from_laid l h i p m = record {
@@ -47,12 +49,12 @@ PartLies-from_laid l h i p m = record {
   address = leb-true _ _ (and_parts _ (ends_low (get_or l.parts i p).address (get_or l.parts i p).size) (and_parts _ (ends_low (get_or l.parts i p).offset (get_or l.parts i p).size) (h.sizes.parts i p m)).0).1;
   shares = size_from_shares l.groups 0 l.parts h.shares.sums i i p (omega arith) m;
   tables = λ raw j g n. content_is_given l h.sizes.parts h.shares h.roles.again h.needed i p m raw j g n;
-  ends = λ raw some. EndsBy-image l i p m (not_raw_takes l (get_or l.parts i p) (h.parts.room i p m) raw) some;
+  ends = λ raw written some. EndsBy-image l i p m (not_raw_takes l (get_or l.parts i p) (h.parts.room i p m) raw written) some;
 }
 
 -- ---- what a group gives to a part
 
--- group j's bytes of part i, where there are some
+-- group j's bytes of part i, where there are some and they are written
 pub record Given (l : Layout) (i : ℕ) (p : Part) (j : ℕ) (n : ℕ) : Type 0 where
   pub raw : has_role role.Raw p ≡ false
   pub takes : Takes l p
@@ -60,8 +62,8 @@ pub record Given (l : Layout) (i : ℕ) (p : Part) (j : ℕ) (n : ℕ) : Type 0 
   pub some : 1 ≤ n
   pub ends : given_before l i j + n ≤ p.size
 
-pub given_from_content : (l : Layout) → Laid l → (i : ℕ) (p : Part) → i < length l.parts → (j : ℕ) (g : Group) → j < length l.groups → 1 ≤ length (content l (get_or l.parts i p).role (get_or l.groups j g)) → Given l i (get_or l.parts i p) j (length (content l (get_or l.parts i p).role (get_or l.groups j g)))
-given_from_content l h i p m j g n some =
+pub given_from_content : (l : Layout) → Laid l → (i : ℕ) (p : Part) → i < length l.parts → (j : ℕ) (g : Group) → j < length l.groups → is_hollow_at l (get_or l.parts i p).section ≡ false → 1 ≤ length (content l (get_or l.parts i p).role (get_or l.groups j g)) → Given l i (get_or l.parts i p) j (length (content l (get_or l.parts i p).role (get_or l.groups j g)))
+given_from_content l h i p m j g n written some =
     let q = get_or l.parts i p in
     elim (cases_Bool (has_role role.Raw q)) [
       | inl t ↦ absurd (let z = content_of_raw l q.role (get_or l.groups j g) (eqb-true _ _ t) in omega arith)
@@ -72,7 +74,7 @@ given_from_content l h i p m j g n some =
           let within = total-prefix (given i) l.groups j g n in
           record {
             raw = raw;
-            takes = not_raw_takes l q (h.parts.room i p m) raw;
+            takes = not_raw_takes l q (h.parts.room i p m) raw written;
             share = λ f. ap (given i) (same l.groups j f g n) ∙ sym share;
             some = some;
             ends = omega arith;
@@ -83,20 +85,6 @@ given_from_content l h i p m j g n some =
     same [] k d e l = absurd (omega arith)
     same (x ∷ xs) zero d e l = refl
     same (x ∷ xs) (suc k) d e l = same xs k d e (omega arith)
-
-All-some : (P : Piece → Type 0) (at : ℕ) (bs : List ℕ) → (1 ≤ length bs → P (record { at = at; bytes = bs })) → All P (some_piece at bs)
-All-some P at bs h =
-    elim (cases_Bool (length bs == 0)) [
-      | inl t ↦ rw t (All-nil P)
-      | inr f ↦ rw f (All-cons P (record { at = at; bytes = bs }) [] (h (let e = eqb-false (length bs) 0 f in omega arith)) (All-nil P))
-    ]
-
-AllPairs-some : (R : Piece → Piece → Type 0) (at : ℕ) (bs : List ℕ) → AllPairs R (some_piece at bs)
-AllPairs-some R at bs =
-    elim (cases_Bool (length bs == 0)) [
-      | inl t ↦ rw t (λ i j d l m. absurd (omega arith))
-      | inr f ↦ rw f (λ i j d l m. absurd (omega arith))
-    ]
 
 abbrev pub piece_in : Layout → ℕ → Part → ℕ → List ℕ → Piece
 piece_in l i p j bs = record { at = p.offset + given_before l i j; bytes = bs }
@@ -143,33 +131,44 @@ content_at l i p j g = content l (get_or l.parts i p).role (get_or l.groups j g)
 abbrev pub piece_at : Layout → ℕ → Part → ℕ → Group → Piece
 piece_at l i p j g = piece_in l i (get_or l.parts i p) j (content_at l i p j g)
 
+-- part i is written
+abbrev IsWrittenAt : Layout → ℕ → Part → Type 0
+IsWrittenAt l i p = is_hollow_at l (get_or l.parts i p).section ≡ false
+
+-- the piece of one
+of_given : (l : Layout) (P : Piece → Type 0) (i j : ℕ) (p : Part) (g : Group) → (IsWrittenAt l i p → 1 ≤ length (content_at l i p j g) → P (piece_at l i p j g)) → All P (table_piece l j (get_or l.groups j g) i (get_or l.parts i p))
+of_given l P i j p g h =
+    let at = (get_or l.parts i p).offset + given_before l i j in
+    let bs = content_at l i p j g in
+    All-written P (is_hollow_at l (get_or l.parts i p).section) (some_piece at bs) (λ written. All-some P at bs (h written))
+
 -- what holds of each piece of a group
-each_given : (l : Layout) (P : Piece → Type 0) (n j : ℕ) (g : Group) → n ≡ j → ((i : ℕ) (p : Part) → i < length l.parts → 1 ≤ length (content_at l i p j g) → P (piece_at l i p j g)) → All P (table_pieces l n (get_or l.groups j g))
+each_given : (l : Layout) (P : Piece → Type 0) (n j : ℕ) (g : Group) → n ≡ j → ((i : ℕ) (p : Part) → i < length l.parts → IsWrittenAt l i p → 1 ≤ length (content_at l i p j g) → P (piece_at l i p j g)) → All P (table_pieces l n (get_or l.groups j g))
 each_given l P n j g at h =
     rw at (All-flat_map_from P (table_piece l j (get_or l.groups j g)) 0 l.parts (λ m i p e low. one m i p (omega arith) low))
   where
     one : (m i : ℕ) (p : Part) → m ≡ i → i < length l.parts → All P (table_piece l j (get_or l.groups j g) m (get_or l.parts i p))
-    one m i p e low = rw e (All-some P ((get_or l.parts i p).offset + given_before l i j) (content_at l i p j g) (h i p low))
+    one m i p e low = rw e (of_given l P i j p g (h i p low))
 
-two_given : (l : Layout) → Laid l → AllPairs (Follows l) l.parts → (i k : ℕ) (p q : Part) (a b : ℕ) (g f : Group) → i < length l.parts → k < length l.parts → a < length l.groups → b < length l.groups → 1 ≤ length (content_at l i p a g) → 1 ≤ length (content_at l k q b f) → (i ≡ k → a < b) → Apart (piece_at l i p a g) (piece_at l k q b f)
-two_given l h follow i k p q a b g f li lk la lb x y order =
+two_given : (l : Layout) → Laid l → AllPairs (Follows l) l.parts → (i k : ℕ) (p q : Part) (a b : ℕ) (g f : Group) → i < length l.parts → k < length l.parts → a < length l.groups → b < length l.groups → IsWrittenAt l i p → IsWrittenAt l k q → 1 ≤ length (content_at l i p a g) → 1 ≤ length (content_at l k q b f) → (i ≡ k → a < b) → Apart (piece_at l i p a g) (piece_at l k q b f)
+two_given l h follow i k p q a b g f li lk la lb here there x y order =
     tables_apart l follow i k (get_or l.parts i p) (get_or l.parts k q) a b (content_at l i p a g) (content_at l k q b f)
     (slice_get-get_or l.parts i p li) (slice_get-get_or l.parts k q lk)
-    (given_from_content l h i p li a g la x) (given_from_content l h k q lk b f lb y)
+    (given_from_content l h i p li a g la here x) (given_from_content l h k q lk b f lb there y)
     (omega arith) g order
 
 -- the pieces of one group
 group_apart : (l : Layout) → Laid l → AllPairs (Follows l) l.parts → (n j : ℕ) (g : Group) → n ≡ j → j < length l.groups → AllPairs Apart (table_pieces l n (get_or l.groups j g))
 group_apart l h follow n j g at low =
     rw at (AllPairs-flat_map_from Apart (table_piece l j (get_or l.groups j g)) 0 l.parts
-    (λ m i p e m'. AllPairs-some Apart ((get_or l.parts i p).offset + given_before l m j) (content_at l i p j g))
+    (λ m i p e m'. (let at = (get_or l.parts i p).offset + given_before l m j in let bs = content_at l i p j g in AllPairs-written Apart (is_hollow_at l (get_or l.parts i p).section) (some_piece at bs) (λ written. AllPairs-some Apart at bs)))
     (λ m o i k p q c d lt lk. two m o i k p q (omega arith) (omega arith) lt lk))
   where
     two : (m o i k : ℕ) (p q : Part) → m ≡ i → o ≡ k → i < k → k < length l.parts → All (λ a. All (Apart a) (table_piece l j (get_or l.groups j g) o (get_or l.parts k q))) (table_piece l j (get_or l.groups j g) m (get_or l.parts i p))
     two m o i k p q c d lt lk =
-        rw (c, d) (All-some (λ a. All (Apart a) (table_piece l j (get_or l.groups j g) k (get_or l.parts k q))) ((get_or l.parts i p).offset + given_before l i j) (content_at l i p j g) (λ x.
-        All-some (Apart (piece_at l i p j g)) ((get_or l.parts k q).offset + given_before l k j) (content_at l k q j g) (λ y.
-        two_given l h follow i k p q j j g g (omega arith) lk low low x y (λ e. absurd (omega arith)))))
+        rw (c, d) (of_given l (λ a. All (Apart a) (table_piece l j (get_or l.groups j g) k (get_or l.parts k q))) i j p g (λ here x.
+        of_given l (Apart (piece_at l i p j g)) k j q g (λ there y.
+        two_given l h follow i k p q j j g g (omega arith) lk low low here there x y (λ e. absurd (omega arith)))))
 
 given_apart : (l : Layout) → Laid l → AllPairs (Follows l) l.parts → AllPairs Apart (given_pieces l)
 given_apart l h follow =
@@ -179,9 +178,9 @@ given_apart l h follow =
   where
     two : (m n j k : ℕ) (g f : Group) → m ≡ j → n ≡ k → j < k → k < length l.groups → All (λ a. All (Apart a) (table_pieces l n (get_or l.groups k f))) (table_pieces l m (get_or l.groups j g))
     two m n j k g f c d lt low =
-        each_given l (λ a. All (Apart a) (table_pieces l n (get_or l.groups k f))) m j g c (λ i p li x.
-        each_given l (Apart (piece_at l i p j g)) n k f d (λ o q lk y.
-        two_given l h follow i o p q j k g f li lk (omega arith) low x y (λ e. lt)))
+        each_given l (λ a. All (Apart a) (table_pieces l n (get_or l.groups k f))) m j g c (λ i p li here x.
+        each_given l (Apart (piece_at l i p j g)) n k f d (λ o q lk there y.
+        two_given l h follow i o p q j k g f li lk (omega arith) low here there x y (λ e. lt)))
 
 -- and what stands at the front of one
 front_apart : (l : Layout) → AllPairs (Follows l) l.parts → (i : ℕ) (p : Part) (j : ℕ) (xs : List ℕ) (x : Front) → slice_get l.parts i ≡ Some p → Given l i p j (length xs) → FrontStands l x → Apart (piece_in l i p j xs) (front_at l x)
@@ -191,25 +190,26 @@ front_apart l f i p j xs x is g st = subst (Apart (piece_in l i p j xs)) (front_
 given_and_owned : (l : Layout) → Laid l → Owned l → All (λ a. All (Apart a) (flat_map (owned_pieces l) l.groups)) (given_pieces l)
 given_and_owned l h own =
     All-flat_map_from (λ a. All (Apart a) (flat_map (owned_pieces l) l.groups)) (table_pieces l) 0 l.groups (λ n j g e low.
-    each_given l (λ a. All (Apart a) (flat_map (owned_pieces l) l.groups)) n j g (omega arith) (λ i p li x.
+    each_given l (λ a. All (Apart a) (flat_map (owned_pieces l) l.groups)) n j g (omega arith) (λ i p li here x.
+    let given = given_from_content l h i p li j g low here x in
     each_owned l (AreBeside (extent_of (piece_at l i p j g))) own
     (All-flat_map (Apart (piece_at l i p j g)) (section_room l) (all_sections l) (λ k s m.
     All-optional (Apart (piece_at l i p j g)) (is_filled l (get_or (all_sections l) k s)) (room_of l (get_or (all_sections l) k s)) (λ c.
     let y = get_or (all_sections l) k s in
     let there = own.stood k s m c in
-    owner_apart l own.follow i (get_or l.parts i p) j (content_at l i p j g) y.part y.address (room_of l y).bytes there.part (slice_get-get_or l.parts i p li) (given_from_content l h i p li j g low x) (stood_room l y there))))
+    owner_apart l own.follow i (get_or l.parts i p) j (content_at l i p j g) y.part y.address (room_of l y).bytes there.part (slice_get-get_or l.parts i p li) given (stood_room l y there))))
     (each_front l (Apart (piece_at l i p j g)) (λ k y m some.
-    front_apart l own.follow i (get_or l.parts i p) j (content_at l i p j g) (get_or (fronts l) k y) (slice_get-get_or l.parts i p li) (given_from_content l h i p li j g low x) (own.fronts.stood k y m some)))
-    (each_thunk l (Apart (piece_at l i p j g)) (λ k t m.
+    front_apart l own.follow i (get_or l.parts i p) j (content_at l i p j g) (get_or (fronts l) k y) (slice_get-get_or l.parts i p li) given (own.fronts.stood k y m some)))
+    (each_thunk l (Apart (piece_at l i p j g)) (λ written k t m.
     let y = get_or (all_thunks l) k t in
-    let there = own.thunks.stood k t m in
-    owner_apart l own.follow i (get_or l.parts i p) j (content_at l i p j g) l.primary_part y.address (thunk_bytes l y) there.part (slice_get-get_or l.parts i p li) (given_from_content l h i p li j g low x) (thunk_room l y there)))))
+    let there = own.thunks.stood written k t m in
+    owner_apart l own.follow i (get_or l.parts i p) j (content_at l i p j g) l.primary_part y.address (thunk_bytes l y) there.part (slice_get-get_or l.parts i p li) given (thunk_room l y there)))))
 
 given_within : (l : Layout) → Laid l → All (InImage l) (given_pieces l)
 given_within l h =
     All-flat_map_from (InImage l) (table_pieces l) 0 l.groups (λ n j g e low.
-    each_given l (InImage l) n j g (omega arith) (λ i p li x.
-    let one = given_from_content l h i p li j g low x in
+    each_given l (InImage l) n j g (omega arith) (λ i p li here x.
+    let one = given_from_content l h i p li j g low here x in
     let ends = one.ends in
     let in_image = EndsBy-image l i p li one.takes (omega arith) in
     omega arith))
@@ -239,9 +239,14 @@ AreApart-from_laid l laid runs stood thunks =
 
 -- ---- the tables
 
-pub Contains-some : (at : ℕ) (bs : List ℕ) → 1 ≤ length bs → Contains (some_piece at bs) (record { at = at; bytes = bs })
+Contains-some : (at : ℕ) (bs : List ℕ) → 1 ≤ length bs → Contains (some_piece at bs) (record { at = at; bytes = bs })
 Contains-some at bs some =
     elim (cases_Bool (length bs == 0)) [
       | inl t ↦ absurd (let e = eqb-true (length bs) 0 t in omega arith)
       | inr f ↦ rw f (0, omega arith, refl)
     ]
+
+-- where they are written
+pub Contains-written : (b : Bool) (at : ℕ) (bs : List ℕ) → b ≡ false → 1 ≤ length bs → Contains (if b then [] else some_piece at bs) (record { at = at; bytes = bs })
+Contains-written false at bs e some = Contains-some at bs some
+Contains-written true at bs e some = cc

@@ -2,7 +2,7 @@
 use Rattle.std.proofs.Common.{◌≡◌, ℕ, zero, suc, ◌+◌, ◌-◌, ◌<◌, ◌≤◌, inl, inr, ◌==◌, Bool, true, false, not, ◌&&◌, if◌then◌else◌, List, [], ◌∷◌, length, map, get_or, All, AllPairs, Contains, Option, Some, None, slice_get, flat_map, refl, sym, ap, ◌∙◌, arith, subst}
 use Rattle.std.specs.Prelude.{unwrap_or}
 use Rattle.std.specs.List.{list_any}
-use Rattle.std.proofs.lemmas.Bool.{cases_Bool, and_parts, eqb-true, ne_eqb, ltb-true}
+use Rattle.std.proofs.lemmas.Bool.{cases_Bool, and_parts, and_from, eqb-true, ne_eqb, ltb-true}
 use Rattle.std.proofs.lemmas.Option.{get_or_from_slice_get, slice_get_within, slice_get-get_or, same_Some}
 use Rattle.std.proofs.lemmas.List.Elements.{All-nil, All-cons, All-head, All-tail, All-weaker}
 use Rattle.wild_words.specs.Overlay.{Piece, Apart}
@@ -17,15 +17,14 @@ use Rattle.wild_types.specs.declared.layout.Thunk.{Thunk}
 use Rattle.wild_types.specs.declared.layout.Layout.{Layout}
 use Rattle.wild_types.specs.Kinds.{is_partial_link}
 use Rattle.wild_types.specs.FileThunks.{thunk_size, block_of, thunks_of}
-use Rattle.wild_types.specs.Lookups.{is_filled, image_size, is_allocated_section, takes_file_bytes}
+use Rattle.wild_types.specs.Lookups.{is_filled, image_size, is_allocated_section, section_of_part, has_data, is_hollow_at, is_hollow_part}
 use Rattle.wild_types.specs.FilePlaces.{given}
 use Rattle.wild_clauses.specs.Contents.{is_raw, holds_thunks, section_misplaced}
 use Rattle.wild_clauses.specs.Indexes.{part_index_fits}
-use Rattle.wild_clauses.specs.Partial.{has_no_thunks}
 use Rattle.wild_clauses.specs.Places.{part_lies}
 use Rattle.wild_clauses.specs.Thunks.{is_used, has_thunks, misplaced_from, misplaced_in, owns, is_owned, block_lost, machine_takes}
 use Rattle.wild_layout.specs.Thunks.{thunk_bytes}
-use Rattle.wild_layout.specs.Image.{thunk_offset, thunk_piece}
+use Rattle.wild_layout.specs.Image.{thunk_offset, thunk_piece, unless_hollow}
 use Rattle.wild_layout.specs.SectionPlaces.{HasRoom}
 use Rattle.wild_layout.specs.ThunkPlaces.{ThunkLies, IsOwned}
 use Rattle.wild_layout.proofs.ThunkLemmas.{length-thunk_bytes}
@@ -36,7 +35,7 @@ use Rattle.wild_geometry.proofs.RunLemmas.{get_or-map_address, length-map_addres
 use Rattle.wild_geometry.proofs.StandingLemmas.{all_sections}
 use Rattle.wild_geometry.proofs.SectionLemmas.{Stood, raw_role}
 use Rattle.wild_geometry.proofs.ThunkRuns.{thunks_in, all_thunks, LiesFrom, Ahead, Beside, unused, Spread-from_groups, Thunks-behind}
-use Rattle.wild_geometry.proofs.PieceLemmas.{offset_is, owners_apart, owner_ends}
+use Rattle.wild_geometry.proofs.PieceLemmas.{All-written, AllPairs-written, offset_is, owners_apart, owner_ends}
 use Rattle.wild_geometry.proofs.CarriedLemmas.{Filled-from_tests, byte_of_part}
 
 -- ---- layouts without thunks
@@ -66,7 +65,7 @@ pub record ThunkStood (l : Layout) (t : Thunk) : Type 0 where
   pub allocated : is_allocated_section l part.section ≡ true
 
 pub record ThunksStand (l : Layout) : Type 0 where
-  pub stood : All (ThunkStood l) (all_thunks l)
+  pub stood : is_hollow_part l l.primary_part ≡ false → All (ThunkStood l) (all_thunks l)
   pub ascend : AllPairs Ahead (all_thunks l)
   pub beside : All (λ s. All (Beside l l.primary_part s) (all_thunks l)) (all_sections l)
   pub behind : (g : Group) (gs : List Group) (p : Part) → l.groups ≡ g ∷ gs → slice_get l.parts l.primary_part ≡ Some p → All (λ (t : Thunk). p.address + given l.primary_part g ≤ t.address) (flat_map (thunks_in l) gs)
@@ -78,7 +77,7 @@ none_stand : (l : Layout) → has_thunks l ≡ false → ThunksStand l
 none_stand l none =
     let e = flat_map-none (thunks_in l) l.groups (λ g. flat_map-none (thunks_of l) g.files (no_thunks l none)) in
     record {
-      stood = subst (All (ThunkStood l)) (sym e) (All-nil (ThunkStood l));
+      stood = λ written. subst (All (ThunkStood l)) (sym e) (All-nil (ThunkStood l));
       ascend = subst (AllPairs Ahead) (sym e) (AllPairs-nil Ahead);
       beside = λ i s m. subst (All (Beside l l.primary_part (get_or (all_sections l) i s))) (sym e) (All-nil (Beside l l.primary_part (get_or (all_sections l) i s)));
       behind = λ g gs p is there. (let later = flat_map-none (thunks_in l) gs (λ h. flat_map-none (thunks_of l) h.files (no_thunks l none)) in
@@ -89,8 +88,8 @@ none_stand l none =
 some_stand : (l : Layout) → Laid l → (p : Part) → slice_get l.parts l.primary_part ≡ Some p → holds_thunks l (Some p) ≡ true → misplaced_in l (Some p) ≡ None → ThunksStand l
 some_stand l h p is fits placed =
     let k = l.primary_part in
-    let a = and_parts (is_raw (Some p)) (takes_file_bytes l p.section && is_allocated_section l p.section) fits in
-    let b = and_parts (takes_file_bytes l p.section) (is_allocated_section l p.section) a.1 in
+    let a = and_parts (is_raw (Some p)) (has_data l p.section && is_allocated_section l p.section) fits in
+    let b = and_parts (has_data l p.section) (is_allocated_section l p.section) a.1 in
     let there : k < length l.parts = slice_get_within l.parts k p is in
     let same : get_or l.parts k p ≡ p = get_or_from_slice_get l.parts k p p is in
     let count = length-map_address l.parts in
@@ -99,7 +98,11 @@ some_stand l h p is fits placed =
     let low : k < length (map (λ (x : Part). x.address) l.parts) = omega arith in
     let r = Spread-from_groups l (p.address + p.size) p.address (map (λ (q : Part). q.address) l.parts) 0 0 l.groups h.inputs.order placed (omega arith) start (p.address + p.size) (omega arith) in
     record {
-      stood = All-weaker (LiesFrom p.address (p.address + p.size)) (ThunkStood l) (λ t f. record { part = p; room = record { listed = is; raw = raw_role p p.role refl a.0; takes = b.0; from = f.from; to = f.to }; allocated = b.1 }) (all_thunks l) r.within;
+      stood = λ written. (
+          let here : is_hollow_at l p.section ≡ false = sym (ap (λ (o : Option Part). is_hollow_at l (section_of_part o)) is) ∙ written in
+          let takes = and_from (has_data l p.section) (not (is_hollow_at l p.section)) b.0 (rw here refl) in
+          All-weaker (LiesFrom p.address (p.address + p.size)) (ThunkStood l) (λ t f. record { part = p; room = record { listed = is; raw = raw_role p p.role refl a.0; takes = takes; from = f.from; to = f.to }; allocated = b.1 }) (all_thunks l) r.within
+          );
       ascend = r.ascend;
       beside = r.beside;
       behind = λ g gs q split there. (let same_part = same_Some p q (sym is ∙ there) in
@@ -118,10 +121,10 @@ ThunksStand-from_laid l h =
     by_part some None is fits placed = cc
     by_part some (Some p) is fits placed = some_stand l h p is fits placed
 
--- ---- their pieces
+-- ---- their pieces, unless nothing of their part is written
 
 abbrev pub pieces_of_thunks : Layout → List Piece
-pieces_of_thunks l = flat_map (thunk_piece l) (all_thunks l)
+pieces_of_thunks l = unless_hollow l l.primary_part (flat_map (thunk_piece l) (all_thunks l))
 
 abbrev pub thunk_at : Layout → Thunk → Piece
 thunk_at l t = record { at = thunk_offset l t; bytes = thunk_bytes l t }
@@ -129,21 +132,24 @@ thunk_at l t = record { at = thunk_offset l t; bytes = thunk_bytes l t }
 pub thunk_room : (l : Layout) (t : Thunk) (st : ThunkStood l t) → HasRoom l l.primary_part t.address (length (thunk_bytes l t)) st.part
 thunk_room l t st = subst (λ (n : ℕ). HasRoom l l.primary_part t.address n st.part) (sym (length-thunk_bytes l t)) st.room
 
-pub each_thunk : (l : Layout) (P : Piece → Type 0) → All (λ t. P (thunk_at l t)) (all_thunks l) → All P (pieces_of_thunks l)
-each_thunk l P h = All-flat_map P (thunk_piece l) (all_thunks l) (λ i t m. All-cons P (thunk_at l (get_or (all_thunks l) i t)) [] (h i t m) (All-nil P))
+pub each_thunk : (l : Layout) (P : Piece → Type 0) → (is_hollow_part l l.primary_part ≡ false → All (λ t. P (thunk_at l t)) (all_thunks l)) → All P (pieces_of_thunks l)
+each_thunk l P h =
+    All-written P (is_hollow_part l l.primary_part) (flat_map (thunk_piece l) (all_thunks l)) (λ written.
+    All-flat_map P (thunk_piece l) (all_thunks l) (λ i t m. All-cons P (thunk_at l (get_or (all_thunks l) i t)) [] (h written i t m) (All-nil P)))
 
 pub thunks_apart : (l : Layout) → AllPairs (Follows l) l.parts → ThunksStand l → AllPairs Apart (pieces_of_thunks l)
 thunks_apart l f h =
+    AllPairs-written Apart (is_hollow_part l l.primary_part) (flat_map (thunk_piece l) (all_thunks l)) (λ written.
     AllPairs-flat_map Apart (thunk_piece l) (all_thunks l)
     (λ i t m. (λ j k d lt n. absurd (omega arith)))
-    (λ i j t lt m. All-cons (λ a. All (Apart a) (thunk_piece l (get_or (all_thunks l) j t))) (thunk_at l (get_or (all_thunks l) i t)) [] (All-cons (Apart (thunk_at l (get_or (all_thunks l) i t))) (thunk_at l (get_or (all_thunks l) j t)) [] (two i j t lt m) (All-nil (Apart (thunk_at l (get_or (all_thunks l) i t))))) (All-nil (λ a. All (Apart a) (thunk_piece l (get_or (all_thunks l) j t)))))
+    (λ i j t lt m. All-cons (λ a. All (Apart a) (thunk_piece l (get_or (all_thunks l) j t))) (thunk_at l (get_or (all_thunks l) i t)) [] (All-cons (Apart (thunk_at l (get_or (all_thunks l) i t))) (thunk_at l (get_or (all_thunks l) j t)) [] (two written i j t lt m) (All-nil (Apart (thunk_at l (get_or (all_thunks l) i t))))) (All-nil (λ a. All (Apart a) (thunk_piece l (get_or (all_thunks l) j t))))))
   where
-    two : (i j : ℕ) (t : Thunk) → i < j → j < length (all_thunks l) → Apart (thunk_at l (get_or (all_thunks l) i t)) (thunk_at l (get_or (all_thunks l) j t))
-    two i j t lt m =
+    two : is_hollow_part l l.primary_part ≡ false → (i j : ℕ) (t : Thunk) → i < j → j < length (all_thunks l) → Apart (thunk_at l (get_or (all_thunks l) i t)) (thunk_at l (get_or (all_thunks l) j t))
+    two written i j t lt m =
         let x = get_or (all_thunks l) i t in
         let y = get_or (all_thunks l) j t in
-        let a = h.stood i t (omega arith) in
-        let b = h.stood j t m in
+        let a = h.stood written i t (omega arith) in
+        let b = h.stood written j t m in
         owners_apart l f l.primary_part l.primary_part x.address y.address (thunk_bytes l x) (thunk_bytes l y) a.part b.part (thunk_room l x a) (thunk_room l y b) (λ e. inl (let n = length-thunk_bytes l x in let o = h.ascend i j t lt m in omega arith))
 
 pub thunk_in_image : (l : Layout) (t : Thunk) → ThunkStood l t → thunk_offset l t + thunk_size ≤ image_size l
@@ -180,11 +186,11 @@ none_used (b ∷ bs) h = (let here = All-head (λ (x : List Thunk). (length x ==
 none_in_partial : (l : Layout) → Laid l → is_partial_link l.kind ≡ true → has_thunks l ≡ false
 none_in_partial l h partial = none_used l.thunk_blocks (λ i b m. implied (is_partial_link l.kind) (length (get_or l.thunk_blocks i b) == 0) (h.partial.thunks i b m) partial)
 
-pub thunks_lie : (l : Layout) → Laid l → ThunksStand l → All (λ (g : Group). All (λ (f : File). All (ThunkLies l) (thunks_of l f)) g.files) l.groups
-thunks_lie l h st =
+pub thunks_lie : (l : Layout) → Laid l → ThunksStand l → is_hollow_part l l.primary_part ≡ false → All (λ (g : Group). All (λ (f : File). All (ThunkLies l) (thunks_of l f)) g.files) l.groups
+thunks_lie l h st written =
     elim (cases_Bool (is_partial_link l.kind)) [
       | inl partial ↦ (λ i g m j f n. subst (λ (ts : List Thunk). All (ThunkLies l) ts) (sym (no_thunks l (none_in_partial l h partial) (get_or (get_or l.groups i g).files j f))) (All-nil (ThunkLies l)))
-      | inr kind ↦ (λ i g m. All-from_flat_map (ThunkLies l) (thunks_of l) (get_or l.groups i g).files (All-from_flat_map (ThunkLies l) (thunks_in l) l.groups (All-weaker (ThunkStood l) (ThunkLies l) (thunk_lies l h kind) (all_thunks l) st.stood) i g m))
+      | inr kind ↦ (λ i g m. All-from_flat_map (ThunkLies l) (thunks_of l) (get_or l.groups i g).files (All-from_flat_map (ThunkLies l) (thunks_in l) l.groups (All-weaker (ThunkStood l) (ThunkLies l) (thunk_lies l h kind) (all_thunks l) (st.stood written)) i g m))
     ]
 
 -- ---- blocks

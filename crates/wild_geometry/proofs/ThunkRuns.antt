@@ -12,7 +12,7 @@ use Rattle.wild_types.specs.declared.file.Group.{Group}
 use Rattle.wild_types.specs.declared.layout.Thunk.{Thunk}
 use Rattle.wild_types.specs.declared.layout.Layout.{Layout}
 use Rattle.wild_types.specs.Lists.{total}
-use Rattle.wild_types.specs.Lookups.{is_filled}
+use Rattle.wild_types.specs.Lookups.{is_given}
 use Rattle.wild_types.specs.FilePlaces.{given}
 use Rattle.wild_types.specs.FileThunks.{thunk_size, thunks_of}
 use Rattle.wild_clauses.specs.Contents.{ends_of, parts_placed, section_misplaced}
@@ -107,7 +107,7 @@ ok_if false end n group h = cc
 
 Passed-from_step : (l : Layout) (group start limit end : ℕ) (s : InputSection) → section_step l group start s ≡ Ok end → start ≤ limit → To l l.primary_part limit s → Passed l start limit end s
 Passed-from_step l group start limit end s h le ends =
-    elim (cases_Bool (is_filled l s && s.part == l.primary_part)) [
+    elim (cases_Bool (is_given l s && s.part == l.primary_part)) [
       | inl own ↦
           (let a = ok_if (nat_le start s.address) end (s.address + s.size) group (rw own at h) in
           let low = leb-true _ _ a.0 in

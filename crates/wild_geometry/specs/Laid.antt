@@ -2,7 +2,7 @@
 -- sorted ones behind those of the last file.
 --   IsOf l f owner s   the file has the section, whose branches go by the block of thunks of its owner
 --   IsLaid l s         the section is one of those of the layout
---   IsKeptLaid l s     it has data, and is loaded
+--   IsKeptLaid l s     it has data, is loaded and written
 --   KeptIsLaid         an item that the layout keeps is that of such a section, but in a relocatable object
 --   frame_home l s     where such a section stands in the file: frames in their part
 use Rattle.std.specs.Prelude.{◌≡◌, ℕ, true, false, if◌then◌else◌, Contains, slice_get}
@@ -14,6 +14,7 @@ use Rattle.wild_types.specs.declared.file.Group.{Group}
 use Rattle.wild_types.specs.declared.layout.Layout.{Layout}
 use Rattle.wild_types.specs.Item.{Item, item_of}
 use Rattle.wild_types.specs.FileRoles.{is_epilogue}
+use Rattle.wild_types.specs.Hollow.{is_dropped}
 use Rattle.wild_types.specs.Kinds.{is_partial_link}
 use Rattle.wild_types.specs.Lookups.{is_read, is_frame, allocated}
 use Rattle.wild_types.specs.Parts.{part_with}
@@ -37,11 +38,12 @@ pub record IsLaid (l : Layout) (s : InputSection) : Type 0 where
   pub owner : File
   pub listed : IsOf l file owner s
 
--- it has data, and is loaded: frames are with their part
+-- it has data, is loaded and written: frames are with their part
 pub record IsKeptLaid (l : Layout) (s : InputSection) : Type 0 where
   pub input : IsLaid l s
   pub reads : is_read s ≡ true
   pub room : is_frame s.slot ≡ false → allocated s.flags ≡ true
+  pub written : is_dropped l s ≡ false
 
 -- an item that the layout keeps is that of such a section, but in a relocatable object, whose sections stand without relocations
 pub record IsLaidItem (l : Layout) (item : Item) : Type 0 where

@@ -16,7 +16,6 @@ use Rattle.wild_records.specs.SectionHeader.{section_header_size, section_header
 use Rattle.wild_records.specs.declared.program_header.ProgramHeader.{ProgramHeader}
 use Rattle.wild_records.specs.declared.section_header.SectionHeader.{SectionHeader}
 use Rattle.wild_types.specs.declared.section.Section.{Section}
-use Rattle.wild_types.specs.declared.kind.OutputKind.{OutputKind}
 use Rattle.wild_types.specs.declared.layout.Layout.{Layout}
 use Rattle.wild_types.specs.Lists.{total}
 use Rattle.wild_types.proofs.ListLemmas.{total-prefix, total-more}
@@ -67,24 +66,24 @@ table-more f n i xs d out l w room e =
 
 -- the header of the section with index i
 abbrev pub header_at : Layout → ℕ → ℕ → Section → SectionHeader
-header_at l i name s = if i == 0 then null_header l else section_header l.kind (info_at (told_of l) i s.info) name s
+header_at l i name s = if i == 0 then null_header l else section_header l (info_at (told_of l) i s.info) name s
 
 abbrev pub named : Section → ℕ
 named s = length s.name + 1
 
-headers_from-push : (kind : OutputKind) (d : List Told) (i name : ℕ) (ss : List Section) (s : Section) → headers_from kind d i name (ss ++ s ∷ []) ≡ headers_from kind d i name ss ++ section_header kind (info_at d (i + length ss) s.info) (name + total named ss) s ∷ []
-headers_from-push kind d i name [] s = let e : name + 0 ≡ name = omega arith in let z : i + 0 ≡ i = omega arith in rw (e, z) refl
-headers_from-push kind d i name (t ∷ ss) s =
+headers_from-push : (l : Layout) (d : List Told) (i name : ℕ) (ss : List Section) (s : Section) → headers_from l d i name (ss ++ s ∷ []) ≡ headers_from l d i name ss ++ section_header l (info_at d (i + length ss) s.info) (name + total named ss) s ∷ []
+headers_from-push l d i name [] s = let e : name + 0 ≡ name = omega arith in let z : i + 0 ≡ i = omega arith in rw (e, z) refl
+headers_from-push l d i name (t ∷ ss) s =
     let e : name + length t.name + 1 + total named ss ≡ name + (length t.name + 1 + total named ss) = omega arith in
     let n : i + 1 + length ss ≡ i + length (t ∷ ss) = omega arith in
-    ap (λ (r : List SectionHeader). section_header kind (info_at d i t.info) name t ∷ r) (rw (← e, ← n) (headers_from-push kind d (i + 1) (name + length t.name + 1) ss s))
+    ap (λ (r : List SectionHeader). section_header l (info_at d i t.info) name t ∷ r) (rw (← e, ← n) (headers_from-push l d (i + 1) (name + length t.name + 1) ss s))
 
 section_headers_of-push : (l : Layout) (i : ℕ) (ss : List Section) (s : Section) → length ss ≡ i → section_headers_of l (ss ++ s ∷ []) ≡ section_headers_of l ss ++ header_at l i (total named ss) s ∷ []
 section_headers_of-push l i [] s e = rw (← e) refl
 section_headers_of-push l i (t ∷ ss) s e =
     let z : nat_eq i 0 ≡ false = grind (arith, nat_tests) in
     let n : 1 + length ss ≡ i = omega (arith, e) in
-    rw (z, ← n) (ap (λ (r : List SectionHeader). null_header l ∷ r) (headers_from-push l.kind (told_of l) 1 (length t.name + 1) ss s))
+    rw (z, ← n) (ap (λ (r : List SectionHeader). null_header l ∷ r) (headers_from-push l (told_of l) 1 (length t.name + 1) ss s))
 
 -- one more section header
 pub section_table-more : (l : Layout) (i : ℕ) (ss : List Section) (d : Section) (out : List ℕ) → i < length ss → section_header_size * length ss ≡ length out

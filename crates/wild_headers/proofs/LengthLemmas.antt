@@ -10,7 +10,6 @@ use Rattle.wild_records.specs.ProgramHeader.{program_header_size, program_header
 use Rattle.wild_records.specs.SectionHeader.{section_header_size, section_header_fields}
 use Rattle.wild_records.proofs.FileHeaderLemmas.{length-file_header}
 use Rattle.wild_types.specs.declared.section.Section.{Section}
-use Rattle.wild_types.specs.declared.kind.OutputKind.{OutputKind}
 use Rattle.wild_types.specs.declared.layout.Layout.{Layout}
 use Rattle.wild_types.specs.Lists.{total}
 use Rattle.wild_types.specs.declared.part.Part.{Part}
@@ -21,13 +20,13 @@ use Rattle.wild_headers.specs.Headers.{file_header, program_header, told_of, hea
 use Rattle.wild_headers.specs.Laws.{LengthsOfHeaders}
 use Rattle.wild_headers.proofs.HeaderLemmas.{length-program_header, length-section_header}
 
-length-headers_from : (kind : OutputKind) (d : List Told) (i name : ℕ) (ss : List Section) → length (headers_from kind d i name ss) ≡ length ss
-length-headers_from kind d i name [] = refl
-length-headers_from kind d i name (s ∷ ss) = let e = length-headers_from kind d (i + 1) (name + length s.name + 1) ss in omega (arith, e)
+length-headers_from : (l : Layout) (d : List Told) (i name : ℕ) (ss : List Section) → length (headers_from l d i name ss) ≡ length ss
+length-headers_from l d i name [] = refl
+length-headers_from l d i name (s ∷ ss) = let e = length-headers_from l d (i + 1) (name + length s.name + 1) ss in omega (arith, e)
 
 pub length-section_headers_of : (l : Layout) (ss : List Section) → length (section_headers_of l ss) ≡ length ss
 length-section_headers_of l [] = refl
-length-section_headers_of l (s ∷ ss) = let e = length-headers_from l.kind (told_of l) 1 (length s.name + 1) ss in omega (arith, e)
+length-section_headers_of l (s ∷ ss) = let e = length-headers_from l (told_of l) 1 (length s.name + 1) ss in omega (arith, e)
 
 length-names : (ss : List Section) → length (flat_map (λ (s : Section). s.name ++ 0 ∷ []) ss) ≡ total (λ (s : Section). length s.name + 1) ss
 length-names [] = refl

@@ -9,7 +9,6 @@ use Rattle.wild_records.specs.ProgramHeader.{program_header_size, program_header
 use Rattle.wild_records.specs.SectionHeader.{section_header_size, section_header_fields}
 use Rattle.wild_records.specs.declared.section_header.SectionHeader.{SectionHeader}
 use Rattle.wild_types.specs.declared.section.Section.{Section}
-use Rattle.wild_types.specs.declared.kind.OutputKind.{OutputKind}
 use Rattle.wild_types.specs.declared.layout.Layout.{Layout}
 use Rattle.wild_types.specs.Lists.{total}
 use Rattle.wild_headers.specs.declared.section_headers.Told.{Told}
@@ -43,11 +42,11 @@ sections_stand l k d h =
     Stands-table (λ x. spell (section_header_fields x)) section_header_size length-section_header (section_headers_of l l.sections) k d (omega (arith, n, h))
 
 -- the name that a header tells begins behind those before it
-name_of_header : (kind : OutputKind) (d : List Told) (i name : ℕ) (ss : List Section) (k : ℕ) (h : SectionHeader) → k < length ss → (get_or (headers_from kind d i name ss) k h).name ≡ name + total named (take k ss)
+name_of_header : (l : Layout) (d : List Told) (i name : ℕ) (ss : List Section) (k : ℕ) (h : SectionHeader) → k < length ss → (get_or (headers_from l d i name ss) k h).name ≡ name + total named (take k ss)
 unfolding section_header
-name_of_header kind d i name [] k h l = absurd (omega (arith, l))
-name_of_header kind d i name (s ∷ ss) zero h l = omega arith
-name_of_header kind d i name (s ∷ ss) (suc k) h l = let e = name_of_header kind d (i + 1) (name + length s.name + 1) ss k h (omega (arith, l)) in omega (arith, e)
+name_of_header l d i name [] k h few = absurd (omega (arith, few))
+name_of_header l d i name (s ∷ ss) zero h few = omega arith
+name_of_header l d i name (s ∷ ss) (suc k) h few = let e = name_of_header l d (i + 1) (name + length s.name + 1) ss k h (omega (arith, few)) in omega (arith, e)
 
 Stands-name : (ss : List Section) (k : ℕ) (d : Section) → k < length ss → Stands (flat_map (λ (s : Section). s.name ++ 0 ∷ []) ss) (total named (take k ss)) ((get_or ss k d).name ++ 0 ∷ [])
 Stands-name [] k d l = absurd (omega (arith, l))
@@ -63,6 +62,6 @@ names_stand l k d h some few = at l l.sections k d h some few
     at l [] k d h some few = absurd (omega (arith, few))
     at l (s ∷ ss) zero d h some few = absurd (omega (arith, some))
     at l (s ∷ ss) (suc k) d h some few =
-        let e = name_of_header l.kind (told_of l) 1 (length s.name + 1) ss k h (omega (arith, few)) in
-        let same : (get_or (headers_from l.kind (told_of l) 1 (length s.name + 1) ss) k h).name ≡ total named (take (suc k) (s ∷ ss)) = omega (arith, e) in
+        let e = name_of_header l (told_of l) 1 (length s.name + 1) ss k h (omega (arith, few)) in
+        let same : (get_or (headers_from l (told_of l) 1 (length s.name + 1) ss) k h).name ≡ total named (take (suc k) (s ∷ ss)) = omega (arith, e) in
         rw same (Stands-name (s ∷ ss) (suc k) d few)

@@ -7,7 +7,7 @@ use Rattle.std.specs.Prelude.{ℕ, ◌+◌, ◌-◌, ◌%◌, ◌/◌, ◌^◌, 
 use Rattle.std.specs.List.{flat_map}
 use Rattle.wild_words.specs.Record.{spell}
 use Rattle.wild_records.specs.Abi.Header.{elfmag, elfclass64, elfdata2lsb, ev_current, elfosabi_none, et_rel, et_exec, et_dyn, em_x86_64, em_aarch64}
-use Rattle.wild_records.specs.Abi.Section.{sht_null, shn_undef, shn_loreserve, shn_xindex, shf_compressed}
+use Rattle.wild_records.specs.Abi.Section.{sht_null, sht_nobits, shn_undef, shn_loreserve, shn_xindex, shf_compressed}
 use Rattle.wild_records.specs.Abi.Segment.{pt_load, pt_gnu_stack, pf_x}
 use Rattle.wild_records.specs.declared.file_header.FileHeader.{FileHeader}
 use Rattle.wild_records.specs.declared.program_header.ProgramHeader.{ProgramHeader}
@@ -30,7 +30,7 @@ use Rattle.wild_types.specs.declared.layout.Layout.{Layout}
 use Rattle.wild_headers.specs.declared.section_headers.Told.{Told}
 use Rattle.wild_needs.specs.EntryPoint.{entry_point}
 use Rattle.wild_types.specs.Kinds.{is_partial_link}
-use Rattle.wild_types.specs.Lookups.{bit}
+use Rattle.wild_types.specs.Lookups.{bit, is_hollow}
 use Rattle.wild_types.specs.Parts.{has_role}
 use Rattle.wild_needs.specs.Versions.{need_count}
 
@@ -162,14 +162,18 @@ abbrev pub info_at : List Told → ℕ → ℕ → ℕ
 info_at [] i given = given
 info_at (t ∷ ts) i given = if i == t.section then t.info else info_at ts i given
 
+-- the type that is told of a section: where nothing of it is written, that of sections without bytes in the file
+abbrev pub type_told : Layout → Section → ℕ
+type_told l s = if is_hollow l s then sht_nobits else s.kind
+
 -- the header of another section, whose name begins at that offset of the names; in a relocatable object no section has an address (gABI,
 -- "Section Header", sh_addr)
-unfoldable pub section_header : OutputKind → ℕ → ℕ → Section → SectionHeader
-section_header kind info name s = record {
+unfoldable pub section_header : Layout → ℕ → ℕ → Section → SectionHeader
+section_header l info name s = record {
   name = name;
-  kind = s.kind;
+  kind = type_told l s;
   flags = uncompressed s.flags;
-  address = or_partial kind s.address;
+  address = or_partial l.kind s.address;
   offset = s.offset;
   size = s.size;
   link = s.link;
@@ -179,14 +183,14 @@ section_header kind info name s = record {
 }
 
 -- the headers of the sections from number i and a name offset on
-abbrev pub headers_from : OutputKind → List Told → ℕ → ℕ → List Section → List SectionHeader
-headers_from kind told i name [] = []
-headers_from kind told i name (s ∷ ss) = section_header kind (info_at told i s.info) name s ∷ headers_from kind told (i + 1) (name + length s.name + 1) ss
+abbrev pub headers_from : Layout → List Told → ℕ → ℕ → List Section → List SectionHeader
+headers_from l told i name [] = []
+headers_from l told i name (s ∷ ss) = section_header l (info_at told i s.info) name s ∷ headers_from l told (i + 1) (name + length s.name + 1) ss
 
 -- all section headers
 abbrev pub section_headers_of : Layout → List Section → List SectionHeader
 section_headers_of l [] = []
-section_headers_of l (s ∷ ss) = null_header l ∷ headers_from l.kind (told_of l) 1 (length s.name + 1) ss
+section_headers_of l (s ∷ ss) = null_header l ∷ headers_from l (told_of l) 1 (length s.name + 1) ss
 
 abbrev pub file_header_bytes : Layout → List ℕ
 file_header_bytes l = spell (file_header_fields (file_header l))

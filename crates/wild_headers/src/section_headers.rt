@@ -4,12 +4,12 @@ ghost use Rattle.wild_words.specs.Words.{place};
 ghost use Rattle.wild_words.specs.Record.{spell};
 ghost use Rattle.wild_records.specs.SectionHeader.{section_header_size, section_header_fields};
 ghost use Rattle.wild_needs.specs.Needs.{name_bytes};
-ghost use Rattle.wild_headers.specs.Headers.{name_table, told_at, local_symbols, told_of, null_header, uncompressed, info_at, section_header, section_header_bytes};
+ghost use Rattle.wild_headers.specs.Headers.{name_table, told_at, local_symbols, told_of, null_header, uncompressed, info_at, type_told, section_header, section_header_bytes};
 
 use crate::numbers::{need_count, or_none, or_partial, section_of_role, size_of_role};
-use wild_records::abi::section::{SHF_COMPRESSED, SHT_NULL};
+use wild_records::abi::section::{SHF_COMPRESSED, SHT_NOBITS, SHT_NULL};
 use wild_records::{SectionHeader, SymtabEntry};
-use wild_types::{Layout, OutputKind, Role, Section, SectionIndex};
+use wild_types::{Layout, Role, Section, SectionIndex};
 use wild_words::put;
 
 #[tactic(auto, unfolding(crate::specs::Headers::null_header))]
@@ -95,16 +95,27 @@ fn info_at(told: &[Told], i: SectionIndex, given: u32) -> u32
     given
 }
 
+/// The type that is told of a section: where nothing of it is written, that of sections without bytes in the file.
+fn type_told(layout: &Layout, section: &Section) -> u32
+    ensures { result ≡ type_told layout.now section.now }
+{
+    if layout.is_hollow(section) {
+        SHT_NOBITS
+    } else {
+        section.kind
+    }
+}
+
 /// The header of another section. In a relocatable object no section has an address.
 #[tactic(auto, unfolding(crate::specs::Headers::section_header))]
-fn section_header(kind: OutputKind, info: u32, name: u32, section: &Section) -> SectionHeader
-    ensures { result ≡ section_header kind info name section.now }
+fn section_header(layout: &Layout, info: u32, name: u32, section: &Section) -> SectionHeader
+    ensures { result ≡ section_header layout.now info name section.now }
 {
     SectionHeader {
         name,
-        kind: section.kind,
+        kind: type_told(layout, section),
         flags: uncompressed(section.flags),
-        address: or_partial(kind, section.address),
+        address: or_partial(layout.kind, section.address),
         offset: section.offset,
         size: section.size,
         link: section.link,
@@ -124,17 +135,12 @@ fn header_of(
 ) -> SectionHeader
     requires name { name < 2 ^ 32 }
     requires name_table { name_table layout.now < 2 ^ 32 }
-    ensures { result ≡ (if i == 0 then null_header layout.now else section_header layout.now.kind (info_at told.now i section.now.info) name section.now) }
+    ensures { result ≡ (if i == 0 then null_header layout.now else section_header layout.now (info_at told.now i section.now.info) name section.now) }
 {
     if i.0 == 0 {
         null_header(layout)
     } else {
-        section_header(
-            layout.kind,
-            info_at(told, i, section.info),
-            name as u32,
-            section,
-        )
+        section_header(layout, info_at(told, i, section.info), name as u32, section)
     }
 }
 
@@ -150,7 +156,7 @@ fn put_section_header(
     requires told { told.now ≡ told_of layout.now }
     requires name { name < 2 ^ 32 }
     requires name_table { name_table layout.now < 2 ^ 32 }
-    ensures { out.new ≡ place (section_header_size * i) (spell (section_header_fields (if i == 0 then null_header layout.now else section_header layout.now.kind (info_at (told_of layout.now) i section.now.info) name section.now))) out.old }
+    ensures { out.new ≡ place (section_header_size * i) (spell (section_header_fields (if i == 0 then null_header layout.now else section_header layout.now (info_at (told_of layout.now) i section.now.info) name section.now))) out.old }
 {
     let mut header = [0; SectionHeader::SIZE];
     header_of(layout, told, SectionIndex(i), name, section).put(&mut header);

@@ -12,13 +12,13 @@ use Rattle.wild_types.specs.declared.file.File.{File}
 use Rattle.wild_types.specs.declared.file.Group.{Group}
 use Rattle.wild_types.specs.declared.layout.Thunk.{Thunk}
 use Rattle.wild_types.specs.declared.layout.Layout.{Layout}
-use Rattle.wild_types.specs.Lookups.{has_range, is_filled, image_size}
+use Rattle.wild_types.specs.Lookups.{has_range, is_filled, is_hollow_part, image_size}
 use Rattle.wild_types.specs.declared.layout.SortedSection.{SortedSection}
 use Rattle.wild_laid.specs.Turned.{as_turned}
 use Rattle.wild_laid.specs.Laid.{as_loaded, unread, sorted_input}
 use Rattle.wild_layout.specs.Sites.{section_bytes}
-use Rattle.wild_layout.specs.Thunks.{thunk_bytes}
-use Rattle.wild_layout.specs.Image.{offset_in, section_piece, thunk_offset, thunk_piece}
+use Rattle.wild_layout.specs.Thunks.{thunk_bytes, file_thunks}
+use Rattle.wild_layout.specs.Image.{offset_in, unless_hollow, section_piece, thunk_offset, thunk_piece}
 use Rattle.std.proofs.lemmas.Bool.{cases_Bool}
 use Rattle.wild_image.specs.Pieces.{standing, has_room, ranged_room, place_in, section_owned, ranged_owned, sorted_owned, in_part, owned_in, ranged_in, sorted_in}
 use Rattle.wild_image.specs.Owners.{ranged_piece, sorted_pieces}
@@ -189,6 +189,18 @@ sorted_taken l x f s owns bytes found lies is begins =
 -- the bytes of the thunk, put
 pub thunk_appended : (l : Layout) (t : Thunk) (at : ℕ) (own out next : List ℕ) → at ≡ thunk_offset l t → own ≡ thunk_bytes l t → next ≡ place at own out → next ≡ overlay (thunk_piece l t) out
 thunk_appended l t at own out next is bytes e = e ∙ ap (λ (n : ℕ). place n own out) is ∙ ap (λ (r : List ℕ). place (thunk_offset l t) r out) bytes
+
+-- ---- what is written unless a section is hollow
+
+-- the thunks of a file that are written
+abbrev pub thunks_written : Layout → File → List ℕ
+thunks_written l f = unless_hollow l l.primary_part (file_thunks l f)
+
+pub none_written : {X : Type 0} (l : Layout) (part : ℕ) (xs : List X) → is_hollow_part l part ≡ true → unless_hollow l part xs ≡ []
+none_written l part xs hollow = ap (λ (b : Bool). if b then [] else xs) hollow
+
+pub all_written : {X : Type 0} (l : Layout) (part : ℕ) (xs : List X) → is_hollow_part l part ≡ false → unless_hollow l part xs ≡ xs
+all_written l part xs written = ap (λ (b : Bool). if b then [] else xs) written
 
 -- ---- what stands one behind the other
 

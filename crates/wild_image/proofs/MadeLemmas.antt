@@ -1,7 +1,7 @@
 -- Laws of sections that debuggers read, and of what is made of tables of relocations and of groups.
 use Rattle.std.proofs.Common.{◌≡◌, ℕ, Bool, true, false, inl, inr, not, ◌&&◌, if◌then◌else◌, List, [], ◌++◌, length, All, refl, sym, ap, ◌∙◌, subst, arith}
 use Rattle.std.specs.Prelude.{Result, Ok, Err, OnOk, ◌==◌}
-use Rattle.std.proofs.lemmas.Bool.{cases_Bool, eqb-true, not-false}
+use Rattle.std.proofs.lemmas.Bool.{cases_Bool, eqb-true, not-false, and_parts}
 use Rattle.std.proofs.lemmas.List.{append-nil, nil_from_length}
 use Rattle.wild_types.specs.declared.fault.Error.{Error}
 use Rattle.wild_types.specs.declared.input.Slot.{Slot}
@@ -10,7 +10,9 @@ use Rattle.wild_types.specs.declared.input.InputSection.{InputSection}
 use Rattle.wild_types.specs.declared.file.File.{File}
 use Rattle.wild_types.specs.declared.layout.Layout.{Layout}
 use Rattle.wild_types.specs.Faults.{Answers}
-use Rattle.wild_types.specs.Lookups.{has_range, has_relocations, has_fields, has_counted, is_read, is_written, is_debug, is_rela, is_filled}
+use Rattle.wild_types.specs.declared.part.Role.TheVariants as role
+use Rattle.wild_types.specs.Hollow.{is_hollow_role, is_dropped}
+use Rattle.wild_types.specs.Lookups.{has_range, has_relocations, has_fields, has_counted, is_read, is_written, is_frame, is_debug, is_rela, is_given, is_filled, is_hollow_part}
 use Rattle.wild_laid.specs.Stood.{Stood}
 use Rattle.wild_layout.specs.Debug.{debug_bytes}
 use Rattle.wild_layout.specs.Partial.{rela_bytes_of, group_words}
@@ -20,7 +22,7 @@ use Rattle.wild_layout.specs.SectionPlaces.{FieldLies, SectionLies}
 use Rattle.wild_layout.proofs.DebugLemmas.{length-debug_bytes}
 use Rattle.wild_layout.proofs.PartialLemmas.{section_bytes_debug, section_bytes_rela, section_bytes_group}
 use Rattle.wild_image.specs.Pieces.{section_owned}
-use Rattle.wild_image.specs.Stood.{written_faults, stood_faults, IsMadeOf}
+use Rattle.wild_image.specs.Stood.{written_faults, kept_faults, IsMadeOf}
 
 -- ---- what debuggers read
 
@@ -31,6 +33,19 @@ debug_slot other h = cc
 written_debug : (k : Slot) (nobits : Bool) → is_debug k ≡ true → nobits ≡ false → (has_fields k && not nobits) ≡ true
 written_debug slot.Debug nobits h n = rw n refl
 written_debug other nobits h n = cc
+
+pub not_given : (given hollow : Bool) → (given && not hollow) ≡ false → hollow ≡ false → given ≡ false
+not_given true true h e = cc
+not_given true false h e = cc
+not_given false hollow h e = refl
+
+debug_no_frame : (k : Slot) → is_debug k ≡ true → is_frame k ≡ false
+debug_no_frame slot.Debug h = refl
+debug_no_frame other h = cc
+
+-- where it is written, so is its part
+debug_part : (l : Layout) (s : InputSection) → is_debug s.slot ≡ true → is_dropped l s ≡ false → is_hollow_part l s.part ≡ false
+debug_part l s debug written = sym (ap (λ (b : Bool). if b then is_hollow_role l role.EhFrame else is_hollow_part l s.part) (debug_no_frame s.slot debug)) ∙ written
 
 -- its bytes are as many as its size
 debug_long : (l : Layout) (s : InputSection) → is_debug s.slot ≡ true → s.nobits ≡ false → SectionLies l s → length s.bytes ≡ s.size
@@ -47,27 +62,27 @@ debug_lies l s debug whole lies = subst (λ (n : ℕ). All (FieldLies l.machine 
 empty_by : (k : Slot) (nobits : Bool) (some other : Bool) (n : ℕ) → k ≡ slot.Debug → nobits ≡ false → (has_range k && (if nobits then some else if is_rela k then other else not (n == 0))) ≡ false → n ≡ 0
 empty_by k nobits some other n is whole h = eqb-true n 0 (not-false (n == 0) (rw (is, whole) at h))
 
-debug_owned : (l : Layout) (f : File) (s : InputSection) → is_debug s.slot ≡ true → s.nobits ≡ false → SectionLies l s → section_owned l f s ≡ debug_bytes l s
-debug_owned l f s debug whole lies =
+debug_owned : (l : Layout) (f : File) (s : InputSection) → is_debug s.slot ≡ true → s.nobits ≡ false → is_dropped l s ≡ false → SectionLies l s → section_owned l f s ≡ debug_bytes l s
+debug_owned l f s debug whole written lies =
     let is = debug_slot s.slot debug in
     elim (cases_Bool (is_filled l s)) [
       | inl t ↦ rw t (section_bytes_debug l f s is whole)
       | inr n ↦
-          (let none = empty_by s.slot s.nobits _ _ (length s.bytes) is whole n in
+          (let none = empty_by s.slot s.nobits _ _ (length s.bytes) is whole (not_given (is_given l s) (is_hollow_part l s.part) n (debug_part l s debug written)) in
           let long = length-debug_bytes l s (debug_lies l s debug whole lies) in
           rw n (sym (nil_from_length (debug_bytes l s) (long ∙ none))))
     ]
 
 -- its faults are those of its relocations
-pub debug_answers : (l : Layout) (group file section : ℕ) (f : File) (x : Stood) (r : Result (Unit {0}) Error) → is_debug x.section.slot ≡ true → x.section.nobits ≡ false → Answers r (debug_errors l group file section x.section x.origins) → Answers r (stood_faults l group file section f x)
-unfolding stood_faults
+pub debug_answers : (l : Layout) (group file section : ℕ) (f : File) (x : Stood) (r : Result (Unit {0}) Error) → is_debug x.section.slot ≡ true → x.section.nobits ≡ false → Answers r (debug_errors l group file section x.section x.origins) → Answers r (kept_faults l group file section f x)
+unfolding kept_faults
 debug_answers l group file section f x r debug whole h =
     let w : is_written x.section ≡ true = written_debug x.section.slot x.section.nobits debug whole in
     rw (w, debug) h
 
-pub debug_added : (l : Layout) (s : InputSection) (r : Result (Unit {0}) Error) (old new : List ℕ) → is_debug s.slot ≡ true → s.nobits ≡ false → SectionLies l s → OnOk r (new ≡ old ++ debug_bytes l s) → OnOk r ((f : File) → new ≡ old ++ section_owned l f s)
-debug_added l s (Ok u) old new debug whole lies h = λ f. h ∙ ap (λ (bs : List ℕ). old ++ bs) (sym (debug_owned l f s debug whole lies))
-debug_added l s (Err e) old new debug whole lies h = h
+pub debug_added : (l : Layout) (s : InputSection) (r : Result (Unit {0}) Error) (old new : List ℕ) → is_debug s.slot ≡ true → s.nobits ≡ false → is_dropped l s ≡ false → SectionLies l s → OnOk r (new ≡ old ++ debug_bytes l s) → OnOk r ((f : File) → new ≡ old ++ section_owned l f s)
+debug_added l s (Ok u) old new debug whole written lies h = λ f. h ∙ ap (λ (bs : List ℕ). old ++ bs) (sym (debug_owned l f s debug whole written lies))
+debug_added l s (Err e) old new debug whole written lies h = h
 
 -- ---- what is made
 
@@ -86,7 +101,7 @@ made_rela : (l : Layout) (f : File) (s : InputSection) → IsMadeOf l s → is_r
 made_rela l f s made rela = section_bytes_rela l f s (rela_slot s.slot rela) made.whole
 
 made_group : (l : Layout) (f : File) (s : InputSection) → IsMadeOf l s → is_rela s.slot ≡ false → section_bytes l f s ≡ group_words s
-made_group l f s made other = section_bytes_group l f s (group_slot s.slot s.nobits _ made.filled made.whole made.unread made.other other) made.whole
+made_group l f s made other = section_bytes_group l f s (group_slot s.slot s.nobits _ ((and_parts (is_given l s) _ made.filled).0) made.whole made.unread made.other other) made.whole
 
 -- how many bytes are made
 pub rela_size : (l : Layout) (f : File) (s : InputSection) → IsMadeOf l s → is_rela s.slot ≡ true → length (section_bytes l f s) ≡ s.size → length (rela_bytes_of l s) ≡ s.size
@@ -111,8 +126,8 @@ unwritten_by slot.Debug nobits other whole unread = cc
 unwritten_by rest nobits other whole unread = refl
 
 -- no relocation of it is written
-pub no_faults : (l : Layout) (group file section : ℕ) (f : File) (x : Stood) → is_read x.section ≡ false → x.section.nobits ≡ false → is_debug x.section.slot ≡ false → stood_faults l group file section f x ≡ []
-unfolding stood_faults
+pub no_faults : (l : Layout) (group file section : ℕ) (f : File) (x : Stood) → is_read x.section ≡ false → x.section.nobits ≡ false → is_debug x.section.slot ≡ false → kept_faults l group file section f x ≡ []
+unfolding kept_faults
 no_faults l group file section f x unread whole other = let w : is_written x.section ≡ false = unwritten_by x.section.slot x.section.nobits other whole unread in rw w refl
 
 pub nothing_added : (l : Layout) (f : File) (s : InputSection) (old : List ℕ) → is_filled l s ≡ false → old ≡ old ++ section_owned l f s

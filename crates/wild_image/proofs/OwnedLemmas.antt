@@ -1,10 +1,10 @@
 -- Laws of what a group owns of each part.
-use Rattle.std.proofs.Common.{◌≡◌, ℕ, ◌+◌, ◌<◌, inl, inr, ◌==◌, if◌then◌else◌, Bool, true, false, List, [], ◌∷◌, ◌++◌, length, map, take, set, get_or, refl, sym, ap, ◌∙◌, arith, subst}
+use Rattle.std.proofs.Common.{◌≡◌, ℕ, ◌+◌, ◌<◌, inl, inr, ◌==◌, if◌then◌else◌, Bool, true, false, not, ◌&&◌, List, [], ◌∷◌, ◌++◌, length, map, take, set, get_or, refl, sym, ap, ◌∙◌, arith, subst}
 use Rattle.std.specs.Prelude.{Option, Some, slice_get, Result, Ok, Err, OnOk}
 use Rattle.std.specs.List.{flat_map}
 use Rattle.wild_words.proofs.Basics.{slice_get_inside}
 use Rattle.wild_words.proofs.ListLemmas.{flat_map-more}
-use Rattle.std.proofs.lemmas.Bool.{cases_eq, eq-eqb, ne_eqb}
+use Rattle.std.proofs.lemmas.Bool.{cases_eq, eqb-true, eq-eqb, ne_eqb}
 use Rattle.std.proofs.lemmas.List.{append-nil, nil_from_length, append_assoc, get_or-set_same, get_or-set_other, get_or_default, get_or-map, map_more, length-map}
 use Rattle.std.proofs.lemmas.Option.{get_or_from_slice_get, slice_get_within}
 use Rattle.std.proofs.lemmas.List.FromFn.{fill_by_all}
@@ -13,10 +13,10 @@ use Rattle.wild_types.specs.declared.input.InputSection.{InputSection}
 use Rattle.wild_types.specs.declared.file.File.{File}
 use Rattle.wild_types.specs.declared.file.Group.{Group}
 use Rattle.wild_types.specs.declared.layout.Layout.{Layout}
-use Rattle.wild_types.specs.Lookups.{is_filled}
+use Rattle.wild_types.specs.Lookups.{section_of_part, is_filled, is_hollow_at, is_hollow_part}
 use Rattle.wild_layout.specs.Sites.{section_bytes}
 use Rattle.wild_layout.specs.Content.{content}
-use Rattle.wild_image.specs.Pieces.{role_of, group_given, in_part, group_owned, group_part, group_parts}
+use Rattle.wild_image.specs.Pieces.{role_of, table_given, group_given, front_in, in_part, group_owned, group_part, group_parts}
 
 -- bytes behind those of one part, which stand there or nowhere
 pub part_taken : (part : ℕ) (bytes : List ℕ) (parts : List (List ℕ)) (d new : List ℕ) → part < length parts → new ≡ get_or parts part d ++ bytes
@@ -49,8 +49,21 @@ nowhere : (b : Bool) (bs : List ℕ) → length bs ≡ 0 → (if b then bs else 
 nowhere true bs z = nil_from_length bs z
 nowhere false bs z = refl
 
-pub none_taken : (parts : List (List ℕ)) (k part : ℕ) (bs : List ℕ) → length bs ≡ 0 → get_or parts k [] ≡ get_or parts k [] ++ in_part k part bs
-none_taken parts k part bs z = sym (append-nil (get_or parts k [])) ∙ ap (λ (ys : List ℕ). get_or parts k [] ++ ys) (sym (nowhere (part == k) bs z))
+empty_by : (none : Bool) → (not none && true) ≡ false → none ≡ true
+empty_by true h = refl
+empty_by false h = cc
+
+nothing_in : (hollow : Bool) (old : List ℕ) (k part : ℕ) (bs : List ℕ) → (not (length bs == 0) && not hollow) ≡ false → old ≡ old ++ (if hollow then [] else in_part k part bs)
+nothing_in true old k part bs h = sym (append-nil old)
+nothing_in false old k part bs h = sym (append-nil old) ∙ ap (λ (ys : List ℕ). old ++ ys) (sym (nowhere (part == k) bs (eqb-true (length bs) 0 (empty_by (length bs == 0) h))))
+
+-- nor do those at the front of a part, where there are none or the part is not written
+pub front_none : (l : Layout) (parts : List (List ℕ)) (k part : ℕ) (bs : List ℕ) → (not (length bs == 0) && not (is_hollow_part l part)) ≡ false → get_or parts k [] ≡ get_or parts k [] ++ front_in l k part bs
+front_none l parts k part bs h = nothing_in (is_hollow_part l part) (get_or parts k []) k part bs h
+
+-- of one that is written they stand there
+pub front_written : (l : Layout) (k part : ℕ) (bs : List ℕ) → is_hollow_part l part ≡ false → in_part k part bs ≡ front_in l k part bs
+front_written l k part bs written = sym (ap (λ (b : Bool). if b then [] else in_part k part bs) written)
 
 -- one more item's bytes, for an item that a loop read
 pub owned_read : {X : Type 0} (f : ℕ → X → List ℕ) (xs : List X) (i : ℕ) (x : X) (base now next : List (List ℕ)) → i < length xs → x ≡ get_or xs i x → length next ≡ length now
@@ -85,18 +98,18 @@ map_read {X} {Y} f xs i x now next at before step =
     step ∙ ap (λ (ys : List Y). ys ++ f x ∷ []) before ∙ ap (λ (y : X). map f (take i xs) ++ f y ∷ []) (sym read) ∙ sym (map_more f xs i x (slice_get_within xs i x at))
 
 -- what a group gives to part k
-table_at : (l : Layout) (g : Group) (k : ℕ) → k < length l.parts → get_or (map (λ (p : Part). content l p.role g) l.parts) k [] ≡ group_given l k g
+table_at : (l : Layout) (g : Group) (k : ℕ) → k < length l.parts → get_or (map (table_given l g) l.parts) k [] ≡ group_given l k g
 table_at l g k low =
     let there = slice_get_inside l.parts k low in
     let p = there.0 in
-    get_or-map (λ (q : Part). content l q.role g) l.parts k p [] low
-    ∙ ap (λ (q : Part). content l q.role g) (get_or_from_slice_get l.parts k p p there.1)
-    ∙ sym (ap (λ (o : Option Part). content l (role_of o) g) there.1)
+    get_or-map (table_given l g) l.parts k p [] low
+    ∙ ap (table_given l g) (get_or_from_slice_get l.parts k p p there.1)
+    ∙ sym (ap (λ (o : Option Part). if is_hollow_at l (section_of_part o) then [] else content l (role_of o) g) there.1)
 
 -- all parts of a group: first what it gives, then what its input sections own
-pub parts_are : (l : Layout) (g : Group) (tables parts : List (List ℕ)) → tables ≡ map (λ (p : Part). content l p.role g) l.parts → length parts ≡ length tables → ((k : ℕ) → k < length tables → get_or parts k [] ≡ get_or tables k [] ++ group_owned l k g) → parts ≡ group_parts l g
+pub parts_are : (l : Layout) (g : Group) (tables parts : List (List ℕ)) → tables ≡ map (table_given l g) l.parts → length parts ≡ length tables → ((k : ℕ) → k < length tables → get_or parts k [] ≡ get_or tables k [] ++ group_owned l k g) → parts ≡ group_parts l g
 unfolding group_parts
 parts_are l g tables parts given long each =
-    let count : length tables ≡ length l.parts = ap length given ∙ length-map l.parts (λ (p : Part). content l p.role g) in
+    let count : length tables ≡ length l.parts = ap length given ∙ length-map l.parts (table_given l g) in
     fill_by_all (group_part l g) parts (length l.parts) [] (long ∙ count) (λ k low.
     each k (omega (arith, low, count)) ∙ ap (λ (ys : List ℕ). ys ++ group_owned l k g) (ap (λ (xs : List (List ℕ)). get_or xs k []) given ∙ table_at l g k low))

@@ -1,9 +1,9 @@
 -- Laws of sections that stand in the output, beside those of the plan.
-use Rattle.std.proofs.Common.{◌≡◌, ℕ, zero, suc, ◌^◌, ◌<◌, ◌≤◌, ◌+◌, ◌==◌, inl, inr, Bool, true, false, not, ◌&&◌, ◌||◌, if◌then◌else◌, List, [], ◌∷◌, ◌++◌, map, length, All, Ok, refl, sym, ap, ◌∙◌, subst, get_or, arith}
+use Rattle.std.proofs.Common.{◌≡◌, ℕ, zero, suc, ◌^◌, ◌<◌, ◌≤◌, ◌+◌, ◌==◌, Bool, true, false, not, ◌&&◌, ◌||◌, if◌then◌else◌, List, [], ◌∷◌, ◌++◌, map, length, All, Ok, refl, sym, ap, ◌∙◌, subst, get_or, arith}
 use Rattle.std.specs.Prelude.{Contains, replicate, Option, Some, None, option_to_list, slice_get}
 use Rattle.std.specs.List.{flat_map}
-use Rattle.std.proofs.lemmas.Bool.{cases_Bool, cases_lt}
 use Rattle.std.proofs.lemmas.List.{append-nil}
+use Rattle.std.proofs.lemmas.Option.{get_or_from_slice_get, slice_get_within}
 use Rattle.std.proofs.lemmas.List.Elements.{All-nil, All-cons, All-head, All-tail}
 use Rattle.wild_words.specs.Overlay.{Piece}
 use Rattle.wild_words.proofs.ListLemmas.{flat_map-flat_map, flat_map-same, All-append-left, All-append-right, All-from_flat_map}
@@ -16,16 +16,16 @@ use Rattle.wild_types.specs.declared.layout.SortedSection.{SortedSection}
 use Rattle.wild_types.specs.declared.layout.Layout.{Layout}
 use Rattle.wild_types.specs.FileRoles.{is_prelude, is_epilogue}
 use Rattle.wild_types.specs.Kinds.{is_partial_link}
-use Rattle.wild_types.specs.Lookups.{has_range, has_counted, has_fields, is_rela, is_filled, section_of, takes_file_bytes}
+use Rattle.wild_types.specs.Lookups.{has_range, has_counted, has_fields, is_rela, is_filled, section_of, has_data, is_hollow_part}
 use Rattle.wild_laid.specs.Turned.{turned, as_turned}
 use Rattle.wild_laid.specs.FrameInputs.{frames_of, kept_size}
 use Rattle.wild_laid.specs.Laid.{Input, as_loaded, without_relocations, unread, framed, sorted_by, sorted_in_file, sorted_in_group, files_at, laid_by, laid_section, laid_sections, laid_file, laid_from, laid_files, behind, file_frames, sorted_input, sorted_inputs, sorted_sections, of_last_file, processed}
 use Rattle.wild_layout.specs.Sites.{bytes_by, section_bytes}
 use Rattle.wild_layout.specs.Image.{offset_in, merged_bytes, section_piece, section_pieces, sorted_piece, file_pieces, owned_pieces, of_first_file, once_pieces, thunk_pieces}
-use Rattle.wild_layout.specs.SectionPlaces.{SectionLies, IsWord}
+use Rattle.wild_layout.specs.SectionPlaces.{SectionLies, IsWord, FrontLies, PartLies}
 use Rattle.wild_layout.specs.Geometry.{IsLaidOut}
 use Rattle.wild_clauses.specs.WellFormed.{first_clause}
-use Rattle.wild_image.specs.Pieces.{standing, has_room, room_by, ranged_room, section_owned, input_owned, sorted_owned, owned_in, input_in, sorted_in}
+use Rattle.wild_image.specs.Pieces.{standing, has_room, some_by, ranged_room, section_owned, input_owned, sorted_owned, owned_in, input_in, sorted_in}
 use Rattle.wild_image.specs.Owners.{ranged_piece, ranged_pieces, sorted_pieces, all_sorted_pieces, ends_pieces, standing_pieces}
 use Rattle.wild_image.specs.Append.{MergedLies, RangedLies, InputLies, SortedLies, FileLies, EachFileLies, IsTurned, IsOfKind, InputStands, SortedStands, FileStands, StandFrom, GroupStands, EachStands}
 use Rattle.wild_image.proofs.KindLemmas.{OfKind, each_of_kind}
@@ -40,21 +40,28 @@ pub record StandsFor (l : Layout) (s t : InputSection) (owns : Bool) : Type 0 wh
   pub size : t.size ≡ s.size
   pub filled : owns ≡ is_filled l t
 
--- whether a section owns bytes, by what that hangs on
-abbrev filled_by : Slot → Bool → (size part count : ℕ) → Layout → Bool
-filled_by k nobits size part count l =
+-- whether a section has bytes, by what that hangs on
+abbrev given_by : Slot → Bool → (size part count : ℕ) → Layout → Bool
+given_by k nobits size part count l =
     has_range k
-    && (if nobits then has_counted k && (not (size == 0) && takes_file_bytes l (section_of l part))
+    && (if nobits then has_counted k && (not (size == 0) && has_data l (section_of l part))
     else if is_rela k then not (size == 0)
     else not (count == 0))
+
+-- and owns them
+abbrev filled_by : Slot → Bool → (size part count : ℕ) → Layout → Bool
+filled_by k nobits size part count l = given_by k nobits size part count l && not (is_hollow_part l part)
+
+if_written : (l : Layout) (part : ℕ) (a b : Bool) → a ≡ b → (a && not (is_hollow_part l part)) ≡ (b && not (is_hollow_part l part))
+if_written l part a b e = ap (λ (c : Bool). c && not (is_hollow_part l part)) e
 
 and_true : (b : Bool) → b ≡ (b && true)
 and_true true = refl
 and_true false = refl
 
--- it owns bytes where it has a size, and file bytes are taken for it
+-- it has bytes where it has a size, and its part is one of data
 room_is : (l : Layout) (k : Slot) (nobits : Bool) (size part count : ℕ) → has_range k ≡ true → has_counted k ≡ true → is_rela k ≡ false → (nobits ≡ false → count ≡ size)
-    → (not (size == 0) && (not nobits || takes_file_bytes l (section_of l part))) ≡ filled_by k nobits size part count l
+    → (not (size == 0) && (not nobits || has_data l (section_of l part))) ≡ given_by k nobits size part count l
 room_is l k true size part count range counted rela h = rw (range, counted) refl
 room_is l k false size part count range counted rela h = let e = h refl in rw (range, rela, e) (sym (and_true (not (size == 0))))
 
@@ -68,7 +75,7 @@ own_stands l s t k lies is own part address size nobits = record {
   part = part;
   address = address;
   size = size;
-  filled = room_is l k s.nobits s.size s.part (length t.bytes) own.0 own.1 own.2 (λ n. whole (nobits ∙ n) ∙ size)
+  filled = if_written l s.part _ _ (room_is l k s.nobits s.size s.part (length t.bytes) own.0 own.1 own.2 (λ n. whole (nobits ∙ n) ∙ size))
       ∙ sym (ap (λ (x : Slot). filled_by x s.nobits s.size s.part (length t.bytes) l) is)
       ∙ sym (ap (λ (b : Bool). filled_by t.slot b s.size s.part (length t.bytes) l) nobits)
       ∙ sym (ap (λ (n : ℕ). filled_by t.slot t.nobits n s.part (length t.bytes) l) size)
@@ -120,18 +127,18 @@ nothing_there : (nobits : Bool) (b : Bool) → (not nobits && b) ≡ (if nobits 
 nothing_there true b = refl
 nothing_there false b = refl
 
-by_range : (l : Layout) (f : File) (s : InputSection) (k : Slot) → s.slot ≡ k → has_range k ≡ true → SectionLies l (laid_by k l f 0 s) → StandsFor l s (laid_by k l f 0 s) (room_by k l s)
+by_range : (l : Layout) (f : File) (s : InputSection) (k : Slot) → s.slot ≡ k → has_range k ≡ true → SectionLies l (laid_by k l f 0 s) → StandsFor l s (laid_by k l f 0 s) (some_by k l s && not (is_hollow_part l s.part))
 by_range l f s slot.Loaded is h lies =
     let e = unread_same l s in
     turned_stands l s (unread l s) lies (own_kinds slot.Loaded (unread l s).slot (e.slot ∙ is) (refl, refl, refl, refl)) e.part e.address e.size e.nobits
 by_range l f s slot.Debug is h lies = turned_stands l s s lies (own_kinds slot.Debug s.slot is (refl, refl, refl, refl)) refl refl refl refl
-by_range l f s slot.Rela is h lies = record { lies = lies; part = refl; address = refl; size = refl; filled = nothing_there s.nobits (not (s.size == 0)) }
+by_range l f s slot.Rela is h lies = record { lies = lies; part = refl; address = refl; size = refl; filled = if_written l s.part _ _ (nothing_there s.nobits (not (s.size == 0))) }
 by_range l f s slot.Group is h lies = record {
   lies = lies;
   part = refl;
   address = refl;
   size = refl;
-  filled = nothing_there s.nobits (not (length s.bytes == 0)) ∙ sym (ap (λ (x : Slot). filled_by x s.nobits s.size s.part (length s.bytes) l) is);
+  filled = if_written l s.part _ _ (nothing_there s.nobits (not (length s.bytes == 0))) ∙ sym (ap (λ (x : Slot). filled_by x s.nobits s.size s.part (length s.bytes) l) is);
 }
 by_range l f s other is h lies = cc
 
@@ -140,7 +147,7 @@ pub ranged_stands : (l : Layout) (f : File) (s : InputSection) → RangedLies l 
 unfolding laid_section
 ranged_stands l f s lies h = by_range l f s s.slot refl h (lies h)
 
-no_range : (k : Slot) (l : Layout) (s : InputSection) → has_range k ≡ false → room_by k l s ≡ false
+no_range : (k : Slot) (l : Layout) (s : InputSection) → has_range k ≡ false → some_by k l s ≡ false
 no_range slot.Discard l s h = refl
 no_range slot.Sorted l s h = refl
 no_range slot.Frame l s h = refl
@@ -149,7 +156,7 @@ no_range other l s h = cc
 
 -- one that stands in no range owns nothing there
 pub ranged_none : (l : Layout) (s : InputSection) → has_range s.slot ≡ false → ranged_room l s ≡ false
-ranged_none l s h = no_range s.slot l s h
+ranged_none l s h = ap (λ (b : Bool). b && not (is_hollow_part l s.part)) (no_range s.slot l s h)
 
 -- ---- what sections of files give
 
@@ -296,6 +303,15 @@ pub record SectionsLie (l : Layout) (f : File) : Type 0 where
   pub sections : All (RangedLies l f) f.sections
   pub sorted : is_epilogue f.role ≡ true → All (SortedLies l) l.sorted
 
+-- what stands at the front of a part is no more than the part
+front_small : (l : Layout) → IsLaidOut l → (k : ℕ) (bs : List ℕ) → FrontLies l k bs → length bs < 2 ^ 64
+front_small l laid k bs h =
+    let low = slice_get_within l.parts k h.part h.listed in
+    let lies = subst (PartLies l k) (get_or_from_slice_get l.parts k h.part h.part h.listed) (laid.parts k h.part low) in
+    let within = h.within in
+    let end = lies.low in
+    omega (arith, within, end)
+
 -- in a layout that is laid out all that each file has lies in its parts
 pub each_file_lies : (l : Layout) → IsLaidOut l → EachFileLies l
 each_file_lies l laid = λ i g m.
@@ -305,7 +321,7 @@ each_file_lies l laid = λ i g m.
       sorted = (told k f n).sorted;
       merged = λ e. all_merged l laid;
       identity = λ e. laid.identity;
-      thunks = laid.thunks i g m k f n;
+      thunks = λ written. laid.thunks written i g m k f n;
     })
   where
     all_merged : (l : Layout) → IsLaidOut l → All (MergedLies l) l.merged
@@ -313,10 +329,7 @@ each_file_lies l laid = λ i g m.
         let lies = laid.merged k m low in
         record {
           front = λ some. lies;
-          small = elim (cases_lt 0 (length (merged_bytes (get_or l.merged k m)))) [
-            | inl some ↦ (let e = lies.ends (omega (arith, some)) in let f = laid.size in omega (arith, e, f))
-            | inr none ↦ omega (arith, none)
-          ];
+          small = front_small l laid (get_or l.merged k m).part (merged_bytes (get_or l.merged k m)) lies;
         })
 
 -- ---- a sorted section

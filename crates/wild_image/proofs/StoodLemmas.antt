@@ -1,7 +1,7 @@
 -- Laws of sections as they stand, of their faults, and of the walks over them.
 use Rattle.std.proofs.Common.{◌≡◌, ℕ, ◌+◌, ◌<◌, ◌≤◌, Bool, true, false, inl, inr, not, ◌&&◌, ◌||◌, if◌then◌else◌, List, [], ◌∷◌, ◌++◌, map, length, drop, get_or, All, refl, sym, ap, ◌∙◌, subst}
 use Rattle.std.specs.List.{flat_map, list_any}
-use Rattle.std.proofs.lemmas.Bool.{cases_Bool}
+use Rattle.std.proofs.lemmas.Bool.{cases_Bool, true≢false}
 use Rattle.std.proofs.lemmas.List.{append-nil, append_assoc, drop_more, drop_all}
 use Rattle.std.proofs.lemmas.List.Elements.{All-nil, All-cons, All-head, All-tail}
 use Rattle.std.specs.Prelude.{Option, Some, None}
@@ -19,14 +19,17 @@ use Rattle.wild_types.specs.FileRoles.{is_prelude}
 use Rattle.wild_types.specs.Item.{item_of, block_for}
 use Rattle.wild_types.specs.declared.input.InputRelocation.{InputRelocation}
 use Rattle.wild_types.specs.Kinds.{is_partial_link}
-use Rattle.wild_types.specs.Lookups.{has_relocations, has_range, is_read, is_written, is_frame, is_debug, is_rela, is_filled}
+use Rattle.wild_types.specs.declared.part.Role.TheVariants as role
+use Rattle.wild_types.specs.Hollow.{is_hollow_role, is_dropped}
+use Rattle.wild_types.specs.Lookups.{has_relocations, has_range, has_fields, is_read, is_written, is_frame, is_debug, is_rela, is_given, is_filled, is_hollow_part}
 use Rattle.wild_frames.specs.declared.entry.BadFrame.{BadFrame}
 use Rattle.wild_frames.specs.Faults.{frame_errors}
 use Rattle.wild_laid.specs.Turned.{as_turned, turned}
 use Rattle.wild_laid.specs.FrameInputs.{frames_of, kept_size}
 use Rattle.wild_laid.specs.Laid.{Input, as_loaded, without_relocations, unread, tabled, origins_of, laid_by, laid_section, laid_sections, laid_file, laid_from, laid_files, behind, file_frames, frames_at, sorted_input, of_last_file}
 use Rattle.wild_laid.specs.Stood.{Stood, stood_section, stood_sorted, frame_faults}
-use Rattle.wild_layout.specs.Sites.{section_bytes, MovesApart}
+use Rattle.wild_layout.specs.Image.{unless_hollow}
+use Rattle.wild_layout.specs.Sites.{item_bytes, section_bytes, MovesApart}
 use Rattle.wild_layout.proofs.PartialLemmas.{section_bytes_zeros}
 use Rattle.wild_layout.specs.Content.{frame_bytes_of, frames_bytes, end_of_frames}
 use Rattle.wild_layout.specs.Faults.{item_errors, debug_errors, frame_refusal, bad_frames, stood_errors_by, section_errors, sections_errors, sorted_errors, sorted_errors_of, file_errors, files_errors, group_errors, first_errors, entry_errors, thunk_errors, at_file}
@@ -41,8 +44,8 @@ use Rattle.wild_contents.specs.SearchTable.{IsSearchTable, IsTableFor, FaultIsFi
 use Rattle.wild_contents.specs.Laid.{HasSearchTable, HaveSearchTable, group_frames}
 use Rattle.wild_image.specs.Pieces.{section_owned, file_sections, ends_bytes, file_bytes}
 use Rattle.wild_image.specs.Append.{IsTurned, IsOfKind, InputStands, SortedStands, FileStands, StandFrom}
-use Rattle.wild_image.specs.Stood.{written_faults, stood_faults, StoodApart, HasOrigins, IsWhole, zeros_of, first_of, IsMade, errors_behind, bytes_behind}
-use Rattle.wild_image.proofs.MadeLemmas.{debug_slot}
+use Rattle.wild_image.specs.Stood.{written_faults, kept_faults, stood_faults, StoodApart, HasOrigins, IsWhole, zeros_of, first_of, IsMade, errors_behind, bytes_behind}
+use Rattle.wild_image.proofs.MadeLemmas.{debug_slot, not_given}
 use Rattle.wild_image.proofs.StandingLemmas.{of_sections, no_owned, unread_by, one_input}
 
 -- ---- one section
@@ -51,15 +54,20 @@ refusals : (l : Layout) (group file : ℕ) (f : File) (section : ℕ) (s : Input
 refusals l group file f section s true = refl
 refusals l group file f section s false = refl
 
+guarded : (dropped written : Bool) (xs ys : List Error) → xs ≡ ys → (if dropped then [] else if written then xs else []) ≡ (if written && not dropped then ys else [])
+guarded true true xs ys e = refl
+guarded true false xs ys e = refl
+guarded false true xs ys e = e
+guarded false false xs ys e = refl
+
 -- the faults of a section of a file are those of the section as it stands
 pub section_stood : (l : Layout) (group file : ℕ) (f : File) (at section : ℕ) (s : InputSection) → stood_faults l group file section f (stood_section l f at s) ≡ section_errors l group file f at section s
-unfolding stood_faults section_errors
-section_stood l group file f at section s = by (is_debug (laid_section l f at s).slot)
+unfolding stood_faults kept_faults section_errors
+section_stood l group file f at section s = guarded (is_dropped l (laid_section l f at s)) (is_written (laid_section l f at s)) _ _ (by (is_debug (laid_section l f at s).slot))
   where
-    by : (b : Bool) → (if is_written (laid_section l f at s) then written_faults b l group file section f (stood_section l f at s) else []) ≡ (if is_written (laid_section l f at s) then stood_errors_by b l group file f section s (laid_section l f at s) else [])
+    by : (b : Bool) → written_faults b l group file section f (stood_section l f at s) ≡ stood_errors_by b l group file f section s (laid_section l f at s)
     by true = refl
-    by false =
-        ap (λ (ending : List Error). if is_written (laid_section l f at s) then item_errors l group file section (item_of l f (laid_section l f at s)) (origins_of l f s) ending else []) (refusals l group file f section s (is_frame s.slot))
+    by false = ap (item_errors l group file section (item_of l f (laid_section l f at s)) (origins_of l f s)) (refusals l group file f section s (is_frame s.slot))
 
 turned_slot : (s : InputSection) → (as_turned s).slot ≡ s.slot
 unfolding as_turned
@@ -163,6 +171,67 @@ zeros_owned l f s none = ap (λ (bs : List ℕ). if is_filled l s then bs else [
 pub no_frames_added : (l : Layout) (f : File) (s : InputSection) (old : List ℕ) → IsWhole s → is_read s ≡ false → old ≡ old ++ frame_bytes_of l f s
 no_frames_added l f s old whole unread = sym (append-nil old) ∙ ap (λ (ys : List ℕ). old ++ ys) (sym (unread_no_frames l f s whole unread))
 
+-- what is no frame adds none
+pub plain_frames : (l : Layout) (f : File) (s : InputSection) (old new : List ℕ) → is_frame s.slot ≡ false → new ≡ old ++ frame_bytes_of l f s → new ≡ old
+unfolding frame_bytes_of
+plain_frames l f s old new other h = h ∙ ap (λ (b : Bool). old ++ (if b then item_bytes l (item_of l f s) else [])) other ∙ append-nil old
+
+-- ---- what is dropped
+
+frame_dropped : (l : Layout) (s : InputSection) → is_frame s.slot ≡ true → is_dropped l s ≡ is_hollow_role l role.EhFrame
+frame_dropped l s e = ap (λ (b : Bool). if b then is_hollow_role l role.EhFrame else is_hollow_part l s.part) e
+
+pub other_dropped : (l : Layout) (s : InputSection) → is_frame s.slot ≡ false → is_dropped l s ≡ is_hollow_part l s.part
+other_dropped l s e = ap (λ (b : Bool). if b then is_hollow_role l role.EhFrame else is_hollow_part l s.part) e
+
+-- what owns nothing, though its part is written, has no bytes
+pub none_given : (l : Layout) (s : InputSection) → is_filled l s ≡ false → is_frame s.slot ≡ false → is_dropped l s ≡ false → is_given l s ≡ false
+none_given l s none other written = not_given (is_given l s) (is_hollow_part l s.part) none (sym (other_dropped l s other) ∙ written)
+
+not_owned : (given hollow : Bool) → hollow ≡ true → (given && not hollow) ≡ false
+not_owned true true h = refl
+not_owned false true h = refl
+not_owned given false h = cc
+
+none_dropped : (l : Layout) (f : File) (s : InputSection) → is_dropped l s ≡ true → section_owned l f s ≡ []
+none_dropped l f s dropped =
+    elim (cases_Bool (is_frame s.slot)) [
+      | inl t ↦ frames_own_none l f s t
+      | inr n ↦ ap (λ (b : Bool). if b then section_bytes l f s else []) (not_owned (is_given l s) (is_hollow_part l s.part) (sym (other_dropped l s n) ∙ dropped))
+    ]
+
+-- it owns nothing
+pub dropped_owned : (l : Layout) (f : File) (s : InputSection) (old : List ℕ) → is_dropped l s ≡ true → old ≡ old ++ section_owned l f s
+dropped_owned l f s old dropped = sym (append-nil old) ∙ ap (λ (ys : List ℕ). old ++ ys) (sym (none_dropped l f s dropped))
+
+-- nor are there frames of it, where frames are written
+pub dropped_frames : (l : Layout) (f : File) (s : InputSection) (old : List ℕ) → is_dropped l s ≡ true → is_hollow_role l role.EhFrame ≡ false → old ≡ old ++ frame_bytes_of l f s
+unfolding frame_bytes_of
+dropped_frames l f s old dropped written =
+    elim (cases_Bool (is_frame s.slot)) [
+      | inl t ↦ absurd (true≢false (sym dropped ∙ frame_dropped l s t ∙ written))
+      | inr n ↦ sym (ap (λ (b : Bool). old ++ (if b then item_bytes l (item_of l f s) else [])) n ∙ append-nil old)
+    ]
+
+pub dropped_faults : (l : Layout) (group file section : ℕ) (f : File) (x : Stood) → is_dropped l x.section ≡ true → stood_faults l group file section f x ≡ []
+unfolding stood_faults
+dropped_faults l group file section f x dropped = ap (λ (b : Bool). if b then [] else kept_faults l group file section f x) dropped
+
+-- nor faults of what has no data
+pub unread_faults : (l : Layout) (group file section : ℕ) (f : File) (x : Stood) → x.section.nobits ≡ true → stood_faults l group file section f x ≡ []
+unfolding stood_faults kept_faults
+unread_faults l group file section f x none = no_data (is_dropped l x.section) (has_fields x.section.slot) x.section.nobits _ none
+  where
+    no_data : (dropped fields nobits : Bool) (es : List Error) → nobits ≡ true → (if dropped then [] else if fields && not nobits then es else []) ≡ []
+    no_data true fields nobits es e = refl
+    no_data false true true es e = refl
+    no_data false false nobits es e = refl
+    no_data false true false es e = cc
+
+pub faults_kept : (l : Layout) (group file section : ℕ) (f : File) (x : Stood) → is_dropped l x.section ≡ false → stood_faults l group file section f x ≡ kept_faults l group file section f x
+unfolding stood_faults
+faults_kept l group file section f x kept = ap (λ (b : Bool). if b then [] else kept_faults l group file section f x) kept
+
 -- their sites are apart as those of the input
 pub laid_apart : (l : Layout) (f : File) (at : ℕ) (s : InputSection) → IsTurned l s → is_read (laid_section l f at s) ≡ true → StoodApart l f (stood_section l f at s)
 laid_apart l f at s t read = laid_moves l f (block_for l f (laid_section l f at s)) at s t read
@@ -192,24 +261,23 @@ unread_twice l s = by (is_partial_link l.kind)
     by false = refl
 
 found_errors : (l : Layout) (x : SortedSection) (f : File) (s : InputSection) → stood_faults l x.group x.file x.section f (stood_sorted l s) ≡ sorted_errors_of l x (one_input l f s)
-unfolding stood_faults
-found_errors l x f s = by (is_debug t.slot)
+unfolding stood_faults kept_faults
+found_errors l x f s = guarded (is_dropped l t) (is_written t) _ _ (by (is_debug t.slot))
   where
     t : InputSection
     t = as_turned (as_loaded (unread l s))
 
-    by : (b : Bool) → (if is_written t then written_faults b l x.group x.file x.section f (stood_sorted l s) else []) ≡ (if is_written t then stood_errors_by b l x.group x.file f x.section (as_loaded (unread l s)) t else [])
-    by true = ap (λ (rs : List InputRelocation). if is_written t then debug_errors l x.group x.file x.section t rs else []) (unread_twice l s)
-    by false = ap (λ (rs : List InputRelocation). if is_written t then item_errors l x.group x.file x.section (item_of l f t) rs [] else []) (unread_twice l s)
+    by : (b : Bool) → written_faults b l x.group x.file x.section f (stood_sorted l s) ≡ stood_errors_by b l x.group x.file f x.section (as_loaded (unread l s)) t
+    by true = ap (debug_errors l x.group x.file x.section t) (unread_twice l s)
+    by false = ap (λ (rs : List InputRelocation). item_errors l x.group x.file x.section (item_of l f t) rs []) (unread_twice l s)
 
 -- the faults of one that was found
 pub sorted_stood : (l : Layout) (x : SortedSection) (f : File) (s : InputSection) → sorted_input l x ≡ one_input l f s ∷ [] → stood_faults l x.group x.file x.section f (stood_sorted l s) ≡ sorted_errors l x
 sorted_stood l x f s e = found_errors l x f s ∙ sym (ap (flat_map (sorted_errors_of l x)) e ∙ append-nil (sorted_errors_of l x (one_input l f s)))
 
--- and no frames
-pub sorted_no_frames : (l : Layout) (f : File) (s : InputSection) → frame_bytes_of l f (as_turned (as_loaded (unread l s))) ≡ []
-unfolding frame_bytes_of
-sorted_no_frames l f s = let e = sorted_slot l s in rw e refl
+-- which is no frame
+pub sorted_plain : (l : Layout) (s : InputSection) → is_frame (as_turned (as_loaded (unread l s))).slot ≡ false
+sorted_plain l s = ap is_frame (sorted_slot l s)
 
 pub one_stands : (l : Layout) (x : SortedSection) (f : File) (s : InputSection) → sorted_input l x ≡ one_input l f s ∷ [] → SortedStands l x → InputStands l (one_input l f s)
 one_stands l x f s e h = All-head (InputStands l) (one_input l f s) [] (subst (All (InputStands l)) e h)
@@ -268,7 +336,10 @@ owned_ranged l at f = of_sections (section_owned l f) l f at f.sections (no_owne
 pub file_owned_by : (l : Layout) (at : ℕ) (f : File) (old one two : List ℕ) → one ≡ old ++ flat_map (section_owned l f) (laid_sections l f at f.sections) → two ≡ one ++ bytes_behind l f → two ≡ old ++ file_bytes l f
 unfolding bytes_behind
 file_owned_by l at f old one two a b =
-    b ∙ ap (λ (ys : List ℕ). ys ++ (ends_bytes l f ++ file_thunks l f)) (a ∙ ap (λ (ys : List ℕ). old ++ ys) (owned_ranged l at f)) ∙ append_assoc old (file_sections l f) (ends_bytes l f ++ file_thunks l f)
+    b ∙ ap (λ (ys : List ℕ). ys ++ behind) (a ∙ ap (λ (ys : List ℕ). old ++ ys) (owned_ranged l at f)) ∙ append_assoc old (file_sections l f) behind
+  where
+    behind : List ℕ
+    behind = ends_bytes l f ++ unless_hollow l l.primary_part (file_thunks l f)
 
 pub file_frames_by : (l : Layout) (at : ℕ) (f : File) (old one two : List ℕ) → one ≡ old ++ flat_map (frame_bytes_of l f) (laid_sections l f at f.sections) → two ≡ one ++ of_last_file f (end_of_frames l) → two ≡ old ++ frames_bytes l (laid_file l at f)
 unfolding frames_bytes frame_bytes_of
@@ -350,29 +421,29 @@ pub is_made : (l : Layout) (t : SearchTable) → IsMade l t → IsSearchTable l 
 is_made l t h = record { fault = is_met t.fault (search_table_faults l) h.fault; bytes = h.bytes }
 
 -- without faults of a file the table is there where it is the first
-table_by : (l : Layout) (t : SearchTable) (group file at : ℕ) (f : File) → IsTableFor l t f → file_errors l group at file f ≡ [] → HasSearchTable l t.bytes f
+table_by : (l : Layout) (t : SearchTable) (group file at : ℕ) (f : File) → is_hollow_role l role.EhFrameHdr ≡ false → IsTableFor l t f → file_errors l group at file f ≡ [] → HasSearchTable l t.bytes f
 unfolding file_errors
-table_by l t group file at f is none = λ first. (
+table_by l t group file at f written is none = λ first. (
     let a = nil_parts (sections_errors l group file f at 0 f.sections) _ none in
     let b = nil_parts (of_last_file f (flat_map (sorted_errors l) l.sorted)) _ a.1 in
     let c = nil_parts (entry_errors l group file f) _ b.1 in
     let d = nil_parts (thunk_errors l group file f) (first_errors l group file f) c.1 in
     let e = is first in
     let faults : search_table_faults l ≡ [] = no_errors (λ (x : Fault). record { fault = x; at = at_file group file }) (search_table_faults l) (rw first at d.1) in
-    e.bytes (no_fault t.fault (search_table_faults l) faults e.fault))
+    e.bytes written (no_fault t.fault (search_table_faults l) faults e.fault))
 
 -- and so of the files of a group
-pub table_from : (l : Layout) (t : SearchTable) (group at i : ℕ) (fs : List File) → All (IsTableFor l t) fs → files_errors l group at i fs ≡ [] → HaveSearchTable l t.bytes fs
-table_from l t group at i [] is none = All-nil (HasSearchTable l t.bytes)
-table_from l t group at i (f ∷ fs) is none =
+pub table_from : (l : Layout) (t : SearchTable) (group at i : ℕ) (fs : List File) → is_hollow_role l role.EhFrameHdr ≡ false → All (IsTableFor l t) fs → files_errors l group at i fs ≡ [] → HaveSearchTable l t.bytes fs
+table_from l t group at i [] written is none = All-nil (HasSearchTable l t.bytes)
+table_from l t group at i (f ∷ fs) written is none =
     let parts = nil_parts (file_errors l group at i f) (files_errors l group (behind at (file_frames l f)) (i + 1) fs) none in
-    All-cons (HasSearchTable l t.bytes) f fs (table_by l t group i at f (All-head (IsTableFor l t) f fs is) parts.0)
-    (table_from l t group (behind at (file_frames l f)) (i + 1) fs (All-tail (IsTableFor l t) f fs is) parts.1)
+    All-cons (HasSearchTable l t.bytes) f fs (table_by l t group i at f written (All-head (IsTableFor l t) f fs is) parts.0)
+    (table_from l t group (behind at (file_frames l f)) (i + 1) fs written (All-tail (IsTableFor l t) f fs is) parts.1)
 
 -- where no fault of a group is found
-pub table_of_group : (l : Layout) (t : SearchTable) (group : ℕ) (g : Group) → All (IsTableFor l t) g.files → group_errors l group g ≡ [] → HaveSearchTable l t.bytes g.files
+pub table_of_group : (l : Layout) (t : SearchTable) (group : ℕ) (g : Group) → is_hollow_role l role.EhFrameHdr ≡ false → All (IsTableFor l t) g.files → group_errors l group g ≡ [] → HaveSearchTable l t.bytes g.files
 unfolding group_errors
-table_of_group l t group g is none = table_from l t group (frames_at l g) 0 g.files is ((nil_parts (files_errors l group (frames_at l g) 0 g.files) _ none).0)
+table_of_group l t group g written is none = table_from l t group (frames_at l g) 0 g.files written is ((nil_parts (files_errors l group (frames_at l g) 0 g.files) _ none).0)
 
 pub table_of_all : (l : Layout) (t : SearchTable) (fs : List File) → IsSearchTable l t → All (IsTableFor l t) fs
 table_of_all l t [] is = All-nil (IsTableFor l t)

@@ -3,10 +3,12 @@
 --   GoesOn own from to     what stands behind its own
 --   HasStarts l j starts   what the groups before group j are given of each part
 --   GivesItsShares l g     a group gives to each table what it is given of it
+--   HasRolesOnce l         each role is of one part
 --   FileLies l f           all that a file has lies in its parts; EachFileLies l so does what all have
 --   GroupStands l g        so do the sections of a group's files, as they stand
-use Rattle.std.specs.Prelude.{◌≡◌, ℕ, ◌<◌, ◌≤◌, ◌^◌, true, false, List, [], ◌∷◌, ◌++◌, length, if◌then◌else◌, All, Some, slice_get, slice_index, slice_index_or}
+use Rattle.std.specs.Prelude.{◌≡◌, ℕ, ◌<◌, ◌≤◌, ◌^◌, true, false, List, [], ◌∷◌, ◌++◌, length, if◌then◌else◌, All, Contains, Some, slice_get, slice_index, slice_index_or}
 use Rattle.wild_types.specs.declared.part.Part.{Part}
+use Rattle.wild_types.specs.declared.part.Role.{Role}
 use Rattle.wild_types.specs.declared.part.Role.TheVariants.{Raw}
 use Rattle.wild_types.specs.declared.file.File.{File}
 use Rattle.wild_types.specs.declared.file.Group.{Group}
@@ -16,12 +18,12 @@ use Rattle.wild_types.specs.declared.layout.Merged.{Merged}
 use Rattle.wild_types.specs.declared.layout.SortedSection.{SortedSection}
 use Rattle.wild_types.specs.FileRoles.{is_prelude, is_epilogue}
 use Rattle.wild_types.specs.Kinds.{is_partial_link}
-use Rattle.wild_types.specs.Lookups.{has_range, is_counted, is_rela, is_debug}
+use Rattle.wild_types.specs.Lookups.{has_range, is_counted, is_rela, is_debug, is_hollow_part}
 use Rattle.wild_laid.specs.Turned.{as_turned}
 use Rattle.wild_laid.specs.Laid.{Input, laid_sections, behind, file_frames, frames_at, sorted_input}
 use Rattle.wild_types.specs.FilePlaces.{given}
 use Rattle.wild_types.specs.FileThunks.{thunks_of}
-use Rattle.wild_types.specs.Parts.{has_role}
+use Rattle.wild_types.specs.Parts.{role_place, part_with, has_role}
 use Rattle.wild_layout.specs.Content.{content}
 use Rattle.wild_layout.specs.Image.{given_before}
 use Rattle.wild_layout.specs.Image.{merged_bytes}
@@ -50,6 +52,10 @@ EachPartLies l = (i : ℕ) (p : Part) → i < length l.parts → PartLies l i (s
 abbrev pub GivesItsShares : Layout → Group → Type 0
 GivesItsShares l g = (i : ℕ) (p : Part) → slice_get l.parts i ≡ Some p → length (content l p.role g) ≡ (if has_role Raw p then 0 else given i g)
 
+-- a role, other than that of raw parts, is of one part
+abbrev pub HasRolesOnce : Layout → Type 0
+HasRolesOnce l = (r : Role) (p : Part) → (role_place r ≡ 0 → ⊥) → Contains l.parts p → p.role ≡ r → part_with r l.parts ≡ Some p
+
 -- a section of a file lies where it stands, if it stands in its part's range
 abbrev pub RangedLies : Layout → File → InputSection → Type 0
 RangedLies l f s = has_range s.slot ≡ true → SectionLies l (standing l f s)
@@ -76,7 +82,7 @@ pub record FileLies (l : Layout) (f : File) : Type 0 where
   pub sorted : is_epilogue f.role ≡ true → All (SortedLies l) l.sorted
   pub merged : is_prelude f.role ≡ true → All (MergedLies l) l.merged
   pub identity : is_prelude f.role ≡ true → SomeLies l l.identity.part l.identity.bytes
-  pub thunks : All (ThunkLies l) (thunks_of l f)
+  pub thunks : is_hollow_part l l.primary_part ≡ false → All (ThunkLies l) (thunks_of l f)
 
 abbrev pub EachFileLies : Layout → Type 0
 EachFileLies l = All (λ (g : Group). All (FileLies l) g.files) l.groups

@@ -4,7 +4,7 @@
 --   Fills ..               of a range, as far as it was gone through, free bytes were filled, each run of them anew
 --   FillsSection ..        the same of all bytes of a section
 use Rattle.std.specs.Prelude.{◌≡◌, ℕ, ◌<◌, Bool, true, not, ◌&&◌, ◌||◌, if◌then◌else◌, nat_le, nat_lt, List, length, get_or, slice_index}
-use Rattle.wild_types.specs.declared.kind.Machine.{Machine}
+use Rattle.wild_types.specs.declared.layout.Layout.{Layout}
 use Rattle.wild_types.specs.declared.section.Section.{Section}
 use Rattle.wild_relax.specs.Padding.{repeated_byte}
 use Rattle.wild_layout.specs.Image.{has_offset, run, filling_of}
@@ -26,7 +26,7 @@ pub record Fills (bs : List ℕ) (at end next : ℕ) (taken after : List Bool) (
   pub filled : (k : ℕ) → k < length old → slice_index new k ≡ (if free taken at next k then repeated_byte bs (run (free taken at end) k) else slice_index old k)
 
 -- of a section's bytes those that were free are filled
-pub record FillsSection (m : Machine) (s : Section) (taken after : List Bool) (old new : List ℕ) : Type 0 where
-  pub marks : Marks (λ k. has_offset k s) taken after
+pub record FillsSection (l : Layout) (s : Section) (taken after : List Bool) (old new : List ℕ) : Type 0 where
+  pub marks : Marks (λ k. has_offset l k s) taken after
   pub long : length new ≡ length old
-  pub filled : (k : ℕ) → k < length old → slice_index new k ≡ (if not (is_taken taken k) && has_offset k s then repeated_byte (filling_of m s) (run (λ j. not (is_taken taken j) && has_offset j s) k) else slice_index old k)
+  pub filled : (k : ℕ) → k < length old → slice_index new k ≡ (if not (is_taken taken k) && has_offset l k s then repeated_byte (filling_of l.machine s) (run (λ j. not (is_taken taken j) && has_offset l j s) k) else slice_index old k)

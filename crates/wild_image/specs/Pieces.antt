@@ -24,12 +24,13 @@ use Rattle.wild_types.specs.declared.layout.SortedSection.{SortedSection}
 use Rattle.wild_types.specs.declared.layout.Layout.{Layout}
 use Rattle.wild_types.specs.FileThunks.{thunks_of}
 use Rattle.wild_types.specs.Kinds.{is_partial_link}
-use Rattle.wild_types.specs.Lookups.{section_of, has_range, is_filled, is_counted, takes_file_bytes}
+use Rattle.wild_types.specs.Lookups.{section_of, has_range, is_filled, is_counted, has_data, is_hollow_at, is_hollow_part}
+use Rattle.wild_types.specs.Hollow.{is_dropped}
 use Rattle.wild_laid.specs.Turned.{as_turned}
 use Rattle.wild_laid.specs.Laid.{Input, laid_section, sorted_input, of_last_file}
 use Rattle.wild_layout.specs.Sites.{section_bytes}
 use Rattle.wild_layout.specs.Content.{content}
-use Rattle.wild_layout.specs.Image.{offset_in, merged_bytes, of_first_file}
+use Rattle.wild_layout.specs.Image.{offset_in, unless_hollow, merged_bytes, of_first_file}
 use Rattle.wild_layout.specs.Thunks.{thunk_bytes, file_thunks}
 
 -- the role of a part; raw where there is none
@@ -39,7 +40,7 @@ role_of (Some p) = p.role
 
 -- what a group gives to a part
 abbrev pub group_given : Layout → ℕ → Group → List ℕ
-group_given l part g = content l (role_of (slice_get l.parts part)) g
+group_given l part g = unless_hollow l part (content l (role_of (slice_get l.parts part)) g)
 
 -- ---- bytes of files, one behind the other
 
@@ -48,19 +49,23 @@ abbrev pub standing : Layout → File → InputSection → InputSection
 standing l f s = laid_section l f 0 s
 
 -- there are bytes of a section of that size
-abbrev pub has_room : Layout → InputSection → Bool
-has_room l s = not (s.size == 0) && (not s.nobits || takes_file_bytes l (section_of l s.part))
+abbrev pub has_some : Layout → InputSection → Bool
+has_some l s = not (s.size == 0) && (not s.nobits || has_data l (section_of l s.part))
 
--- a section that stands in its part's range owns bytes
-abbrev pub room_by : Slot → Layout → InputSection → Bool
-room_by slot.Loaded l s = has_room l s
-room_by slot.Debug l s = has_room l s
-room_by slot.Rela l s = not s.nobits && not (s.size == 0)
-room_by slot.Group l s = not s.nobits && not (length s.bytes == 0)
-room_by other l s = false
+-- and it owns them
+abbrev pub has_room : Layout → InputSection → Bool
+has_room l s = has_some l s && not (is_hollow_part l s.part)
+
+-- there are some of a section that stands in its part's range
+abbrev pub some_by : Slot → Layout → InputSection → Bool
+some_by slot.Loaded l s = has_some l s
+some_by slot.Debug l s = has_some l s
+some_by slot.Rela l s = not s.nobits && not (s.size == 0)
+some_by slot.Group l s = not s.nobits && not (length s.bytes == 0)
+some_by other l s = false
 
 abbrev pub ranged_room : Layout → InputSection → Bool
-ranged_room l s = room_by s.slot l s
+ranged_room l s = some_by s.slot l s && not (is_hollow_part l s.part)
 
 -- where a section begins in the file
 abbrev pub place_in : Layout → InputSection → ℕ
@@ -97,15 +102,19 @@ ends_bytes l f = of_last_file f (all_sorted l) ++ of_first_file f (once_bytes l)
 
 -- the bytes of a file's input sections, behind them what only the last or the first has, and its thunks
 abbrev pub file_bytes : Layout → File → List ℕ
-file_bytes l f = file_sections l f ++ (ends_bytes l f ++ file_thunks l f)
+file_bytes l f = file_sections l f ++ (ends_bytes l f ++ unless_hollow l l.primary_part (file_thunks l f))
 
 -- those of a group's files, in the order of processing
 unfoldable pub group_files : Layout → Group → List ℕ
 group_files l g = flat_map (file_bytes l) g.files
 
--- what a group gives to the tables, part by part
+-- what a group gives to a table of which something is written
+abbrev pub table_given : Layout → Group → Part → List ℕ
+table_given l g p = if is_hollow_at l p.section then [] else content l p.role g
+
+-- to the tables, part by part
 abbrev pub group_tables : Layout → Group → List ℕ
-group_tables l g = flat_map (λ (p : Part). content l p.role g) l.parts
+group_tables l g = flat_map (table_given l g) l.parts
 
 -- ---- the same by part
 
@@ -132,19 +141,23 @@ sorted_in l part x = flat_map (input_in l part) (sorted_input l x)
 abbrev pub all_sorted_in : Layout → ℕ → List ℕ
 all_sorted_in l part = flat_map (sorted_in l part) l.sorted
 
+-- bytes at the front of a part
+abbrev pub front_in : Layout → ℕ → ℕ → List ℕ → List ℕ
+front_in l part k bs = unless_hollow l k (in_part part k bs)
+
 -- merged strings, and the identity
-abbrev pub merged_in : ℕ → Merged → List ℕ
-merged_in part m = in_part part m.part (merged_bytes m)
+abbrev pub merged_in : Layout → ℕ → Merged → List ℕ
+merged_in l part m = front_in l part m.part (merged_bytes m)
 
 abbrev pub once_in : Layout → ℕ → List ℕ
-once_in l part = flat_map (merged_in part) l.merged ++ in_part part l.identity.part l.identity.bytes
+once_in l part = flat_map (merged_in l part) l.merged ++ front_in l part l.identity.part l.identity.bytes
 
 -- a thunk stands in the primary part
 abbrev pub thunk_in : Layout → ℕ → Thunk → List ℕ
 thunk_in l part t = if l.primary_part == part then thunk_bytes l t else []
 
 abbrev pub thunks_in : Layout → ℕ → File → List ℕ
-thunks_in l part f = flat_map (thunk_in l part) (thunks_of l f)
+thunks_in l part f = unless_hollow l l.primary_part (flat_map (thunk_in l part) (thunks_of l f))
 
 -- what only the last or the first file has
 abbrev pub ends_in : Layout → ℕ → File → List ℕ
@@ -168,7 +181,7 @@ group_parts l g = map (group_part l g) (range_with_len 0 (length l.parts))
 
 -- what an input section adds to which count
 abbrev pub section_pairs : Layout → InputSection → List (ℕ × ℕ)
-section_pairs l s = if is_counted s then (section_of l s.part, length s.relocations) ∷ [] else []
+section_pairs l s = if is_counted s && not (is_dropped l s) then (section_of l s.part, length s.relocations) ∷ [] else []
 
 abbrev pub file_pairs : Layout → File → List (ℕ × ℕ)
 file_pairs l f = flat_map (section_pairs l) f.sections

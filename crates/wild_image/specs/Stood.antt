@@ -1,5 +1,5 @@
 -- What is said of sections as they stand, as the code has them.
---   stood_faults l g f i file x   the faults of a section of a file, as it stands
+--   stood_faults l g f i file x   the faults of a section of a file, as it stands; kept_faults those of one of which something is written
 --   StoodApart l f x              its sites are apart exactly where those of the input are
 --   HasOrigins x                  it has as many relocations as the input has, where debuggers read it
 --   IsMadeOf l s                  it owns bytes that are made of it
@@ -15,12 +15,15 @@ use Rattle.wild_types.specs.declared.input.InputSection.{InputSection}
 use Rattle.wild_types.specs.declared.file.File.{File}
 use Rattle.wild_types.specs.declared.layout.Layout.{Layout}
 use Rattle.wild_types.specs.Item.{item_of}
+use Rattle.wild_types.specs.declared.part.Role.TheVariants as role
 use Rattle.wild_types.specs.Lookups.{is_read, is_written, is_frame, is_debug, is_filled}
+use Rattle.wild_types.specs.Hollow.{is_hollow_role, is_dropped}
 use Rattle.wild_laid.specs.Laid.{of_last_file}
 use Rattle.wild_laid.specs.Stood.{Stood}
 use Rattle.wild_layout.specs.Faults.{item_errors, debug_errors, frame_refusal, sorted_errors, entry_errors, thunk_errors, first_errors}
 use Rattle.wild_layout.specs.Sites.{MovesApart}
 use Rattle.wild_layout.specs.SearchTable.{search_table, search_table_faults}
+use Rattle.wild_layout.specs.Image.{unless_hollow}
 use Rattle.wild_layout.specs.Thunks.{file_thunks}
 use Rattle.wild_contents.specs.declared.search_table.SearchTable.{SearchTable}
 use Rattle.wild_image.specs.Pieces.{ends_bytes}
@@ -30,9 +33,13 @@ abbrev pub written_faults : Bool → Layout → ℕ → ℕ → ℕ → File →
 written_faults true l group file section f x = debug_errors l group file section x.section x.origins
 written_faults false l group file section f x = item_errors l group file section (item_of l f x.section) x.origins (map (frame_refusal group file section) x.faults)
 
--- the faults of a section of a file, as it stands
+-- the faults of a section of a file, as it stands, where something of it is written
+unfoldable pub kept_faults : Layout → ℕ → ℕ → ℕ → File → Stood → List Error
+kept_faults l group file section f x = if is_written x.section then written_faults (is_debug x.section.slot) l group file section f x else []
+
+-- of any
 unfoldable pub stood_faults : Layout → ℕ → ℕ → ℕ → File → Stood → List Error
-stood_faults l group file section f x = if is_written x.section then written_faults (is_debug x.section.slot) l group file section f x else []
+stood_faults l group file section f x = if is_dropped l x.section then [] else kept_faults l group file section f x
 
 -- its sites are apart exactly where those of the input are
 abbrev pub StoodApart : Layout → File → Stood → Type 0
@@ -65,7 +72,7 @@ first_of (f ∷ fs) = Some f
 -- the search table of frames was made, or its first fault was met
 pub record IsMade (l : Layout) (t : SearchTable) : Type 0 where
   pub fault : t.fault ≡ first_of (search_table_faults l)
-  pub bytes : t.fault ≡ None → t.bytes ≡ search_table l
+  pub bytes : is_hollow_role l role.EhFrameHdr ≡ false → t.fault ≡ None → t.bytes ≡ search_table l
 
 -- the faults of a file behind those of its sections
 unfoldable pub errors_behind : Layout → ℕ → ℕ → File → List Error
@@ -73,4 +80,4 @@ errors_behind l group file f = of_last_file f (flat_map (sorted_errors l) l.sort
 
 -- its bytes behind theirs
 unfoldable pub bytes_behind : Layout → File → List ℕ
-bytes_behind l f = ends_bytes l f ++ file_thunks l f
+bytes_behind l f = ends_bytes l f ++ unless_hollow l l.primary_part (file_thunks l f)

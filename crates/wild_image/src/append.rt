@@ -1,5 +1,5 @@
 //! Putting what the groups have into the image.
-ghost use Rattle.std.specs.Prelude.{◌≡◌, ◌+◌, ◌<◌, ◌≤◌, ◌^◌, ℕ, true, Some, if◌then◌else◌, length, take, drop, replicate, slice_get, OnOk, All};
+ghost use Rattle.std.specs.Prelude.{◌≡◌, ◌==◌, ◌&&◌, not, ◌+◌, ◌<◌, ◌≤◌, ◌^◌, ℕ, true, false, Some, if◌then◌else◌, length, take, drop, replicate, slice_get, OnOk, All};
 ghost use Rattle.std.specs.List.{flat_map};
 ghost use Rattle.wild_words.specs.Words.{place};
 ghost use Rattle.wild_words.specs.Overlay.{overlay};
@@ -9,16 +9,15 @@ ghost use Rattle.wild_types.specs.declared.part.Role.TheVariants.{Raw};
 ghost use Rattle.wild_types.specs.FileRoles.{is_prelude, is_epilogue};
 ghost use Rattle.wild_types.specs.Faults.{Answers};
 ghost use Rattle.wild_laid.specs.Laid.{of_last_file};
-ghost use Rattle.wild_types.specs.Lookups.{image_size};
+ghost use Rattle.wild_types.specs.Lookups.{image_size, is_hollow_at, is_hollow_part};
 ghost use Rattle.wild_types.specs.Parts.{has_role};
 ghost use Rattle.wild_types.specs.FilePlaces.{given};
 ghost use Rattle.wild_types.specs.FileThunks.{thunks_of};
-ghost use Rattle.wild_layout.specs.Content.{content};
-ghost use Rattle.wild_layout.specs.Image.{merged_bytes, front_piece, once_pieces, thunk_piece, thunk_pieces, of_first_file, given_before, table_piece, table_pieces};
+ghost use Rattle.wild_layout.specs.Image.{unless_hollow, merged_bytes, front_piece, once_pieces, thunk_piece, thunk_pieces, of_first_file, given_before, table_piece, table_pieces};
 ghost use Rattle.wild_layout.specs.SectionPlaces.{FrontLies};
 ghost use Rattle.wild_layout.specs.ThunkPlaces.{ThunkLies};
 ghost use Rattle.wild_layout.specs.Thunks.{thunk_bytes, file_thunks};
-ghost use Rattle.wild_image.specs.Pieces.{has_room, ranged_room, place_in, file_sections, sorted_owned, all_sorted, once_bytes, ends_bytes, file_bytes, group_tables, group_files};
+ghost use Rattle.wild_image.specs.Pieces.{has_some, has_room, some_by, ranged_room, table_given, place_in, file_sections, sorted_owned, all_sorted, once_bytes, ends_bytes, file_bytes, group_tables, group_files};
 ghost use Rattle.wild_image.specs.Owners.{ranged_pieces, sorted_pieces, all_sorted_pieces, merged_piece, ends_pieces, standing_pieces};
 ghost use Rattle.wild_image.specs.Append.{BeginsWith, GoesOn, HasStarts, EachPartLies, RangedLies, SortedLies, SomeLies, MergedLies, FileLies, EachFileLies};
 ghost use Rattle.wild_image.specs.Batches.{AreBatches, IsWithin, GivesBatch, HasBatch, batch_errors, batch_pieces};
@@ -36,24 +35,44 @@ use wild_types::{
 };
 use wild_words::put;
 
-/// Whether a section that is loaded, sorted or read by debuggers owns bytes of the image, as it stands.
+/// Whether there are bytes at the front of a part, and the part is written.
+pub(crate) fn writes_front(layout: &Layout, part: usize, own: &[u8]) -> bool
+    ensures { result ≡ (not (length own.now == 0) && not (is_hollow_part layout.now part)) }
+{
+    own.len() != 0 && !layout.is_hollow_part(part)
+}
+
+/// Whether there are bytes of a section that is loaded, sorted or read by debuggers, as it stands.
+fn has_some(layout: &Layout, section: &InputSection) -> bool
+    ensures { result ≡ has_some layout.now section.now }
+{
+    section.size != 0 && (!section.nobits || layout.has_data(layout.section_of(section.part)))
+}
+
+/// Whether it owns these bytes of the image.
 pub(crate) fn owns_room(layout: &Layout, section: &InputSection) -> bool
     ensures { result ≡ has_room layout.now section.now }
 {
-    section.size != 0
-        && (!section.nobits || layout.takes_file_bytes(layout.section_of(section.part)))
+    has_some(layout, section) && !layout.is_hollow_part(section.part)
 }
 
-/// Whether a section does that stands in its part's range.
-pub(crate) fn owns_range(layout: &Layout, section: &InputSection) -> bool
-    ensures { result ≡ ranged_room layout.now section.now }
+/// Whether there are bytes of a section that stands in its part's range.
+fn has_range(layout: &Layout, section: &InputSection) -> bool
+    ensures { result ≡ some_by section.now.slot layout.now section.now }
 {
     match section.slot {
-        Slot::Loaded | Slot::Debug => owns_room(layout, section),
+        Slot::Loaded | Slot::Debug => has_some(layout, section),
         Slot::Rela => !section.nobits && section.size != 0,
         Slot::Group => !section.nobits && section.bytes.len() != 0,
         _ => false,
     }
+}
+
+/// Whether it owns these bytes of the image.
+pub(crate) fn owns_range(layout: &Layout, section: &InputSection) -> bool
+    ensures { result ≡ ranged_room layout.now section.now }
+{
+    has_range(layout, section) && !layout.is_hollow_part(section.part)
 }
 
 /// Puts the bytes of a section, the first of these, into the image, where it owns some, and tells what stands behind them.
@@ -134,6 +153,7 @@ fn append_sorted<'b>(layout: &Layout, bytes: &'b [u8], out: &mut [u8]) -> &'b [u
 #[tactic(auto, using(crate::proofs::FrontLemmas::front_part, crate::proofs::FrontLemmas::front_ends, crate::proofs::FrontLemmas::front_put))]
 fn put_some(layout: &Layout, part: usize, own: &[u8], out: &mut [u8])
     requires some { 1 ≤ length own.now }
+    requires written { is_hollow_part layout.now part ≡ false }
     requires lies { FrontLies layout.now part own.now }
     requires room { length out.old ≡ image_size layout.now }
     ensures { out.new ≡ overlay (front_piece layout.now part own.now) out.old }
@@ -142,16 +162,16 @@ fn put_some(layout: &Layout, part: usize, own: &[u8], out: &mut [u8])
     put(out, front, own);
 }
 
-/// The same, where there are some.
-#[tactic(auto, using(crate::proofs::FrontLemmas::front_not_put))]
+/// The same, where there are some and the part is written.
 fn put_front(layout: &Layout, part: usize, own: &[u8], out: &mut [u8])
     requires lies { SomeLies layout.now part own.now }
     requires room { length out.old ≡ image_size layout.now }
     ensures { out.new ≡ overlay (front_piece layout.now part own.now) out.old }
 {
-    if own.len() != 0 {
-        put_some(layout, part, own, out);
+    if !writes_front(layout, part, own) {
+        return;
     }
+    put_some(layout, part, own, out);
 }
 
 /// How many bytes merged strings have.
@@ -271,12 +291,12 @@ fn append_thunk<'b>(layout: &Layout, thunk: &Thunk, bytes: &'b [u8], out: &mut [
     rest
 }
 
-/// Puts the thunks that a file writes into the image, and tells what stands behind them.
-fn append_thunks<'b>(layout: &Layout, file: &File, bytes: &'b [u8], out: &mut [u8]) -> &'b [u8]
+/// Puts the thunks of a file into the image, and tells what stands behind them.
+fn append_all_thunks<'b>(layout: &Layout, file: &File, bytes: &'b [u8], out: &mut [u8]) -> &'b [u8]
     requires lies { All (ThunkLies layout.now) (thunks_of layout.now file.now) }
     requires room { (length out.old ≡ image_size layout.now) × (image_size layout.now ≤ 2 ^ 62) }
     requires own { BeginsWith (file_thunks layout.now file.now) bytes.now }
-    ensures image { out.new ≡ overlay (thunk_pieces layout.now file.now) out.old }
+    ensures image { out.new ≡ overlay (flat_map (thunk_piece layout.now) (thunks_of layout.now file.now)) out.old }
     ensures rest { GoesOn (file_thunks layout.now file.now) bytes.now result.now }
 {
     let mut rest = bytes;
@@ -284,6 +304,20 @@ fn append_thunks<'b>(layout: &Layout, file: &File, bytes: &'b [u8], out: &mut [u
         rest = append_thunk(layout, thunk, rest, out);
     }
     rest
+}
+
+/// The same, unless nothing of their section is written.
+fn append_thunks<'b>(layout: &Layout, file: &File, bytes: &'b [u8], out: &mut [u8]) -> &'b [u8]
+    requires lies { is_hollow_part layout.now layout.now.primary_part ≡ false → All (ThunkLies layout.now) (thunks_of layout.now file.now) }
+    requires room { (length out.old ≡ image_size layout.now) × (image_size layout.now ≤ 2 ^ 62) }
+    requires own { BeginsWith (unless_hollow layout.now layout.now.primary_part (file_thunks layout.now file.now)) bytes.now }
+    ensures image { out.new ≡ overlay (thunk_pieces layout.now file.now) out.old }
+    ensures rest { GoesOn (unless_hollow layout.now layout.now.primary_part (file_thunks layout.now file.now)) bytes.now result.now }
+{
+    if layout.is_hollow_part(layout.primary_part) {
+        return bytes;
+    }
+    append_all_thunks(layout, file, bytes, out)
 }
 
 /// Puts the bytes of the sections of a file and its thunks into the image, and tells what stands behind them.
@@ -316,7 +350,7 @@ fn append_files<'b>(layout: &Layout, group: &Group, bytes: &'b [u8], out: &mut [
 }
 
 /// How many of its bytes a group gives to a part: none of a raw one.
-pub(crate) fn table_size(part: &Part, group: &Group, i: usize) -> u64
+fn table_size(part: &Part, group: &Group, i: usize) -> u64
     ensures { result ≡ (if has_role Raw part.now then 0 else given i group.now) }
 {
     match part.role {
@@ -325,8 +359,19 @@ pub(crate) fn table_size(part: &Part, group: &Group, i: usize) -> u64
     }
 }
 
+/// How many of these it writes: none where nothing of the part's section is written.
+pub(crate) fn written_size(layout: &Layout, part: &Part, group: &Group, i: usize) -> u64
+    ensures { result ≡ (if is_hollow_at layout.now part.now.section then 0 else (if has_role Raw part.now then 0 else given i group.now)) }
+{
+    if layout.is_hollow_at(part.section) {
+        0
+    } else {
+        table_size(part, group, i)
+    }
+}
+
 /// Puts what the group with that number gives to part i, the first of these bytes, into the image, behind what the
-/// groups before are given of it, and tells what stands behind that.
+/// groups before are given of it, unless nothing of its section is written, and tells what stands behind that.
 fn append_table<'b>(
     layout: &Layout,
     index: usize,
@@ -341,12 +386,12 @@ fn append_table<'b>(
     requires parts { EachPartLies layout.now }
     requires group { slice_get layout.now.groups index ≡ Some group.now }
     requires start { start ≡ given_before layout.now i index }
-    requires own { BeginsWith (content layout.now part.now.role group.now) bytes.now }
+    requires own { BeginsWith (table_given layout.now group.now part.now) bytes.now }
     requires room { (length out.old ≡ image_size layout.now) × (image_size layout.now ≤ 2 ^ 62) }
     ensures image { out.new ≡ overlay (table_piece layout.now index group.now i part.now) out.old }
-    ensures rest { GoesOn (content layout.now part.now.role group.now) bytes.now result.now }
+    ensures rest { GoesOn (table_given layout.now group.now part.now) bytes.now result.now }
 {
-    let size = table_size(part, group, i) as usize;
+    let size = written_size(layout, part, group, i) as usize;
     if size == 0 {
         return bytes;
     }

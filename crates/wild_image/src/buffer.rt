@@ -5,23 +5,25 @@ ghost use Rattle.std.specs.List.{flat_map};
 ghost use Rattle.wild_types.specs.FileRoles.{is_epilogue};
 ghost use Rattle.wild_types.specs.Faults.{Answers};
 ghost use Rattle.wild_types.specs.declared.file.File.{File};
-ghost use Rattle.wild_types.specs.Lookups.{is_filled, is_read, is_frame, is_debug, is_rela};
+ghost use Rattle.wild_types.specs.declared.part.Role.TheVariants.{EhFrame, EhFrameHdr};
+ghost use Rattle.wild_types.specs.Hollow.{is_hollow_role, is_dropped};
+ghost use Rattle.wild_types.specs.Lookups.{is_given, is_read, is_frame, is_debug, is_rela};
 ghost use Rattle.wild_layout.specs.Sites.{section_bytes};
 ghost use Rattle.wild_laid.specs.FrameInputs.{kept_size};
 ghost use Rattle.wild_laid.specs.Laid.{laid_section, laid_sections, laid_file, file_frames, frames_at, behind, of_last_file};
 ghost use Rattle.wild_layout.specs.Faults.{section_errors, sections_errors, sorted_errors, first_errors, file_errors, files_errors, group_errors};
-ghost use Rattle.wild_layout.specs.Content.{content, frame_bytes_of, end_of_frames, frames_bytes};
+ghost use Rattle.wild_layout.specs.Content.{frame_bytes_of, end_of_frames, frames_bytes};
 ghost use Rattle.wild_layout.specs.Image.{of_first_file};
 ghost use Rattle.wild_layout.specs.SectionPlaces.{SectionLies};
 ghost use Rattle.wild_contents.specs.Given.{NeedsFit};
 ghost use Rattle.wild_contents.specs.Laid.{group_frames, HaveSearchTable};
 ghost use Rattle.wild_contents.specs.SearchTable.{IsTableFor, IsSearchTable};
-ghost use Rattle.wild_image.specs.Append.{GivesItsShares, IsTurned, IsOfKind, SortedStands, FileStands, GroupStands};
-ghost use Rattle.wild_image.specs.Pieces.{section_owned, sorted_owned, all_sorted, once_bytes, file_bytes, group_files, group_tables};
-ghost use Rattle.wild_image.specs.Stood.{stood_faults, StoodApart, HasOrigins, IsMadeOf, IsWhole, zeros_of, errors_behind, bytes_behind};
+ghost use Rattle.wild_image.specs.Append.{GivesItsShares, HasRolesOnce, IsTurned, IsOfKind, SortedStands, FileStands, GroupStands};
+ghost use Rattle.wild_image.specs.Pieces.{table_given, section_owned, sorted_owned, all_sorted, once_bytes, file_bytes, group_files, group_tables};
+ghost use Rattle.wild_image.specs.Stood.{kept_faults, stood_faults, StoodApart, HasOrigins, IsMadeOf, IsWhole, zeros_of, errors_behind, bytes_behind};
 ghost use Rattle.wild_image.specs.Batches.{HasBatch, batch_errors};
 
-use crate::append::table_size;
+use crate::append::written_size;
 use crate::batch::Batch;
 use std::alloc::{AllocError, Global};
 use std::thread::Threads;
@@ -49,7 +51,7 @@ pub(crate) struct GroupBytes {
     pub(crate) frames: PartBytes,
 }
 
-/// Adds what a group gives to part i. Where it is given nothing, nothing is looked at.
+/// Adds what a group gives to part i, unless nothing of its section is written. Where it writes nothing, nothing is looked at.
 fn add_table<A: Arch>(
     alloc: Global,
     resolved: &Resolved<A>,
@@ -62,11 +64,12 @@ fn add_table<A: Arch>(
     requires part { slice_get resolved.now.layout.now.parts i ≡ Some part.now }
     requires gives { GivesItsShares resolved.now.layout.now group.now }
     requires few { NeedsFit group.now }
-    requires frames { beside.now.frames.now ≡ group_frames resolved.now.layout.now group.now }
-    requires table { HaveSearchTable resolved.now.layout.now beside.now.table.now group.now.files }
-    ensures { OnOk result (bytes.new ≡ bytes.old ++ content resolved.now.layout.now part.now.role group.now) }
+    requires once { HasRolesOnce resolved.now.layout.now }
+    requires frames { is_hollow_role resolved.now.layout.now EhFrame ≡ false → beside.now.frames.now ≡ group_frames resolved.now.layout.now group.now }
+    requires table { is_hollow_role resolved.now.layout.now EhFrameHdr ≡ false → HaveSearchTable resolved.now.layout.now beside.now.table.now group.now.files }
+    ensures { OnOk result (bytes.new ≡ bytes.old ++ table_given resolved.now.layout.now group.now part.now) }
 {
-    if table_size(part, group, i) == 0 {
+    if written_size(resolved.layout, part, group, i) == 0 {
         return Ok(());
     }
     add_content(alloc, resolved, part.role, group, beside, bytes)
@@ -82,8 +85,9 @@ fn add_group_tables<A: Arch>(
 ) -> Result<(), AllocError>
     requires gives { GivesItsShares resolved.now.layout.now group.now }
     requires few { NeedsFit group.now }
-    requires frames { beside.now.frames.now ≡ group_frames resolved.now.layout.now group.now }
-    requires table { HaveSearchTable resolved.now.layout.now beside.now.table.now group.now.files }
+    requires once { HasRolesOnce resolved.now.layout.now }
+    requires frames { is_hollow_role resolved.now.layout.now EhFrame ≡ false → beside.now.frames.now ≡ group_frames resolved.now.layout.now group.now }
+    requires table { is_hollow_role resolved.now.layout.now EhFrameHdr ≡ false → HaveSearchTable resolved.now.layout.now beside.now.table.now group.now.files }
     ensures { OnOk result (bytes.new ≡ bytes.old ++ group_tables resolved.now.layout.now group.now) }
 {
     for (i, part) in resolved.layout.parts.as_slice().iter().enumerate() {
@@ -105,8 +109,8 @@ fn origin_of<'a>(place: InputPlace, laid: &'a LaidSection<'_>) -> Origin<'a>
     }
 }
 
-/// Answers the first fault of a section, as it stands, whose relocations are read and that owns no bytes.
-#[tactic(auto, unfolding(crate::specs::Stood::stood_faults))]
+/// Answers the first fault of a section, as it stands, whose relocations are read and that has no bytes.
+#[tactic(auto, unfolding(crate::specs::Stood::kept_faults))]
 fn check_data<A: Arch>(
     alloc: Global,
     resolved: &Resolved<A>,
@@ -116,10 +120,10 @@ fn check_data<A: Arch>(
 ) -> Result<(), Error>
     requires read { is_read laid.now.section ≡ true }
     requires moves { StoodApart resolved.now.layout.now file.now laid.now }
-    requires none { is_filled resolved.now.layout.now laid.now.section ≡ false }
+    requires none { is_given resolved.now.layout.now laid.now.section ≡ false }
     requires loaded { is_frame laid.now.section.slot ≡ false }
     requires lies { SectionLies resolved.now.layout.now laid.now.section }
-    ensures faults { Answers result (stood_faults resolved.now.layout.now place.group place.file place.section file.now laid.now) }
+    ensures faults { Answers result (kept_faults resolved.now.layout.now place.group place.file place.section file.now laid.now) }
 {
     let mut room = [0; 0];
     let item = laid.section().item(resolved.layout, file);
@@ -151,7 +155,7 @@ fn add_zeros(
 
 /// Adds the bytes of a section with data, as it stands, to those of the file's sections or of its frames, or answers its first
 /// fault.
-#[tactic(auto, using(crate::proofs::StoodLemmas::frames_own_none), unfolding(crate::specs::Stood::stood_faults, wild_layout::specs::Sites::section_bytes, wild_layout::specs::Content::frame_bytes_of))]
+#[tactic(auto, using(crate::proofs::StoodLemmas::frames_own_none), unfolding(crate::specs::Stood::kept_faults, wild_layout::specs::Sites::section_bytes, wild_layout::specs::Content::frame_bytes_of))]
 fn add_read<A: Arch>(
     alloc: Global,
     resolved: &Resolved<A>,
@@ -162,8 +166,9 @@ fn add_read<A: Arch>(
 ) -> Result<(), Error>
     requires read { is_read laid.now.section ≡ true }
     requires moves { StoodApart resolved.now.layout.now file.now laid.now }
+    requires written { is_dropped resolved.now.layout.now laid.now.section ≡ false }
     requires lies { SectionLies resolved.now.layout.now laid.now.section }
-    ensures faults { Answers result (stood_faults resolved.now.layout.now place.group place.file place.section file.now laid.now) }
+    ensures faults { Answers result (kept_faults resolved.now.layout.now place.group place.file place.section file.now laid.now) }
     ensures files { OnOk result (bytes.new.files ≡ bytes.old.files ++ section_owned resolved.now.layout.now file.now laid.now.section) }
     ensures frames { OnOk result (bytes.new.frames ≡ bytes.old.frames ++ frame_bytes_of resolved.now.layout.now file.now laid.now.section) }
     ensures tables { bytes.new.tables ≡ bytes.old.tables }
@@ -190,10 +195,11 @@ fn add_debug<A: ShardedArch, R: Threads + Sync>(
     bytes: &mut PartBytes,
 ) -> Result<(), Error>
     requires debug { is_debug laid.now.section.slot ≡ true }
+    requires written { is_dropped resolved.now.layout.now laid.now.section ≡ false }
     requires whole { laid.now.section.nobits ≡ false }
     requires origins { HasOrigins laid.now }
     requires lies { SectionLies resolved.now.layout.now laid.now.section }
-    ensures faults { (f : File) → Answers result (stood_faults resolved.now.layout.now place.group place.file place.section f laid.now) }
+    ensures faults { (f : File) → Answers result (kept_faults resolved.now.layout.now place.group place.file place.section f laid.now) }
     ensures bytes { OnOk result ((f : File) → bytes.new ≡ bytes.old ++ section_owned resolved.now.layout.now f laid.now.section) }
 {
     bytes.add_debug(by, resolved, &origin_of(place, laid), laid.section())
@@ -237,11 +243,12 @@ fn add_unread<A: ShardedArch, R: Threads + Sync>(
     bytes: &mut PartBytes,
 ) -> Result<(), Error>
     requires unread { is_read laid.now.section ≡ false }
+    requires written { is_dropped resolved.now.layout.now laid.now.section ≡ false }
     requires whole { laid.now.section.nobits ≡ false }
     requires kind { IsOfKind resolved.now.layout.now laid.now.section }
     requires origins { HasOrigins laid.now }
     requires lies { SectionLies resolved.now.layout.now laid.now.section }
-    ensures faults { Answers result (stood_faults resolved.now.layout.now place.group place.file place.section file.now laid.now) }
+    ensures faults { Answers result (kept_faults resolved.now.layout.now place.group place.file place.section file.now laid.now) }
     ensures bytes { OnOk result (bytes.new ≡ bytes.old ++ section_owned resolved.now.layout.now file.now laid.now.section) }
 {
     let section = laid.section();
@@ -254,8 +261,8 @@ fn add_unread<A: ShardedArch, R: Threads + Sync>(
     Ok(())
 }
 
-/// Adds the bytes of a section of that file, as it stands, or answers its first fault.
-#[tactic(auto, using(crate::proofs::StoodLemmas::zeros_owned), unfolding(crate::specs::Stood::stood_faults))]
+/// Adds the bytes of a section of that file, as it stands, or answers its first fault; nothing of one that is not written.
+#[tactic(auto, using(crate::proofs::StoodLemmas::zeros_owned), unfolding(crate::specs::Stood::kept_faults, crate::specs::Stood::stood_faults))]
 fn add_stood<A: ShardedArch, R: Threads + Sync>(
     by: &Workers<R>,
     resolved: &Resolved<A>,
@@ -271,10 +278,14 @@ fn add_stood<A: ShardedArch, R: Threads + Sync>(
     requires lies { SectionLies resolved.now.layout.now laid.now.section }
     ensures faults { Answers result (stood_faults resolved.now.layout.now place.group place.file place.section file.now laid.now) }
     ensures files { OnOk result (bytes.new.files ≡ bytes.old.files ++ section_owned resolved.now.layout.now file.now laid.now.section) }
-    ensures frames { OnOk result (bytes.new.frames ≡ bytes.old.frames ++ frame_bytes_of resolved.now.layout.now file.now laid.now.section) }
+    ensures frames { OnOk result (is_hollow_role resolved.now.layout.now EhFrame ≡ false → bytes.new.frames ≡ bytes.old.frames ++ frame_bytes_of resolved.now.layout.now file.now laid.now.section) }
+    ensures plain { OnOk result (is_frame laid.now.section.slot ≡ false → bytes.new.frames ≡ bytes.old.frames) }
     ensures tables { bytes.new.tables ≡ bytes.old.tables }
 {
     let section = laid.section();
+    if section.is_dropped(resolved.layout) {
+        return Ok(());
+    }
     if section.is_read() {
         return add_read(by.alloc, resolved, place, file, laid, bytes);
     }
@@ -302,7 +313,7 @@ fn add_section<A: ShardedArch, R: Threads + Sync>(
     ensures faults { Answers result (section_errors resolved.now.layout.now place.group place.file file.now at place.section section.now) }
     ensures next { IfOk result (λ n. n ≡ behind at (kept_size resolved.now.layout.now file.now section.now)) }
     ensures files { OnOk result (bytes.new.files ≡ bytes.old.files ++ section_owned resolved.now.layout.now file.now (laid_section resolved.now.layout.now file.now at section.now)) }
-    ensures frames { OnOk result (bytes.new.frames ≡ bytes.old.frames ++ frame_bytes_of resolved.now.layout.now file.now (laid_section resolved.now.layout.now file.now at section.now)) }
+    ensures frames { OnOk result (is_hollow_role resolved.now.layout.now EhFrame ≡ false → bytes.new.frames ≡ bytes.old.frames ++ frame_bytes_of resolved.now.layout.now file.now (laid_section resolved.now.layout.now file.now at section.now)) }
     ensures tables { bytes.new.tables ≡ bytes.old.tables }
 {
     let laid = lay(by.alloc, resolved.layout, file, at, section)?;
@@ -327,7 +338,7 @@ fn add_file_sections<A: ShardedArch, R: Threads + Sync>(
     ensures faults { Answers result (sections_errors resolved.now.layout.now place.group place.file file.now at 0 file.now.sections) }
     ensures next { IfOk result (λ n. n ≡ behind at (file_frames resolved.now.layout.now file.now)) }
     ensures files { OnOk result (bytes.new.files ≡ bytes.old.files ++ flat_map (section_owned resolved.now.layout.now file.now) (laid_sections resolved.now.layout.now file.now at file.now.sections)) }
-    ensures frames { OnOk result (bytes.new.frames ≡ bytes.old.frames ++ flat_map (frame_bytes_of resolved.now.layout.now file.now) (laid_sections resolved.now.layout.now file.now at file.now.sections)) }
+    ensures frames { OnOk result (is_hollow_role resolved.now.layout.now EhFrame ≡ false → bytes.new.frames ≡ bytes.old.frames ++ flat_map (frame_bytes_of resolved.now.layout.now file.now) (laid_sections resolved.now.layout.now file.now at file.now.sections)) }
     ensures tables { bytes.new.tables ≡ bytes.old.tables }
 {
     let mut next = at;
@@ -342,7 +353,7 @@ fn add_file_sections<A: ShardedArch, R: Threads + Sync>(
 }
 
 /// Adds the bytes of a section that is named among the sorted ones, or answers its first fault, which has the section's own place.
-#[tactic(auto, using(crate::proofs::StoodLemmas::sorted_stood, crate::proofs::StandingLemmas::one_owned, crate::proofs::StoodLemmas::sorted_no_frames))]
+#[tactic(auto, using(crate::proofs::StoodLemmas::sorted_stood, crate::proofs::StandingLemmas::one_owned))]
 fn add_sorted_section<A: ShardedArch, R: Threads + Sync>(
     by: &Workers<R>,
     resolved: &Resolved<A>,
@@ -393,7 +404,7 @@ fn add_end(layout: &Layout, frames: &mut PartBytes) -> Result<(), AllocError>
     ensures { OnOk result (frames.new ≡ frames.old ++ end_of_frames layout.now) }
 {
     if layout.options.terminator {
-        frames.extend(&[0; 4])?;
+        frames.end_frames()?;
     }
     Ok(())
 }
@@ -509,7 +520,7 @@ fn add_file<A: ShardedArch, R: Threads + Sync>(
     ensures faults { Answers result (file_errors resolved.now.layout.now place.group at place.file file.now) }
     ensures next { IfOk result (λ n. n ≡ behind at (file_frames resolved.now.layout.now file.now)) }
     ensures files { OnOk result (bytes.new.files ≡ bytes.old.files ++ file_bytes resolved.now.layout.now file.now) }
-    ensures frames { OnOk result (bytes.new.frames ≡ bytes.old.frames ++ frames_bytes resolved.now.layout.now (laid_file resolved.now.layout.now at file.now)) }
+    ensures frames { OnOk result (is_hollow_role resolved.now.layout.now EhFrame ≡ false → bytes.new.frames ≡ bytes.old.frames ++ frames_bytes resolved.now.layout.now (laid_file resolved.now.layout.now at file.now)) }
     ensures tables { bytes.new.tables ≡ bytes.old.tables }
 {
     let next = add_file_sections(by, resolved, place, file, at, bytes)?;
@@ -531,7 +542,7 @@ fn add_files<A: ShardedArch, R: Threads + Sync>(
     requires table { All (IsTableFor resolved.now.layout.now table.now) group.now.files }
     ensures faults { Answers result (files_errors resolved.now.layout.now index (frames_at resolved.now.layout.now group.now) 0 group.now.files) }
     ensures files { OnOk result (bytes.new.files ≡ bytes.old.files ++ group_files resolved.now.layout.now group.now) }
-    ensures frames { OnOk result (bytes.new.frames ≡ bytes.old.frames ++ group_frames resolved.now.layout.now group.now) }
+    ensures frames { OnOk result (is_hollow_role resolved.now.layout.now EhFrame ≡ false → bytes.new.frames ≡ bytes.old.frames ++ group_frames resolved.now.layout.now group.now) }
     ensures tables { bytes.new.tables ≡ bytes.old.tables }
 {
     let mut next = frames_at(resolved.layout, group);
@@ -560,7 +571,7 @@ fn add_group_files<A: ShardedArch, R: Threads + Sync>(
     requires table { All (IsTableFor resolved.now.layout.now table.now) group.now.files }
     ensures faults { Answers result (group_errors resolved.now.layout.now index group.now) }
     ensures files { OnOk result (bytes.new.files ≡ bytes.old.files ++ group_files resolved.now.layout.now group.now) }
-    ensures frames { OnOk result (bytes.new.frames ≡ bytes.old.frames ++ group_frames resolved.now.layout.now group.now) }
+    ensures frames { OnOk result (is_hollow_role resolved.now.layout.now EhFrame ≡ false → bytes.new.frames ≡ bytes.old.frames ++ group_frames resolved.now.layout.now group.now) }
     ensures tables { bytes.new.tables ≡ bytes.old.tables }
 {
     add_files(by, resolved, index, group, table, bytes)?;
@@ -616,6 +627,7 @@ pub(crate) fn add_group<A: ShardedArch, R: Threads + Sync>(
     requires stands { GroupStands resolved.now.layout.now group.now }
     requires gives { GivesItsShares resolved.now.layout.now group.now }
     requires few { NeedsFit group.now }
+    requires once { HasRolesOnce resolved.now.layout.now }
     requires table { All (IsTableFor resolved.now.layout.now table.now) group.now.files }
     ensures faults { Answers result (group_errors resolved.now.layout.now index group.now) }
     ensures tables { OnOk result (bytes.new.tables ≡ bytes.old.tables ++ group_tables resolved.now.layout.now group.now) }
@@ -641,6 +653,7 @@ pub(crate) fn bytes_of_batch<A: ShardedArch, R: Threads + Sync>(
     requires stands { All (GroupStands resolved.now.layout.now) batch.now.groups.now }
     requires gives { All (GivesItsShares resolved.now.layout.now) batch.now.groups.now }
     requires few { All NeedsFit batch.now.groups.now }
+    requires once { HasRolesOnce resolved.now.layout.now }
     requires table { IsSearchTable resolved.now.layout.now table.now }
     requires small { batch.now.first + length batch.now.groups.now < 2 ^ 64 }
     ensures faults { Answers result (batch_errors resolved.now.layout.now batch.now) }

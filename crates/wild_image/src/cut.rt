@@ -1,20 +1,19 @@
 //! All bytes of a group, cut into what it has of each part.
-ghost use Rattle.std.specs.Prelude.{◌≡◌, ◌<◌, ◌≤◌, ◌++◌, ℕ, true, if◌then◌else◌, [], length, take, drop, map, All, IfOk, OnOk, slice_index_or};
+ghost use Rattle.std.specs.Prelude.{◌≡◌, ◌<◌, ◌≤◌, ◌++◌, ℕ, true, false, if◌then◌else◌, [], length, take, drop, map, All, IfOk, OnOk, slice_index_or};
 ghost use Rattle.wild_types.specs.declared.file.File.{File};
-ghost use Rattle.wild_types.specs.declared.part.Part.{Part};
 ghost use Rattle.wild_types.specs.FileThunks.{thunks_of};
-ghost use Rattle.wild_layout.specs.Content.{content};
+ghost use Rattle.wild_types.specs.Lookups.{is_hollow_part};
 ghost use Rattle.wild_layout.specs.SectionPlaces.{FrontLies};
 ghost use Rattle.wild_layout.specs.ThunkPlaces.{ThunkLies};
 ghost use Rattle.wild_layout.specs.Thunks.{thunk_bytes, file_thunks};
 ghost use Rattle.std.specs.List.{flat_map};
 ghost use Rattle.wild_types.specs.FileRoles.{is_prelude, is_epilogue};
 ghost use Rattle.wild_laid.specs.Laid.{of_last_file};
-ghost use Rattle.wild_layout.specs.Image.{merged_bytes, of_first_file};
+ghost use Rattle.wild_layout.specs.Image.{unless_hollow, merged_bytes, of_first_file};
 ghost use Rattle.wild_image.specs.Append.{BeginsWith, GoesOn, GivesItsShares, RangedLies, SortedLies, SomeLies, MergedLies, FileLies};
-ghost use Rattle.wild_image.specs.Pieces.{file_sections, sorted_owned, all_sorted, once_bytes, ends_bytes, file_bytes, group_tables, group_files, in_part, sections_owned, sorted_in, all_sorted_in, merged_in, once_in, ends_in, thunk_in, thunks_in, file_owned, group_owned, group_parts};
+ghost use Rattle.wild_image.specs.Pieces.{table_given, front_in, file_sections, sorted_owned, all_sorted, once_bytes, ends_bytes, file_bytes, group_tables, group_files, in_part, sections_owned, sorted_in, all_sorted_in, merged_in, once_in, ends_in, thunk_in, thunks_in, file_owned, group_owned, group_parts};
 
-use crate::append::{merged_size, owns_range, owns_room, table_size};
+use crate::append::{merged_size, owns_range, owns_room, writes_front, written_size};
 use crate::buffer::GroupBytes;
 use std::alloc::{AllocError, Global};
 use wild_contents::PartBytes;
@@ -33,11 +32,11 @@ fn cut_tables(
     requires gives { GivesItsShares layout.now group.now }
     requires own { BeginsWith (group_tables layout.now group.now) bytes.now }
     requires none { parts.old.items ≡ [] }
-    ensures { OnOk result (parts.new.items ≡ map (λ (p : Part). content layout.now p.role group.now) layout.now.parts) }
+    ensures { OnOk result (parts.new.items ≡ map (table_given layout.now group.now) layout.now.parts) }
 {
     let mut rest = bytes;
     for (i, part) in layout.parts.as_slice().iter().enumerate() {
-        let (own, behind) = rest.split_at(table_size(part, group, i) as usize);
+        let (own, behind) = rest.split_at(written_size(layout, part, group, i) as usize);
         let mut piece = PartBytes::with_room(alloc, own.len())?;
         piece.extend(own)?;
         parts.push(piece)?;
@@ -143,8 +142,7 @@ fn add_some(
     Ok(())
 }
 
-/// The same, where there are some.
-#[tactic(auto, using(crate::proofs::OwnedLemmas::none_taken))]
+/// The same, where there are some and the part is written.
 fn add_front(
     layout: &Layout,
     part: usize,
@@ -153,12 +151,12 @@ fn add_front(
 ) -> Result<(), AllocError>
     requires lies { SomeLies layout.now part own.now }
     requires room { length parts.old ≡ length layout.now.parts }
-    ensures { OnOk result ((k : ℕ) → k < length parts.old → slice_index_or parts.new k [] ≡ slice_index_or parts.old k [] ++ in_part k part own.now) }
+    ensures { OnOk result ((k : ℕ) → k < length parts.old → slice_index_or parts.new k [] ≡ slice_index_or parts.old k [] ++ front_in layout.now k part own.now) }
 {
-    if own.len() != 0 {
-        add_some(layout, part, own, parts)?;
+    if !writes_front(layout, part, own) {
+        return Ok(());
     }
-    Ok(())
+    add_some(layout, part, own, parts)
 }
 
 /// Adds merged strings, the first of these bytes, to those of their part, and tells what stands behind them.
@@ -171,7 +169,7 @@ fn cut_merged<'b>(
     requires lies { MergedLies layout.now merged.now }
     requires room { length parts.old ≡ length layout.now.parts }
     requires own { BeginsWith (merged_bytes merged.now) bytes.now }
-    ensures owned { OnOk result ((k : ℕ) → k < length parts.old → slice_index_or parts.new k [] ≡ slice_index_or parts.old k [] ++ merged_in k merged.now) }
+    ensures owned { OnOk result ((k : ℕ) → k < length parts.old → slice_index_or parts.new k [] ≡ slice_index_or parts.old k [] ++ merged_in layout.now k merged.now) }
     ensures rest { IfOk result (λ r. GoesOn (merged_bytes merged.now) bytes.now r.now) }
 {
     let (own, rest) = bytes.split_at(merged_size(merged));
@@ -188,7 +186,7 @@ fn cut_strings<'b>(
     requires lies { All (MergedLies layout.now) layout.now.merged }
     requires room { length parts.old ≡ length layout.now.parts }
     requires own { BeginsWith (flat_map merged_bytes layout.now.merged) bytes.now }
-    ensures owned { OnOk result ((k : ℕ) → k < length parts.old → slice_index_or parts.new k [] ≡ slice_index_or parts.old k [] ++ flat_map (merged_in k) layout.now.merged) }
+    ensures owned { OnOk result ((k : ℕ) → k < length parts.old → slice_index_or parts.new k [] ≡ slice_index_or parts.old k [] ++ flat_map (merged_in layout.now k) layout.now.merged) }
     ensures rest { IfOk result (λ r. GoesOn (flat_map merged_bytes layout.now.merged) bytes.now r.now) }
 {
     let mut rest = bytes;
@@ -207,7 +205,7 @@ fn cut_identity<'b>(
     requires lies { SomeLies layout.now layout.now.identity.part layout.now.identity.bytes }
     requires room { length parts.old ≡ length layout.now.parts }
     requires own { BeginsWith layout.now.identity.bytes bytes.now }
-    ensures owned { OnOk result ((k : ℕ) → k < length parts.old → slice_index_or parts.new k [] ≡ slice_index_or parts.old k [] ++ in_part k layout.now.identity.part layout.now.identity.bytes) }
+    ensures owned { OnOk result ((k : ℕ) → k < length parts.old → slice_index_or parts.new k [] ≡ slice_index_or parts.old k [] ++ front_in layout.now k layout.now.identity.part layout.now.identity.bytes) }
     ensures rest { IfOk result (λ r. GoesOn layout.now.identity.bytes bytes.now r.now) }
 {
     let (own, rest) = bytes.split_at(layout.identity.bytes.len());
@@ -306,8 +304,8 @@ fn cut_thunk<'b>(
     Ok(rest)
 }
 
-/// Adds the thunks that a file writes to those of the primary part, and tells what stands behind them.
-fn cut_thunks<'b>(
+/// Adds the thunks of a file to those of the primary part, and tells what stands behind them.
+fn cut_all_thunks<'b>(
     layout: &Layout,
     file: &File,
     bytes: &'b [u8],
@@ -316,7 +314,7 @@ fn cut_thunks<'b>(
     requires lies { All (ThunkLies layout.now) (thunks_of layout.now file.now) }
     requires room { length parts.old ≡ length layout.now.parts }
     requires own { BeginsWith (file_thunks layout.now file.now) bytes.now }
-    ensures owned { OnOk result ((k : ℕ) → k < length parts.old → slice_index_or parts.new k [] ≡ slice_index_or parts.old k [] ++ thunks_in layout.now k file.now) }
+    ensures owned { OnOk result ((k : ℕ) → k < length parts.old → slice_index_or parts.new k [] ≡ slice_index_or parts.old k [] ++ flat_map (thunk_in layout.now k) (thunks_of layout.now file.now)) }
     ensures rest { IfOk result (λ r. GoesOn (file_thunks layout.now file.now) bytes.now r.now) }
 {
     let mut rest = bytes;
@@ -324,6 +322,25 @@ fn cut_thunks<'b>(
         rest = cut_thunk(layout, thunk, rest, parts)?;
     }
     Ok(rest)
+}
+
+/// The same, unless nothing of its section is written.
+fn cut_thunks<'b>(
+    layout: &Layout,
+    file: &File,
+    bytes: &'b [u8],
+    parts: &mut [PartBytes],
+) -> Result<&'b [u8], AllocError>
+    requires lies { is_hollow_part layout.now layout.now.primary_part ≡ false → All (ThunkLies layout.now) (thunks_of layout.now file.now) }
+    requires room { length parts.old ≡ length layout.now.parts }
+    requires own { BeginsWith (unless_hollow layout.now layout.now.primary_part (file_thunks layout.now file.now)) bytes.now }
+    ensures owned { OnOk result ((k : ℕ) → k < length parts.old → slice_index_or parts.new k [] ≡ slice_index_or parts.old k [] ++ thunks_in layout.now k file.now) }
+    ensures rest { IfOk result (λ r. GoesOn (unless_hollow layout.now layout.now.primary_part (file_thunks layout.now file.now)) bytes.now r.now) }
+{
+    if layout.is_hollow_part(layout.primary_part) {
+        return Ok(bytes);
+    }
+    cut_all_thunks(layout, file, bytes, parts)
 }
 
 /// Adds the bytes of the sections of a file and its thunks to those of their parts, and tells what stands behind them.
@@ -372,7 +389,7 @@ fn fill_parts(
     parts: &mut [PartBytes],
 ) -> Result<(), AllocError>
     requires lies { All (FileLies layout.now) group.now.files }
-    requires tables { parts.old ≡ map (λ (p : Part). content layout.now p.role group.now) layout.now.parts }
+    requires tables { parts.old ≡ map (table_given layout.now group.now) layout.now.parts }
     requires own { BeginsWith (group_files layout.now group.now) bytes.now }
     ensures { OnOk result (parts.new ≡ group_parts layout.now group.now) }
 {

@@ -1,7 +1,8 @@
 //! Which bytes of an image have an owner.
-ghost use Rattle.std.specs.Prelude.{◌≡◌, ◌≤◌, ◌&&◌, ◌-◌, ◌^◌, ℕ, List, min, nat_le, nat_lt, length, slice_get};
+ghost use Rattle.std.specs.Prelude.{◌≡◌, ◌≤◌, not, ◌&&◌, ◌-◌, ◌^◌, ℕ, List, min, nat_le, nat_lt, length, slice_get};
 ghost use Rattle.std.specs.List.{flat_map, list_any};
 ghost use Rattle.wild_types.specs.FileThunks.{thunks_of};
+ghost use Rattle.wild_types.specs.Lookups.{is_hollow_part};
 ghost use Rattle.wild_layout.specs.Image.{offset_in, offset_of_part, is_within, part_owns, section_owns, thunk_owns, file_owns, group_owns, merged_bytes, front_owns, once_owns, is_owned};
 ghost use Rattle.wild_image.specs.Padding.{Marks};
 
@@ -59,12 +60,14 @@ fn mark_section(layout: &Layout, section: &InputSection, taken: &mut [bool])
     }
 }
 
-/// Marks what a thunk owns.
+/// Marks what a thunk owns: nothing where nothing of its section is written.
 fn mark_thunk(layout: &Layout, thunk: &Thunk, taken: &mut [bool])
     ensures { Marks (λ (k : ℕ). thunk_owns layout.now k thunk.now) taken.old taken.new }
 {
-    let at = offset_in(layout.parts.as_slice(), layout.primary_part, thunk.address);
-    mark(at, THUNK_SIZE, taken);
+    if !layout.is_hollow_part(layout.primary_part) {
+        let at = offset_in(layout.parts.as_slice(), layout.primary_part, thunk.address);
+        mark(at, THUNK_SIZE, taken);
+    }
 }
 
 /// Marks what a file's input sections own.
@@ -125,12 +128,14 @@ pub(crate) fn strings_size(strings: &[Bytes]) -> u64
     size
 }
 
-/// Marks what stands at the front of a part.
+/// Marks what stands at the front of a part, unless nothing of its section is written.
 fn mark_front(layout: &Layout, part: usize, size: u64, taken: &mut [bool])
-    ensures { Marks (is_within (offset_of_part (slice_get layout.now.parts part)) size) taken.old taken.new }
+    ensures { Marks (λ (k : ℕ). not (is_hollow_part layout.now part) && is_within (offset_of_part (slice_get layout.now.parts part)) size k) taken.old taken.new }
 {
-    let at = offset_of_part(layout.parts.as_slice(), part);
-    mark(at as u128, size, taken);
+    if !layout.is_hollow_part(part) {
+        let at = offset_of_part(layout.parts.as_slice(), part);
+        mark(at as u128, size, taken);
+    }
 }
 
 /// Marks what merged strings own.

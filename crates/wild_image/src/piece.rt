@@ -10,7 +10,7 @@ ghost use Rattle.wild_types.specs.declared.file.File.{File};
 ghost use Rattle.wild_types.specs.FileRoles.{is_prelude};
 ghost use Rattle.wild_layout.specs.SearchTable.{address_of_role};
 ghost use Rattle.wild_contents.specs.SearchTable.{IsTableFor};
-ghost use Rattle.wild_image.specs.Append.{GivesItsShares, FileLies, GroupStands};
+ghost use Rattle.wild_image.specs.Append.{GivesItsShares, HasRolesOnce, FileLies, GroupStands};
 ghost use Rattle.wild_image.specs.Pieces.{group_parts, group_pairs};
 ghost use Rattle.wild_image.specs.Jobs.{GivesPiece};
 ghost use Rattle.wild_contents.specs.Given.{NeedsFit};
@@ -50,6 +50,7 @@ fn piece_of<A: ShardedArch, R: Threads + Sync>(
     requires table { All (IsTableFor resolved.now.layout.now table.now) group.now.files }
     requires gives { GivesItsShares resolved.now.layout.now group.now }
     requires few { NeedsFit group.now }
+    requires once { HasRolesOnce resolved.now.layout.now }
     requires sections { (part : ℕ) → section_of resolved.now.layout.now part < 2 ^ 32 }
     ensures faults { Answers result (group_errors resolved.now.layout.now index group.now) }
     ensures parts { IfOk result (λ p. p.parts ≡ group_parts resolved.now.layout.now group.now) }

@@ -1,4 +1,4 @@
--- In a layout without faults each section that is read is decided, as it stands.
+-- In a layout without faults each section that is read and written is decided, as it stands.
 use Rattle.wild_geometry.proofs.ReadLemmas.{read_fields, read_written, read_plain}
 use Rattle.wild_laid.proofs.PlainLemmas.{unread_linked}
 use Rattle.wild_types.specs.Kinds.{is_partial_link}
@@ -20,6 +20,7 @@ use Rattle.wild_types.specs.declared.file.Group.{Group}
 use Rattle.wild_types.specs.declared.layout.Layout.{Layout}
 use Rattle.wild_types.specs.Item.{Item, item_of, block_for}
 use Rattle.wild_types.specs.FileRoles.{is_epilogue}
+use Rattle.wild_types.specs.Hollow.{is_dropped}
 use Rattle.wild_types.specs.Lookups.{is_read, is_counted, is_frame}
 use Rattle.wild_laid.specs.Turned.{as_turned, turned}
 use Rattle.wild_laid.specs.FrameInputs.{frames_of, kept_size}
@@ -82,16 +83,16 @@ item_decided l g f k s origins ending lies moves h =
       apart = sites_apart l s origins lies moves (no_overlap _ _ rest.1);
     }
 
--- a section that stands so is decided
-section_decided : (l : Layout) (g k i : ℕ) (f : File) (s t : InputSection) → is_read t ≡ true → SectionLies l t → MovesApart l (item_of l f t) (origins_of l f s) → stood_errors l g k f i s t ≡ [] → IsDecided l (item_of l f t)
-section_decided l g k i f s t reads lies moves h =
-    item_decided l g k i (item_of l f t) (origins_of l f s) (bad_frames l g k f i s) (subst (λ (n : ℕ). All (FieldLies l.machine n) t.relocations) (sym (lies.bytes (read_written t reads))) (lies.fields (read_fields t reads))) moves (rw (read_written t reads, read_plain t reads) at h)
+-- a section that stands so is decided, where it is written
+section_decided : (l : Layout) (g k i : ℕ) (f : File) (s t : InputSection) → is_read t ≡ true → is_dropped l t ≡ false → SectionLies l t → MovesApart l (item_of l f t) (origins_of l f s) → stood_errors l g k f i s t ≡ [] → IsDecided l (item_of l f t)
+section_decided l g k i f s t reads written lies moves h =
+    item_decided l g k i (item_of l f t) (origins_of l f s) (bad_frames l g k f i s) (subst (λ (n : ℕ). All (FieldLies l.machine n) t.relocations) (sym (lies.bytes (read_written t reads))) (lies.fields (read_fields t reads))) moves (rw (read_written t reads, written, read_plain t reads) at h)
 
 abbrev HasTheirWords : Layout → InputSection → Type 0
 HasTheirWords l s = is_counted s ≡ true → s.reversed ≡ true → HasWords l.machine s
 
 abbrev Decided : Layout → File → InputSection → Type 0
-Decided l f t = is_read t ≡ true → IsDecided l (item_of l f t)
+Decided l f t = is_read t ≡ true → is_dropped l t ≡ false → IsDecided l (item_of l f t)
 
 sections_of : (l : Layout) (g k : ℕ) (f : File) (at i : ℕ) (ss : List InputSection) → All (HasTheirWords l) ss → All (SectionLies l) (laid_sections l f at ss) → sections_errors l g k f at i ss ≡ [] → All (Decided l f) (laid_sections l f at ss)
 unfolding section_errors
@@ -101,7 +102,7 @@ sections_of l g k f at i (s ∷ ss) words lies none =
     let ts = laid_sections l f (behind at (kept_size l f s)) ss in
     let parts = nil_parts (section_errors l g k f at i s) (sections_errors l g k f (behind at (kept_size l f s)) (i + 1) ss) none in
     All-cons (Decided l f) t ts
-    (λ reads. section_decided l g k i f s t reads (All-head (SectionLies l) t ts lies) (laid_moves l f (block_for l f t) at s (All-head (HasTheirWords l) s ss words) reads) parts.0)
+    (λ reads written. section_decided l g k i f s t reads written (All-head (SectionLies l) t ts lies) (laid_moves l f (block_for l f t) at s (All-head (HasTheirWords l) s ss words) reads) parts.0)
     (sections_of l g k f (behind at (kept_size l f s)) (i + 1) ss (All-tail (HasTheirWords l) s ss words) (All-tail (SectionLies l) t ts lies) parts.1)
 
 -- ---- files
@@ -128,7 +129,7 @@ plain_origins true xs ys h = cc
 plain_origins false xs ys h = refl
 
 sorted_decided : (l : Layout) → is_partial_link l.kind ≡ false → IsLaidOut l → flat_map (sorted_errors l) l.sorted ≡ [] → (x : Input) → Contains (sorted_inputs l) x → SectionLies l (as_turned x.section) → Decided l x.file (as_turned x.section)
-sorted_decided l whole laid none x c lies = λ reads.
+sorted_decided l whole laid none x c lies = λ reads written.
     let y = Contains-from_flat_map (sorted_input l) l.sorted x c in
     let all = nothing_at (sorted_errors l) l.sorted y.0 y.1 none in
     let mine : stood_errors l y.0.group y.0.file x.file y.0.section x.section (as_turned x.section) ≡ [] = nothing_at (sorted_errors_of l y.0) (sorted_input l y.0) x y.2 all in
@@ -136,7 +137,7 @@ sorted_decided l whole laid none x c lies = λ reads.
     let words = All-contains (λ (z : Input). HasTheirWords l z.section) (sorted_inputs l) x (sorted_holds l (HasTheirWords l) (HasTheirWords l) laid.turned (as_loaded_words l whole)) c in
     let moves = turned_or_stays l (block_for l x.file (as_turned x.section)) x.section (λ r. words (turned_reads x.section loaded reads) r) in
     let origins : origins_of l x.file x.section ≡ x.section.relocations = no_frame x.section loaded in
-    section_decided l y.0.group y.0.file y.0.section x.file x.section (as_turned x.section) reads lies (subst (λ (rs : List InputRelocation). MovesApart l (item_of l x.file (as_turned x.section)) rs) (sym origins) moves) mine
+    section_decided l y.0.group y.0.file y.0.section x.file x.section (as_turned x.section) reads written lies (subst (λ (rs : List InputRelocation). MovesApart l (item_of l x.file (as_turned x.section)) rs) (sym origins) moves) mine
   where
     no_frame : (s : InputSection) → s.slot ≡ slot.Loaded → origins_of l x.file s ≡ s.relocations
     no_frame s e = plain_origins (is_frame s.slot) (kept_relocations (frames_of l x.file s)) (unread l s).relocations (ap is_frame e) ∙ ap (λ (t : InputSection). t.relocations) (unread_linked l s whole)
@@ -168,17 +169,17 @@ group_decided : (l : Layout) (i : ℕ) (g : Group) → is_partial_link l.kind �
 unfolding laid_files
 group_decided l i g whole laid words lies none = files_decided l i (frames_at l g) 0 g.files whole laid words lies (files_of_group l i g none)
 
--- each section that is read is decided, where no group has a fault
+-- each section that is read and written is decided, where no group has a fault
 pub sections_decided : (l : Layout) → is_partial_link l.kind ≡ false → IsLaidOut l → flat_map_from (group_errors l) 0 l.groups ≡ [] → EachDecided l
-sections_decided l whole laid none = λ s k reads.
+sections_decided l whole laid none = λ s k reads written.
     let e = nothing_from (group_errors l) 0 l.groups k.group k.grouped none in
     let words = All-contains (λ (g : Group). All (λ (f : File). All (HasTheirWords l) f.sections) g.files) l.groups k.group laid.turned k.grouped in
     let lies = All-contains (λ (g : Group). All (λ (f : File). All (SectionLies l) (processed l f)) (laid_files l g)) l.groups k.group laid.inputs k.grouped in
     let file = All-contains (FileDecided l) (laid_files l k.group) k.file (group_decided l e.0 k.group whole laid words lies e.1) k.filed in
-    of_file l k.file k.owner s file k.listed reads
+    of_file l k.file k.owner s file k.listed reads written
   where
-    of_file : (l : Layout) (f owner : File) (s : InputSection) → FileDecided l f → IsOf l f owner s → is_read s ≡ true → IsDecided l (item_of l owner s)
-    of_file l f owner s d (Own e c) reads = subst (λ (o : File). IsDecided l (item_of l o s)) (sym e) (All-contains (Decided l f) f.sections s d.own c reads)
-    of_file l f owner s d (Ordered last x c e i) reads =
-        let there = d.last last x c (subst (λ (t : InputSection). is_read t ≡ true) i reads) in
+    of_file : (l : Layout) (f owner : File) (s : InputSection) → FileDecided l f → IsOf l f owner s → is_read s ≡ true → is_dropped l s ≡ false → IsDecided l (item_of l owner s)
+    of_file l f owner s d (Own e c) reads written = subst (λ (o : File). IsDecided l (item_of l o s)) (sym e) (All-contains (Decided l f) f.sections s d.own c reads written)
+    of_file l f owner s d (Ordered last x c e i) reads written =
+        let there = d.last last x c (subst (λ (t : InputSection). is_read t ≡ true) i reads) (subst (λ (t : InputSection). is_dropped l t ≡ false) i written) in
         subst (λ (o : File). IsDecided l (item_of l o s)) (sym e) (subst (λ (t : InputSection). IsDecided l (item_of l x.file t)) (sym i) there)

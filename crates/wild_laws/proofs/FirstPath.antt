@@ -1,19 +1,23 @@
 -- The meaning of all layouts gives what is told by fields, calls and jumps, and other bytes.
-use Rattle.std.proofs.Common.{◌≡◌, inl, inr, refl, sym, ◌∙◌, subst}
-use Rattle.std.specs.Prelude.{Some, Contains}
+use Rattle.std.proofs.Common.{◌≡◌, true, false, inl, inr, refl, sym, ◌∙◌, subst}
+use Rattle.std.specs.Prelude.{Option, Some, Contains, slice_get}
 use Rattle.wild_types.specs.declared.kind.Machine.{Machine}
 use Rattle.wild_types.specs.declared.kind.Machine.TheVariants as machine
 use Rattle.wild_types.specs.declared.input.InputRelocation.{InputRelocation}
 use Rattle.wild_types.specs.declared.input.InputSection.{InputSection}
 use Rattle.wild_types.specs.declared.layout.Layout.{Layout}
+use Rattle.wild_types.specs.declared.part.Part.{Part}
+use Rattle.wild_types.specs.Lookups.{section_of_part, is_hollow_at, is_hollow_part}
 use Rattle.wild_reloc.specs.Formula.{Formula}
 use Rattle.wild_loader.specs.declared.memory.Memory.{Memory}
 use Rattle.wild_loader.specs.declared.world.World.{World}
 use Rattle.wild_types.specs.Item.{Item}
 use Rattle.wild_meaning.specs.Item.{IsLoadedSlot, IsKept, OfSection, stood_item}
+use Rattle.wild_meaning.specs.Section.{IsHollow}
 use Rattle.wild_meaning.specs.Field.{formula_of}
 use Rattle.wild_meaning.specs.Reference.{ReferenceHolds, ItemHolds}
 use Rattle.wild_meaning.proofs.BitLemmas.{bit_alloc}
+use Rattle.wild_geometry.proofs.HollowLemmas.{test_from_IsHollow}
 use Rattle.wild_laws.specs.FirstTypes.{IsLoadedSection, IsRelocated, address_types, HasFirstTypes, IsCall, IsJump, IsBranchField, IsSlotCall, IsSlotJump, IsThreadCall, GivesThreadAddress}
 use Rattle.wild_laws.specs.FirstPath.{IsFollowed, HoldsByForms, HoldsByFields, HasValueOf, HasInstruction, DoesInstruction, MeaningGivesForms, MeaningGivesFields}
 use Rattle.wild_laws.proofs.Readers.{does_so}
@@ -25,9 +29,17 @@ use Rattle.wild_laws.proofs.SlotsX86_64.{slot_call_goes, slot_jump_goes}
 use Rattle.wild_laws.proofs.BranchesAArch64.{call_goes, jump_goes}
 use Rattle.wild_laws.proofs.FieldsAArch64.{number_has, word_byte}
 
+-- nothing of a section that is written stands in a part that is not
+section_written : (l : Layout) (s : InputSection) (p : Part) → is_hollow_part l s.part ≡ false → slice_get l.parts s.part ≡ Some p → IsHollow l p → ⊥
+section_written l s p written e hollow =
+    let t = test_from_IsHollow l p hollow in
+    let f : is_hollow_at l p.section ≡ false = subst (λ (o : Option Part). is_hollow_at l (section_of_part o) ≡ false) e written in
+    let both : true ≡ false = sym t ∙ f in
+    cc
+
 -- such a section is kept
-kept : (l : Layout) (s : InputSection) (k : IsLoadedSection l s) → IsKept l (stood_item l k.file s)
-kept l s h = OfSection s (record { input = record { group = h.group; grouped = h.grouped; file = h.file; filed = h.filed; listed = h.listed }; loaded = subst IsLoadedSlot (sym h.loaded) tt; room = bit_alloc s.flags h.carried; has_data = h.has_data }) refl
+pub kept : (l : Layout) (s : InputSection) (k : IsLoadedSection l s) → IsKept l (stood_item l k.file s)
+kept l s h = OfSection s (record { input = record { group = h.group; grouped = h.grouped; file = h.file; filed = h.filed; listed = h.listed }; loaded = subst IsLoadedSlot (sym h.loaded) tt; room = bit_alloc s.flags h.carried; has_data = h.has_data; written = λ p e hollow. section_written l s p h.written e hollow }) refl
 
 -- ---- every type
 
@@ -44,9 +56,9 @@ does_instruction l w m s r i (inr q) = record { of = record { start = q.start; i
 
 -- ---- the whole
 
--- each reference that is asked holds
+-- each reference that is asked and not left out holds
 each_holds : (l : Layout) (w : World) (m : Memory) (s : Item) (r : InputRelocation) → ItemHolds l w m s → IsRelocated s r → IsFollowed l w s r → ReferenceHolds l w m s r
-each_holds l w m s r all one follows = all.references r (record { listed = one.listed; refers = one.refers }) follows.0 follows.1
+each_holds l w m s r all one follows = all.references r (record { listed = one.listed; refers = one.refers }) follows.2 follows.0 follows.1
 
 item_forms : (l : Layout) (w : World) (m : Memory) (s : Item) → ItemHolds l w m s → HoldsByForms l w m s
 item_forms l w m s all = record {

@@ -3,6 +3,7 @@ use Rattle.wild_meaning.proofs.OutputLemmas.{not_partial}
 use Rattle.std.proofs.Common.{◌≡◌, [], sym, ◌∙◌, subst}
 use Rattle.std.specs.Prelude.{Ok}
 use Rattle.wild_types.specs.declared.layout.Layout.{Layout}
+use Rattle.wild_types.specs.Hollow.{KeepsAll}
 use Rattle.wild_types.specs.ResolvedFlags.{HaveTheirFlags}
 use Rattle.wild_layout.specs.Faults.{errors}
 use Rattle.wild_layout.specs.Geometry.{IsLaidOut, LayoutsAreLaidOut}
@@ -22,27 +23,27 @@ use Rattle.wild_references.specs.Thunks.{EachThunkGoesOn, ThunksGoOn}
 use Rattle.wild_laws.specs.Laws.{StubsOfImagesGoOn, ThunksOfImagesGoOn}
 use Rattle.wild_laws.proofs.Decided.{sections_decided}
 
--- what the loader makes of the image
+-- what the loader makes of the image, where all is written
 record IsImage (l : Layout) (w : World) (m : Memory) : Type 0 where
   laid : IsLaidOut l
   loaded : HasMemory l w
   same : loaded.memory ≡ m
 
-image : LayoutsAreLaidOut → SlotsAreThere → ImagesAreLoaded → (l : Layout) (w : World) (m : Memory) → NumbersFit l → HaveTheirFlags l → errors l ≡ [] → IsLoadable l.kind → IsLegal l w → load w (bytes l) ≡ Ok m → IsImage l w m
-image layouts there loaded l w m numbers flags none loads legal accepted =
+image : LayoutsAreLaidOut → SlotsAreThere → ImagesAreLoaded → (l : Layout) (w : World) (m : Memory) → KeepsAll l → NumbersFit l → HaveTheirFlags l → errors l ≡ [] → IsLoadable l.kind → IsLegal l w → load w (bytes l) ≡ Ok m → IsImage l w m
+image layouts there loaded l w m keeps numbers flags none loads legal accepted =
     let laid = laid_out layouts l none in
     let groups = no_group_errors l none in
-    let h = loaded l w loads numbers legal laid (sections_decided l (not_partial l.kind loads) laid groups) (there l flags laid groups) groups in
+    let h = loaded l w keeps loads numbers legal laid (sections_decided l (not_partial l.kind loads) laid groups) (there l keeps flags laid groups) groups in
     let both : Ok h.memory ≡ Ok m = sym h.accepted ∙ accepted in
     let same : h.memory ≡ m = cc in
     record { laid = laid; loaded = h; same = same }
 
 pub images_stubs : LayoutsAreLaidOut → SlotsAreThere → ImagesAreLoaded → OutputsMoveByPages → StubsGoOn → StubsOfImagesGoOn
-images_stubs layouts there loaded pages go = λ l w m numbers flags none loads legal accepted.
-    let i = image layouts there loaded l w m numbers flags none loads legal accepted in
+images_stubs layouts there loaded pages go = λ l w m keeps numbers flags none loads legal accepted.
+    let i = image layouts there loaded l w m keeps numbers flags none loads legal accepted in
     subst (λ (n : Memory). EachStubGoesOn l w n) i.same (go l w i.loaded.memory (pages l w numbers legal i.laid) i.loaded.machine flags i.laid.slot_flags i.loaded.slots)
 
 pub images_thunks : LayoutsAreLaidOut → SlotsAreThere → ImagesAreLoaded → OutputsMoveByPages → ThunksGoOn → ThunksOfImagesGoOn
-images_thunks layouts there loaded pages go = λ l w m numbers flags none loads legal accepted.
-    let i = image layouts there loaded l w m numbers flags none loads legal accepted in
+images_thunks layouts there loaded pages go = λ l w m keeps numbers flags none loads legal accepted.
+    let i = image layouts there loaded l w m keeps numbers flags none loads legal accepted in
     subst (λ (n : Memory). EachThunkGoesOn l w n) i.same (go l w i.loaded.memory (pages l w numbers legal i.laid) i.loaded.machine i.laid i.loaded.thunks)

@@ -4,7 +4,7 @@
 --   BranchReaches ..       a direct call or jump goes to what stands for its symbol
 --   SlotBranchReaches ..   one through a slot goes to what comes to its symbol
 --   HasFormula ..          the field in memory is the formula's
---   IsFollowed ..          a reference is asked in the world, and not of the output's own symbol alone
+--   IsFollowed ..          a reference is asked in the world, of the image, and not of the output's own symbol alone
 --   HoldsByForms ..        what the judge has for every type
 --   HoldsByFields ..       what these say of an input section; of other types by their forms
 --   NamesAreAddresses      what this says of symbols that no resolver answers for
@@ -34,7 +34,7 @@ use Rattle.wild_meaning.specs.Template.{counts_from, effect_of, reads, IsTemplat
 use Rattle.wild_types.specs.Item.{Item}
 use Rattle.wild_meaning.specs.Item.{stood_item}
 use Rattle.wild_meaning.specs.Strings.{NamesStrings, IsString}
-use Rattle.wild_meaning.specs.Reference.{IsAsked, IsLinkedAlone}
+use Rattle.wild_meaning.specs.Reference.{IsAsked, IsLinkedAlone, IsLeftOut}
 use Rattle.wild_meaning.specs.Linked.{IsLinked}
 use Rattle.wild_laws.specs.FirstTypes.{IsLoadedSection, IsRelocated, address_types, HasFirstTypes, address_at, IsCall, IsJump, IsBranchField, IsSlotCall, IsSlotJump, GivesThreadAddress}
 
@@ -132,13 +132,14 @@ pub record HasFormula (l : Layout) (w : World) (m : Memory) (s : Item) (r : Inpu
   pub demanded : Demands formula.value target r.addend (address_at w s r.offset) value
   pub field : HasField m formula.form (address_at w s r.offset) value
 
--- the reference is asked in the world, and whichever module has the relocation's symbol, it is not to the output's own alone
+-- the reference is asked in the world, and whichever module has the relocation's symbol, it is not to the output's own alone; the image has
+-- what it goes by
 abbrev pub IsFollowed : Layout → World → Item → InputRelocation → Type 0
-IsFollowed l w s r = IsAsked l w s r × (IsLinkedAlone l s r → ⊥)
+IsFollowed l w s r = IsAsked l w s r × (IsLinkedAlone l s r → ⊥) × (IsLeftOut l s r → ⊥)
 
--- each reference of the item is asked, one to the output's own symbol alone at base 0
+-- each reference of the item is asked, one to the output's own symbol alone at base 0, and the image has what it goes by
 abbrev pub EachIsAsked : Layout → World → Item → Type 0
-EachIsAsked l w s = (r : InputRelocation) → IsRelocated s r → IsAsked l w s r × (IsLinkedAlone l s r → w.base ≡ 0)
+EachIsAsked l w s = (r : InputRelocation) → IsRelocated s r → IsAsked l w s r × (IsLinkedAlone l s r → w.base ≡ 0) × (IsLeftOut l s r → ⊥)
 
 -- the field reads as the judge's formula of the relocation's type, whichever that is
 pub record HasValueOf (l : Layout) (w : World) (m : Memory) (s : Item) (r : InputRelocation) (f : Formula) : Type 0 where

@@ -1,5 +1,5 @@
 -- Of which references of an item an image's fields, calls and jumps are told: by the relocation types, and by the input's bytes.
---   IsLoadedSection l s    an input section with data is loaded and allocated
+--   IsLoadedSection l s    an input section with data is loaded, allocated and written
 --   IsRelocated s r        a relocation of an item other than R_X86_64_NONE and R_AARCH64_NONE, which are 0
 --   address_types m        the types of addresses and distances
 --   HasFirstTypes m s      no relocation of the item has an instruction with bytes of its own, but direct calls and jumps
@@ -19,12 +19,12 @@ use Rattle.wild_types.specs.declared.file.File.{File}
 use Rattle.wild_types.specs.declared.file.Group.{Group}
 use Rattle.wild_types.specs.declared.layout.Layout.{Layout}
 use Rattle.wild_types.specs.Item.{Item}
-use Rattle.wild_types.specs.Lookups.{allocated, executable}
+use Rattle.wild_types.specs.Lookups.{allocated, executable, is_hollow_part}
 use Rattle.wild_loader.specs.declared.world.World.{World}
 use Rattle.wild_meaning.specs.Field.{InNoField}
 use Rattle.wild_meaning.specs.Partners.{NamesGetter}
 
--- an input section of the layout that is loaded, allocated and has data
+-- an input section of the layout that is loaded, allocated, has data and is written
 pub record IsLoadedSection (l : Layout) (s : InputSection) : Type 0 where
   pub group : Group
   pub grouped : Contains l.groups group
@@ -34,6 +34,7 @@ pub record IsLoadedSection (l : Layout) (s : InputSection) : Type 0 where
   pub loaded : s.slot ≡ slot.Loaded
   pub carried : allocated s.flags ≡ true
   pub has_data : s.nobits ≡ false
+  pub written : is_hollow_part l s.part ≡ false
 
 -- a relocation of the item other than R_X86_64_NONE and R_AARCH64_NONE
 pub record IsRelocated (s : Item) (r : InputRelocation) : Type 0 where

@@ -1,5 +1,5 @@
 -- What holds where there are no faults.
-use Rattle.std.proofs.Common.{◌≡◌, ℕ, ◌+◌, List, [], ◌∷◌, ◌++◌, Option, Some, None, Result, Ok, Err, refl}
+use Rattle.std.proofs.Common.{◌≡◌, ℕ, ◌+◌, Bool, true, false, if◌then◌else◌, List, [], ◌∷◌, ◌++◌, Option, Some, None, Result, Ok, Err, refl}
 use Rattle.std.specs.Prelude.{All}
 use Rattle.std.specs.List.{flat_map}
 use Rattle.std.proofs.lemmas.List.Elements.{All-nil, All-cons}
@@ -16,13 +16,16 @@ use Rattle.wild_types.specs.declared.layout.Layout.{Layout}
 use Rattle.wild_types.specs.declared.layout.Thunk.{Thunk}
 use Rattle.wild_types.specs.FileSymbols.{copies_of, own_symbols}
 use Rattle.wild_types.specs.FileThunks.{thunks_of}
+use Rattle.wild_types.specs.Hollow.{is_hollow_role, KeepsAll}
+use Rattle.wild_types.specs.Lookups.{is_hollow_part}
+use Rattle.wild_types.proofs.LookupLemmas.{not_hollow_role, not_hollow_part}
 use Rattle.wild_slot.specs.SymbolWords.{slots_of}
 use Rattle.wild_clauses.specs.WellFormed.{first_clause}
 use Rattle.wild_laid.specs.Laid.{file_frames, frames_at, behind, of_last_file}
 use Rattle.wild_layout.specs.SymbolValues.{raw_address}
 use Rattle.wild_layout.specs.SlotValues.{index_of}
 use Rattle.wild_layout.specs.Thunks.{thunk_fault}
-use Rattle.wild_layout.specs.Faults.{flat_map_from, clause_errors, overlap_errors, sections_errors, sorted_errors, first_errors, files_errors, at_file, slot_refusal, symbol_errors, slot_errors, copy_fault, fault_errors, copy_errors, thunk_error, thunk_errors, entry_errors, file_errors, listed_errors, table_errors, group_errors, errors, part_errors}
+use Rattle.wild_layout.specs.Faults.{flat_map_from, clause_errors, overlap_errors, sections_errors, sorted_errors, first_errors, files_errors, at_file, slot_refusal, slot_role, symbol_errors, slot_errors, copy_fault, fault_errors, copy_errors, thunk_error, thunk_errors, entry_errors, file_errors, listed_errors, table_errors, group_errors, errors, part_errors}
 use Rattle.wild_layout.specs.Geometry.{IsLaidOut, LayoutsAreLaidOut}
 
 pub clause_holds : (r : Result (Unit {0}) Clause) → clause_errors r ≡ [] → r ≡ Ok tt
@@ -42,6 +45,11 @@ first_empty (x ∷ xs) ys h = cc
 pub rest_empty : {X : Type 0} (xs ys : List X) → xs ++ ys ≡ [] → ys ≡ []
 rest_empty [] ys h = h
 rest_empty (x ∷ xs) ys h = cc
+
+-- what is written has its faults
+of_written : {X : Type 0} (b : Bool) (xs : List X) → b ≡ false → (if b then [] else xs) ≡ [] → xs ≡ []
+of_written true xs n h = cc
+of_written false xs n h = h
 
 -- what holds of each item, where what it gives is empty, holds of all
 pub All-from_none : {X Y : Type 0} (P : X → Type 0) (f : ℕ → X → List Y) (i : ℕ) (xs : List X) → ((k : ℕ) (x : X) → f k x ≡ [] → P x) → flat_map_from f i xs ≡ [] → All P xs
@@ -85,10 +93,10 @@ behind_entries l g at k f h = rest_empty (entry_errors l g k f) (thunk_errors l 
 pub first_of_file : (l : Layout) (g at k : ℕ) (f : File) → file_errors l g at k f ≡ [] → first_errors l g k f ≡ []
 first_of_file l g at k f h = rest_empty (thunk_errors l g k f) (first_errors l g k f) (behind_entries l g at k f h)
 
-pub slots_of_file : (l : Layout) (g at k : ℕ) (f : File) → file_errors l g at k f ≡ [] → All (HasWholeSlots l) (own_symbols l f)
+pub slots_of_file : (l : Layout) (g at k : ℕ) (f : File) → KeepsAll l → file_errors l g at k f ≡ [] → All (HasWholeSlots l) (own_symbols l f)
 unfolding slot_errors
-slots_of_file l g at k f h =
-    All-from_none (HasWholeSlots l) (symbol_errors l g k) f.first_symbol (own_symbols l f) (λ i s e. no_refusal (at_file g k) i (slots_of l s).fault e) (rest_empty (flat_map (copy_errors l g k) (copies_of f)) (slot_errors l g k f) (entries_of_file l g at k f h))
+slots_of_file l g at k f keeps h =
+    All-from_none (HasWholeSlots l) (symbol_errors l g k) f.first_symbol (own_symbols l f) (λ i s e. no_refusal (at_file g k) i (slots_of l s).fault (of_written (is_hollow_role l (slot_role l s)) (slot_refusal (at_file g k) i (slots_of l s).fault) (not_hollow_role l (slot_role l s) keeps) e)) (rest_empty (flat_map (copy_errors l g k) (copies_of f)) (slot_errors l g k f) (entries_of_file l g at k f h))
 
 -- the faults of the files of a group
 pub files_of_group : (l : Layout) (i : ℕ) (g : Group) → group_errors l i g ≡ [] → files_errors l i (frames_at l g) 0 g.files ≡ []
@@ -106,9 +114,9 @@ All-files l P i at k (f ∷ fs) each h =
 pub of_files : (l : Layout) (P : File → Type 0) → ((i at k : ℕ) (f : File) → file_errors l i at k f ≡ [] → P f) → flat_map_from (group_errors l) 0 l.groups ≡ [] → All (λ (g : Group). All P g.files) l.groups
 of_files l P each h = All-from_none (λ (g : Group). All P g.files) (group_errors l) 0 l.groups (λ i g e. All-files l P i (frames_at l g) 0 g.files (λ at k f n. each i at k f n) (files_of_group l i g e)) h
 
--- each file writes all of its symbols' slots
-pub slots_of_groups : (l : Layout) → flat_map_from (group_errors l) 0 l.groups ≡ [] → All (λ (g : Group). All (λ (f : File). All (HasWholeSlots l) (own_symbols l f)) g.files) l.groups
-slots_of_groups l h = of_files l (λ (f : File). All (HasWholeSlots l) (own_symbols l f)) (λ i at k f n. slots_of_file l i at k f n) h
+-- where all is written, each file writes all of its symbols' slots
+pub slots_of_groups : (l : Layout) → KeepsAll l → flat_map_from (group_errors l) 0 l.groups ≡ [] → All (λ (g : Group). All (λ (f : File). All (HasWholeSlots l) (own_symbols l f)) g.files) l.groups
+slots_of_groups l keeps h = of_files l (λ (f : File). All (HasWholeSlots l) (own_symbols l f)) (λ i at k f n. slots_of_file l i at k f keeps n) h
 
 -- ---- copies
 
@@ -133,13 +141,14 @@ copies_of_groups l h = of_files l (λ (f : File). All (CanBeCopied l) (copies_of
 abbrev pub CanGoOn : Layout → Thunk → Type 0
 CanGoOn l t = thunk_fault l t ≡ None
 
-pub thunks_of_file : (l : Layout) (g at k : ℕ) (f : File) → file_errors l g at k f ≡ [] → All (CanGoOn l) (thunks_of l f)
+pub thunks_of_file : (l : Layout) (g at k : ℕ) (f : File) → KeepsAll l → file_errors l g at k f ≡ [] → All (CanGoOn l) (thunks_of l f)
 unfolding thunk_errors
-thunks_of_file l g at k f h =
-    All-from_nothing (CanGoOn l) (thunk_error l (at_file g k)) (thunks_of l f) (λ t e. no_fault (at_file g k) (thunk_fault l t) e) (first_empty (thunk_errors l g k f) (first_errors l g k f) (behind_entries l g at k f h))
+thunks_of_file l g at k f keeps h =
+    let none = first_empty (thunk_errors l g k f) (first_errors l g k f) (behind_entries l g at k f h) in
+    All-from_nothing (CanGoOn l) (thunk_error l (at_file g k)) (thunks_of l f) (λ t e. no_fault (at_file g k) (thunk_fault l t) e) (of_written (is_hollow_part l l.primary_part) (flat_map (thunk_error l (at_file g k)) (thunks_of l f)) (not_hollow_part l l.primary_part keeps) none)
 
-pub thunks_of_groups : (l : Layout) → flat_map_from (group_errors l) 0 l.groups ≡ [] → All (λ (g : Group). All (λ (f : File). All (CanGoOn l) (thunks_of l f)) g.files) l.groups
-thunks_of_groups l h = of_files l (λ (f : File). All (CanGoOn l) (thunks_of l f)) (λ i at k f n. thunks_of_file l i at k f n) h
+pub thunks_of_groups : (l : Layout) → KeepsAll l → flat_map_from (group_errors l) 0 l.groups ≡ [] → All (λ (g : Group). All (λ (f : File). All (CanGoOn l) (thunks_of l f)) g.files) l.groups
+thunks_of_groups l keeps h = of_files l (λ (f : File). All (CanGoOn l) (thunks_of l f)) (λ i at k f n. thunks_of_file l i at k f keeps n) h
 
 -- no group has an error where the layout has none
 pub no_group_errors : (l : Layout) → errors l ≡ [] → flat_map_from (group_errors l) 0 l.groups ≡ []

@@ -18,4 +18,4 @@ definitions_fit l h =
 
 pub length-padding : (l : Layout) → length (padding l) ≡ image_size l
 unfolding padding
-length-padding l = length-map-range_with_len (padding_byte l.machine (λ k. not (is_owned l k)) (drop 1 l.sections)) 0 (image_size l)
+length-padding l = length-map-range_with_len (padding_byte l (λ k. not (is_owned l k)) (drop 1 l.sections)) 0 (image_size l)

@@ -36,6 +36,7 @@ use Rattle.wild_layout.specs.Left.{file_generals}
 use Rattle.wild_types.specs.declared.input.InputSection.{InputSection}
 use Rattle.wild_types.specs.Item.{item_of}
 use Rattle.wild_types.specs.Lookups.{is_frame}
+use Rattle.wild_frames.specs.Frames.{terminator}
 use Rattle.wild_laid.specs.Laid.{laid_files, of_last_file}
 use Rattle.wild_layout.specs.Sites.{item_bytes}
 use Rattle.wild_layout.specs.Notes.{build_id_note, property_note}
@@ -86,7 +87,7 @@ frame_bytes_of l f s = if is_frame s.slot then item_bytes l (item_of l f s) else
 
 -- a length of zero, which ends the frames of the output (LSB, "The .eh_frame section")
 abbrev pub end_of_frames : Layout → List ℕ
-end_of_frames l = if l.options.terminator then 0 ∷ 0 ∷ 0 ∷ 0 ∷ [] else []
+end_of_frames l = if l.options.terminator then terminator else []
 
 -- the frames of a file whose sections are as they stand, and behind those of the last file what ends them
 unfoldable pub frames_bytes : Layout → File → List ℕ

@@ -19,9 +19,10 @@ use Rattle.wild_types.specs.declared.section.Segment.{Segment}
 use Rattle.wild_types.specs.declared.input.InputSection.{InputSection}
 use Rattle.wild_types.specs.declared.layout.Layout.{Layout}
 use Rattle.wild_types.specs.Kinds.{is_partial_link, needs_dynamic, is_fixed_static}
-use Rattle.wild_types.specs.Lookups.{allocated, image_size, is_loaded, is_filled}
+use Rattle.wild_types.specs.Lookups.{allocated, image_size, is_loaded, is_filled, is_hollow, is_hollow_at}
 use Rattle.wild_types.specs.Lists.{total}
 use Rattle.wild_types.specs.Parts.{is_loaded_role, part_with, is_table_role, is_look_up_role, has_hashes, is_entry_role, entry_parts, bytes_in}
+use Rattle.wild_clauses.specs.Segments.{size_in_file}
 use Rattle.wild_layout.specs.Image.{offset_in}
 
 -- the segment carries the byte at that offset of the file to that address
@@ -52,9 +53,9 @@ pub record IsPartCarried (l : Layout) (p : Part) (k : ℕ) (h : Segment) : Type 
   pub to : p.address + k < h.address + h.file_size
   pub distance : p.offset + k ≡ h.offset + (p.address + k - h.address)
 
--- each byte is loaded of a part that a loader or the program reads, except in relocatable objects
+-- each byte is loaded of a part that a loader or the program reads, unless nothing of its section is written, and except in relocatable objects
 abbrev pub IsPartMapped : Layout → Part → Type 0
-IsPartMapped l p = is_partial_link l.kind ≡ false → is_loaded_role p.role ≡ true → (k : ℕ) → k < p.size → (h : Segment) × IsPartCarried l p k h
+IsPartMapped l p = is_partial_link l.kind ≡ false → is_loaded_role p.role ≡ true → is_hollow_at l p.section ≡ false → (k : ℕ) → k < p.size → (h : Segment) × IsPartCarried l p k h
 
 -- one loaded segment
 pub record SegmentLoads (size : ℕ) (h : Segment) : Type 0 where
@@ -76,7 +77,7 @@ pub record HasSegment (l : Layout) (p : Part) : Type 0 where
   pub first : first_dynamic l.segments ≡ Some segment
   pub offset : segment.offset ≡ p.offset
   pub address : segment.address ≡ p.address
-  pub file_size : segment.file_size ≡ p.size
+  pub file_size : segment.file_size ≡ size_in_file l p
   pub mem_size : segment.mem_size ≡ p.size
 
 -- the file bytes of one loaded segment have the part at its addresses
@@ -112,7 +113,7 @@ pub record EntriesLie (p : Part) (s : Section) : Type 0 where
 -- the section with header index k has the bytes of the parts with entries that stand in it, and where it is an allocated one of
 -- type SHT_RELA no others
 pub record HasEntriesAlone (l : Layout) (k : ℕ) (s : Section) : Type 0 where
-  pub own : (r : Role) (p : Part) → is_entry_role r ≡ true → part_with r l.parts ≡ Some p → p.section ≡ k → EntriesLie p s
+  pub own : is_hollow l s ≡ false → (r : Role) (p : Part) → is_entry_role r ≡ true → part_with r l.parts ≡ Some p → p.section ≡ k → EntriesLie p s
   pub full : allocated s.flags ≡ true → s.kind ≡ sht_rela → total (bytes_in k) (entry_parts l.parts) ≡ s.size
 
 -- a loaded segment ends where a later one begins, or before
@@ -134,7 +135,7 @@ pub record IsLoadable (l : Layout) : Type 0 where
   pub fixed : is_fixed_static l.kind ≡ true → part_with role.Dynamic l.parts ≡ None
   pub entries : is_fixed_static l.kind ≡ true → (k : ℕ) (s : Section) → 1 ≤ k → slice_get l.sections k ≡ Some s → HasEntriesAlone l k s
   pub stands : is_fixed_static l.kind ≡ true → (r : Role) (p : Part) → is_entry_role r ≡ true → part_with r l.parts ≡ Some p → 1 ≤ p.section
-  pub tables : needs_dynamic l.kind ≡ true → (r : Role) (p : Part) → is_table_role r ≡ true → part_with r l.parts ≡ Some p → 1 ≤ p.size → IsCarriedWhole l p
-  pub look_ups : needs_dynamic l.kind ≡ true → has_hashes l ≡ true → (r : Role) (p : Part) → is_look_up_role r ≡ true → part_with r l.parts ≡ Some p → 1 ≤ p.size → IsCarriedWhole l p
+  pub tables : needs_dynamic l.kind ≡ true → (r : Role) (p : Part) → is_table_role r ≡ true → part_with r l.parts ≡ Some p → is_hollow_at l p.section ≡ false → 1 ≤ p.size → IsCarriedWhole l p
+  pub look_ups : needs_dynamic l.kind ≡ true → has_hashes l ≡ true → (r : Role) (p : Part) → is_look_up_role r ≡ true → part_with r l.parts ≡ Some p → is_hollow_at l p.section ≡ false → 1 ≤ p.size → IsCarriedWhole l p
   pub behind : (p q : Part) → part_with role.RelaDynRelative l.parts ≡ Some p → part_with role.RelaDynGeneral l.parts ≡ Some q → BeginsBehind p q
-  pub together : needs_dynamic l.kind ≡ true → (p q : Part) → part_with role.RelaDynRelative l.parts ≡ Some p → part_with role.RelaDynGeneral l.parts ≡ Some q → 1 ≤ p.size → 1 ≤ q.size → AreCarriedTogether l p q
+  pub together : needs_dynamic l.kind ≡ true → (p q : Part) → part_with role.RelaDynRelative l.parts ≡ Some p → part_with role.RelaDynGeneral l.parts ≡ Some q → is_hollow_at l p.section ≡ false → is_hollow_at l q.section ≡ false → 1 ≤ p.size → 1 ≤ q.size → AreCarriedTogether l p q

@@ -3,7 +3,7 @@
 --   layout_fdes l          the FDEs that are kept, in the order of the files, each with its address
 --   search_table l         the table, where the option asks for one
 --   search_table_faults l  what is too far from it
-use Rattle.std.specs.Prelude.{ℕ, if◌then◌else◌, List, [], ◌∷◌, ◌++◌, map}
+use Rattle.std.specs.Prelude.{ℕ, not, ◌&&◌, if◌then◌else◌, List, [], ◌∷◌, ◌++◌, map}
 use Rattle.std.specs.List.{flat_map}
 use Rattle.wild_types.specs.declared.fault.Fault.{Fault}
 use Rattle.wild_types.specs.declared.fault.Fault.TheVariants as faults
@@ -15,6 +15,7 @@ use Rattle.wild_types.specs.declared.file.File.{File}
 use Rattle.wild_types.specs.declared.file.Group.{Group}
 use Rattle.wild_types.specs.declared.layout.Layout.{Layout}
 use Rattle.wild_types.specs.Lookups.{is_frame}
+use Rattle.wild_types.specs.Hollow.{is_hollow_role}
 use Rattle.wild_types.specs.Parts.{part_with}
 use Rattle.wild_frames.specs.declared.entry.KeptEntry.{KeptEntry}
 use Rattle.wild_frames.specs.declared.table.Fde.{Fde}
@@ -68,6 +69,6 @@ abbrev pub fault_of : TableError → Fault
 fault_of (table_error.FrameOffsetOverflow v) = faults.FrameOffsetOverflow v
 fault_of table_error.OutOfMemory = faults.OutOfMemory
 
--- what is too far from it
+-- what is too far from it, where it is written
 unfoldable pub search_table_faults : Layout → List Fault
-search_table_faults l = if l.options.eh_frame_hdr then map fault_of (table_errors (address_of_role l role.EhFrameHdr) (address_of_role l role.EhFrame) (layout_fdes l)) else []
+search_table_faults l = if l.options.eh_frame_hdr && not (is_hollow_role l role.EhFrameHdr) then map fault_of (table_errors (address_of_role l role.EhFrameHdr) (address_of_role l role.EhFrame) (layout_fdes l)) else []

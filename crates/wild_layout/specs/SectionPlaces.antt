@@ -11,7 +11,7 @@ use Rattle.wild_types.specs.declared.input.InputRelocation.{InputRelocation}
 use Rattle.wild_types.specs.declared.input.InputSection.{InputSection}
 use Rattle.wild_types.specs.declared.file.Group.{Group}
 use Rattle.wild_types.specs.declared.layout.Layout.{Layout}
-use Rattle.wild_types.specs.Lookups.{image_size, is_filled, has_fields, is_written, takes_file_bytes}
+use Rattle.wild_types.specs.Lookups.{image_size, is_filled, has_fields, is_written, is_hollow_at, has_data, takes_file_bytes}
 use Rattle.wild_types.specs.declared.file.File.{File}
 use Rattle.wild_layout.specs.Sites.{section_bytes}
 use Rattle.wild_types.specs.Rows.{field_bytes}
@@ -67,20 +67,20 @@ pub record HasWords (m : Machine) (s : InputSection) : Type 0 where
   pub bytes : length s.bytes ≡ s.size
   pub fields : All (IsWord m s.size) s.relocations
 
--- bytes at the front of a raw part lie in it, and in the image
+-- bytes at the front of a raw part lie in it, and unless nothing of its section is written in the image
 pub record FrontLies (l : Layout) (k : ℕ) (bs : List ℕ) : Type 0 where
   pub part : Part
   pub listed : slice_get l.parts k ≡ Some part
   pub raw : part.role ≡ role.Raw
-  pub takes : 1 ≤ length bs → takes_file_bytes l part.section ≡ true
+  pub holds : 1 ≤ length bs → has_data l part.section ≡ true
   pub within : length bs ≤ part.size
-  pub ends : 1 ≤ length bs → part.offset + length bs ≤ image_size l
+  pub ends : 1 ≤ length bs → is_hollow_at l part.section ≡ false → part.offset + length bs ≤ image_size l
 
 -- the groups' shares of a part are its size; of one that is not raw each share is what the group gives to it, and
--- the part lies in the image
+-- unless nothing of its section is written the part lies in the image
 pub record PartLies (l : Layout) (i : ℕ) (p : Part) : Type 0 where
   pub low : p.offset + p.size ≤ 2 ^ 62
   pub address : p.address + p.size ≤ 2 ^ 62
   pub shares : total (given i) l.groups ≡ p.size
   pub tables : has_role role.Raw p ≡ false → All (λ (g : Group). length (content l p.role g) ≡ given i g) l.groups
-  pub ends : has_role role.Raw p ≡ false → 1 ≤ p.size → p.offset + p.size ≤ image_size l
+  pub ends : has_role role.Raw p ≡ false → is_hollow_at l p.section ≡ false → 1 ≤ p.size → p.offset + p.size ≤ image_size l

@@ -2,7 +2,7 @@
 --   table_bytes l r  all that the groups give to the part of a role
 --   IsPiece l at bs  bytes stand in the image from an offset on
 --   HasTable l r     the part of a role holds just that, in pieces one behind the other
-use Rattle.std.specs.Prelude.{◌≡◌, ℕ, ◌+◌, ◌<◌, ◌≤◌, [], length, take, Contains, slice_index_or, List, Some, None}
+use Rattle.std.specs.Prelude.{◌≡◌, false, ℕ, ◌+◌, ◌<◌, ◌≤◌, [], length, take, Contains, slice_index_or, List, Some, None}
 use Rattle.std.specs.List.{flat_map}
 use Rattle.wild_records.specs.FileHeader.{file_header_size}
 use Rattle.wild_types.specs.declared.part.Part.{Part}
@@ -10,7 +10,7 @@ use Rattle.wild_types.specs.declared.part.Role.{Role}
 use Rattle.wild_types.specs.declared.part.Role.TheVariants as role
 use Rattle.wild_types.specs.declared.file.Group.{Group}
 use Rattle.wild_types.specs.declared.layout.Layout.{Layout}
-use Rattle.wild_types.specs.Lookups.{image_size}
+use Rattle.wild_types.specs.Lookups.{image_size, is_hollow_at}
 use Rattle.wild_types.specs.Lists.{total}
 use Rattle.wild_types.specs.Parts.{part_with}
 use Rattle.wild_needs.specs.DynamicStrings.{needed_entries}
@@ -36,13 +36,14 @@ pub record IsPiece (l : Layout) (at : ℕ) (bs : List ℕ) : Type 0 where
 abbrev pub bytes_before : Layout → Role → ℕ → ℕ
 bytes_before l r group = total (λ (g : Group). length (content l r g)) (take group l.groups)
 
--- the part has that role, and holds just these bytes, each group's as a piece of the image behind the others'
+-- the part has that role, and holds just these bytes, unless nothing of its section is written each group's as a piece of the image behind
+-- the others'
 pub record TableLies (l : Layout) (r : Role) (p : Part) : Type 0 where
   pub listed : Contains l.parts p
   pub has : p.role ≡ r
   pub size : length (table_bytes l r) ≡ p.size
-  pub ends : 1 ≤ p.size → p.offset + p.size ≤ image_size l
-  pub pieces : (j : ℕ) (g : Group) → j < length l.groups → 1 ≤ length (content l r (slice_index_or l.groups j g))
+  pub ends : is_hollow_at l p.section ≡ false → 1 ≤ p.size → p.offset + p.size ≤ image_size l
+  pub pieces : is_hollow_at l p.section ≡ false → (j : ℕ) (g : Group) → j < length l.groups → 1 ≤ length (content l r (slice_index_or l.groups j g))
       → Contains (pieces l) (record { at = p.offset + bytes_before l r j; bytes = content l r (slice_index_or l.groups j g) })
 
 -- the same of the part of a role, where there is one; else there are no such bytes

@@ -14,7 +14,9 @@ use Rattle.wild_types.specs.declared.part.Role.TheVariants as role
 use Rattle.wild_slot.specs.declared.slot_parts.WordPart.TheVariants as words
 use Rattle.wild_types.specs.declared.input.InputSection.{InputSection}
 use Rattle.wild_types.specs.declared.layout.Layout.{Layout}
+use Rattle.wild_types.specs.Hollow.{KeepsAll}
 use Rattle.wild_types.specs.Parts.{is_loaded_role}
+use Rattle.wild_types.proofs.LookupLemmas.{not_hollow_role}
 use Rattle.wild_needs.specs.SlotShares.{word_size}
 use Rattle.wild_clauses.specs.SlotPlaces.{start_of}
 use Rattle.wild_layout.specs.Numbers.{NumbersFit}
@@ -69,6 +71,7 @@ pub record FilledLaws : Type 0 where
 
 -- what is known of a layout
 pub record IsFilledWell (l : Layout) (w : World) : Type 0 where
+  pub keeps : KeepsAll l
   pub kind : IsLoadable l.kind
   pub numbers : NumbersFit l
   pub legal : IsLegal l w
@@ -78,7 +81,7 @@ pub record IsFilledWell (l : Layout) (w : World) : Type 0 where
   pub none : flat_map_from (group_errors l) 0 l.groups ≡ []
 
 abbrev pub slots_of_well : (l : Layout) (w : World) → IsFilledWell l w → IsFilledSlots l w
-slots_of_well l w h = record { kind = h.kind; numbers = h.numbers; legal = h.legal; laid = h.laid; whole = h.whole }
+slots_of_well l w h = record { keeps = h.keeps; kind = h.kind; numbers = h.numbers; legal = h.legal; laid = h.laid; whole = h.whole }
 
 abbrev pub copies_of_well : (l : Layout) (w : World) → IsFilledWell l w → HasCopies l w
 copies_of_well l w h = record { kind = h.kind; numbers = h.numbers; legal = h.legal; laid = h.laid; none = h.none }
@@ -109,37 +112,37 @@ slot_tables l w laws h =
       block = in_table l role.GotRelr (start_of l role.GotRelr) (blocks_filled l) refl h.laid (omega arith) from (λ k d m. (let t = to k d m in let n = wide k d m in omega (arith, t, n))) (blocks_ascend (start_of l role.GotRelr) (end_of l role.GotRelr) (all_sites l) block);
     }
 
-pub got_apart : (l : Layout) → IsLaidOut l → HomesApart (role_home l role.Got) (role_home l role.GotRelr)
-got_apart l laid = roles_apart l role.Got role.GotRelr refl refl (λ e. cc) laid
+pub got_apart : (l : Layout) → KeepsAll l → IsLaidOut l → HomesApart (role_home l role.Got) (role_home l role.GotRelr)
+got_apart l keeps laid = roles_apart l role.Got role.GotRelr refl refl (λ e. cc) keeps laid
 
-tables_beside : (l : Layout) → IsLoadable l.kind → IsLaidOut l → SlotTables l → AllPairs AreBeside (slots_filled l ++ blocks_filled l)
-tables_beside l kind laid t =
+tables_beside : (l : Layout) → IsLoadable l.kind → KeepsAll l → IsLaidOut l → SlotTables l → AllPairs AreBeside (slots_filled l ++ blocks_filled l)
+tables_beside l kind keeps laid t =
     AllPairs-append AreBeside (slots_filled l) (blocks_filled l) t.got.beside t.block.beside
-    (λ k d m. (λ i e n. beside_across l (role_home l role.Got) (role_home l role.GotRelr) (get_or (slots_filled l) k d) (get_or (blocks_filled l) i e) kind laid (role_there l role.Got refl kind laid) (role_there l role.GotRelr refl kind laid) (got_apart l laid) (t.got.within k d m) (t.block.within i e n)))
+    (λ k d m. (λ i e n. beside_across l (role_home l role.Got) (role_home l role.GotRelr) (get_or (slots_filled l) k d) (get_or (blocks_filled l) i e) kind laid (role_there l role.Got refl (not_hollow_role l role.Got keeps) kind laid) (role_there l role.GotRelr refl (not_hollow_role l role.GotRelr keeps) kind laid) (got_apart l keeps laid) (t.got.within k d m) (t.block.within i e n)))
 
 -- ---- sections
 
 pub lies_of : (l : Layout) (s : InputSection) → IsLaidOut l → Contains (all_sections l) s → SectionLies l s
 lies_of l s laid c = each_at (SectionLies l) l s laid.inputs (input_of l s c)
 
-sections_beside : (l : Layout) (r : Role) (xs : List Filling) → is_loaded_role r ≡ true → (r ≡ role.EhFrame → ⊥) → IsLoadable l.kind → IsLaidOut l → HavePlaces l (section_fillings l) → InTable l r xs → All (λ (x : Filling). All (AreBeside x) xs) (sections_filled l)
-sections_beside l r xs loaded other kind laid h t =
+sections_beside : (l : Layout) (r : Role) (xs : List Filling) → is_loaded_role r ≡ true → (r ≡ role.EhFrame → ⊥) → IsLoadable l.kind → KeepsAll l → IsLaidOut l → HavePlaces l (section_fillings l) → InTable l r xs → All (λ (x : Filling). All (AreBeside x) xs) (sections_filled l)
+sections_beside l r xs loaded other kind keeps laid h t =
     All-flat_map (λ (x : Filling). All (AreBeside x) xs) (section_fillings l) (all_sections l) (λ i d m. (λ k e n. (λ p f q.
     let s = get_or (all_sections l) i d in
     let stored = h.stored i d m (not_empty _ k n) in
     let c : Contains (all_sections l) s = (i, m, get_or_default (all_sections l) i s d m) in
-    beside_across l (section_home l s) (role_home l r) (get_or (section_fillings l s) k e) (get_or xs p f) kind laid (stored_home l s stored) (role_there l r loaded kind laid) (homes_back (role_home l r) (section_home l s) (section_apart l r s loaded other laid c stored)) (h.within i d m k e n) (t.within p f q))))
+    beside_across l (section_home l s) (role_home l r) (get_or (section_fillings l s) k e) (get_or xs p f) kind laid (stored_home l s stored) (role_there l r loaded (not_hollow_role l r keeps) kind laid) (homes_back (role_home l r) (section_home l s) (section_apart l r s loaded other keeps laid c stored)) (h.within i d m k e n) (t.within p f q))))
 
 both_beside : (xs ys zs : List Filling) → All (λ (x : Filling). All (AreBeside x) ys) xs → All (λ (x : Filling). All (AreBeside x) zs) xs → All (λ (x : Filling). All (AreBeside x) (ys ++ zs)) xs
 both_beside xs ys zs h k = λ i d m. All-append (AreBeside (get_or xs i d)) ys zs (h i d m) (k i d m)
 
 -- those in file bytes lie beside each other
-stored_beside : (l : Layout) → IsLoadable l.kind → IsLaidOut l → HavePlaces l (section_fillings l) → SlotTables l → AllPairs AreBeside (stored_fillings l)
-stored_beside l kind laid h t =
+stored_beside : (l : Layout) → IsLoadable l.kind → KeepsAll l → IsLaidOut l → HavePlaces l (section_fillings l) → SlotTables l → AllPairs AreBeside (stored_fillings l)
+stored_beside l kind keeps laid h t =
     AllPairs-append AreBeside (sections_filled l) (slots_filled l ++ blocks_filled l)
-    (places_beside l (section_fillings l) kind laid h)
-    (tables_beside l kind laid t)
-    (both_beside (sections_filled l) (slots_filled l) (blocks_filled l) (sections_beside l role.Got (slots_filled l) refl (λ e. cc) kind laid h t.got) (sections_beside l role.GotRelr (blocks_filled l) refl (λ e. cc) kind laid h t.block))
+    (places_beside l (section_fillings l) kind keeps laid h)
+    (tables_beside l kind keeps laid t)
+    (both_beside (sections_filled l) (slots_filled l) (blocks_filled l) (sections_beside l role.Got (slots_filled l) refl (λ e. cc) kind keeps laid h t.got) (sections_beside l role.GotRelr (blocks_filled l) refl (λ e. cc) kind keeps laid h t.block))
 
 -- ---- copies
 
@@ -147,28 +150,28 @@ stored_beside l kind laid h t =
 behind_beside : (l : Layout) (x y : Filling) → (LiesBehind l y) → ((a : ℕ) → IsBehind l a → Misses a x) → AreBeside x y
 behind_beside l x y behind misses = λ k lt j less e. misses (y.entry.offset + j) (behind j less) k lt (sym e)
 
-table_behind : (l : Layout) (r : Role) (xs : List Filling) → is_loaded_role r ≡ true → IsLoadable l.kind → IsLaidOut l → InTable l r xs → All (λ (x : Filling). (a : ℕ) → IsBehind l a → Misses a x) xs
-table_behind l r xs loaded kind laid t = λ i d m. (λ a b. behind_misses l (role_home l r) a (get_or xs i d) kind laid (role_there l r loaded kind laid) (t.within i d m) b)
+table_behind : (l : Layout) (r : Role) (xs : List Filling) → is_loaded_role r ≡ true → IsLoadable l.kind → KeepsAll l → IsLaidOut l → InTable l r xs → All (λ (x : Filling). (a : ℕ) → IsBehind l a → Misses a x) xs
+table_behind l r xs loaded kind keeps laid t = λ i d m. (λ a b. behind_misses l (role_home l r) a (get_or xs i d) kind laid (role_there l r loaded (not_hollow_role l r keeps) kind laid) (t.within i d m) b)
 
 -- no filling in file bytes has a byte behind file bytes
-pub stored_misses : (l : Layout) → IsLoadable l.kind → IsLaidOut l → HavePlaces l (section_fillings l) → SlotTables l → All (λ (x : Filling). (a : ℕ) → IsBehind l a → Misses a x) (stored_fillings l)
-stored_misses l kind laid h t =
+pub stored_misses : (l : Layout) → IsLoadable l.kind → KeepsAll l → IsLaidOut l → HavePlaces l (section_fillings l) → SlotTables l → All (λ (x : Filling). (a : ℕ) → IsBehind l a → Misses a x) (stored_fillings l)
+stored_misses l kind keeps laid h t =
     let P : Filling → Type 0 = λ x. (a : ℕ) → IsBehind l a → Misses a x in
     All-append P (sections_filled l) (slots_filled l ++ blocks_filled l)
     (All-flat_map P (section_fillings l) (all_sections l) (λ i d m. (λ k e n. (λ a b. behind_misses l (section_home l (get_or (all_sections l) i d)) a (get_or (section_fillings l (get_or (all_sections l) i d)) k e) kind laid (stored_home l (get_or (all_sections l) i d) (h.stored i d m (not_empty _ k n))) (h.within i d m k e n) b))))
-    (All-append P (slots_filled l) (blocks_filled l) (table_behind l role.Got (slots_filled l) refl kind laid t.got) (table_behind l role.GotRelr (blocks_filled l) refl kind laid t.block))
+    (All-append P (slots_filled l) (blocks_filled l) (table_behind l role.Got (slots_filled l) refl kind keeps laid t.got) (table_behind l role.GotRelr (blocks_filled l) refl kind keeps laid t.block))
 
 -- ---- all of them
 
 pub all_beside : (l : Layout) (w : World) → FilledLaws → IsFilledWell l w → AllPairs AreBeside (all_fillings l w)
 all_beside l w laws h =
-    let have = have_places l laws.carried h.kind h.laid h.decided in
+    let have = have_places l laws.carried h.kind h.keeps h.laid h.decided in
     let t = slot_tables l w laws h in
     let c = copies_of_well l w h in
-    let misses = stored_misses l h.kind h.laid have t in
+    let misses = stored_misses l h.kind h.keeps h.laid have t in
     let behind = copies_behind l w laws.copies c in
     AllPairs-append AreBeside (stored_fillings l) (copies_filled l w)
-    (stored_beside l h.kind h.laid have t)
+    (stored_beside l h.kind h.keeps h.laid have t)
     (copies_beside l w laws.copies c)
     (λ i d m. (λ k e n. behind_beside l (get_or (stored_fillings l) i d) (get_or (copies_filled l w) k e) (behind k e n) (misses i d m)))
 
@@ -179,7 +182,7 @@ all_known l w laws h =
     let sites = sites_known l w laws.slots s in
     All-append P (stored_fillings l) (copies_filled l w)
     (All-append P (sections_filled l) (slots_filled l ++ blocks_filled l)
-    (sections_known l w laws.sections h.kind h.numbers h.legal h.laid h.decided)
+    (sections_known l w laws.sections h.keeps h.kind h.numbers h.legal h.laid h.decided)
     (All-append P (slots_filled l) (blocks_filled l) (got_filled l w laws h).known (blocks_known l w (all_sites l) (All-append-right (SiteIsKnown l w) (pair_sites l) (all_sites l) sites))))
     (copies_known l w laws.copies (copies_of_well l w h))
 
@@ -256,8 +259,8 @@ tables_sorted l w laws h =
     }
 
 pub all_made : FilledLaws → TablesAreMade
-all_made laws = λ l w kind numbers legal laid decided whole none.
-    let h : IsFilledWell l w = record { kind = kind; numbers = numbers; legal = legal; laid = laid; decided = decided; whole = whole; none = none } in
+all_made laws = λ l w keeps kind numbers legal laid decided whole none.
+    let h : IsFilledWell l w = record { keeps = keeps; kind = kind; numbers = numbers; legal = legal; laid = laid; decided = decided; whole = whole; none = none } in
     let sorted = tables_sorted l w laws h in
     record {
       made = tables_made w (image_memory l w) (tables_of l) (all_fillings l w) laws.changes sorted;

@@ -3,6 +3,7 @@ use Rattle.wild_meaning.proofs.OutputLemmas.{not_partial}
 use Rattle.std.specs.List.{flat_map}
 use Rattle.wild_laid.specs.Laid.{as_loaded}
 use Rattle.wild_geometry.specs.Laid.{IsLaid}
+use Rattle.wild_geometry.proofs.HollowLemmas.{part_is_written}
 use Rattle.wild_geometry.proofs.StoodSections.{listed_section}
 use Rattle.wild_geometry.proofs.KeptItems.{input_stands, turned_fields}
 use Rattle.std.proofs.Common.{◌≡◌, ℕ, ◌+◌, ◌<◌, ◌≤◌, ◌==◌, Bool, true, false, not, ◌&&◌, List, [], length, replicate, refl, sym, ap, ◌∙◌, arith, subst}
@@ -17,7 +18,7 @@ use Rattle.wild_types.specs.declared.input.InputRelocation.{InputRelocation}
 use Rattle.wild_types.specs.declared.input.InputSection.{InputSection}
 use Rattle.wild_types.specs.declared.file.File.{File}
 use Rattle.wild_types.specs.declared.layout.Layout.{Layout}
-use Rattle.wild_types.specs.Lookups.{without_data, section_of, section_of_part, takes_file_bytes, is_loaded, is_filled, allocated, has_relocations}
+use Rattle.wild_types.specs.Lookups.{without_data, section_of, section_of_part, has_data, is_hollow_part, is_loaded, is_filled, allocated, has_relocations}
 use Rattle.wild_layout.specs.Sites.{section_bytes}
 use Rattle.wild_layout.specs.Image.{bytes}
 use Rattle.wild_layout.specs.Geometry.{IsLaidOut}
@@ -25,7 +26,7 @@ use Rattle.wild_loader.specs.declared.memory.Memory.{Memory}
 use Rattle.wild_loader.specs.declared.world.World.{World}
 use Rattle.wild_loader.specs.Memory.{byte_in}
 use Rattle.wild_loader.specs.SegmentLaws.{BytesAreLoaded}
-use Rattle.wild_meaning.specs.Section.{HasFileBytes}
+use Rattle.wild_meaning.specs.Section.{IsHollow, HasFileBytes}
 use Rattle.wild_meaning.specs.World.{IsLoadable}
 use Rattle.wild_meaning.specs.Linked.{IsBlank}
 use Rattle.wild_meaning.proofs.BitLemmas.{alloc_bit}
@@ -37,12 +38,16 @@ use Rattle.wild_loaded.proofs.MadeChanges.{IsMovedImage, kept_at}
 use Rattle.wild_loaded.proofs.OutsideTables.{section_misses}
 use Rattle.wild_loaded.proofs.SectionFillings.{section_fillings, section_filling}
 
--- the section owns bytes of the image
-takes : (l : Layout) (n : ℕ) → HasFileBytes l n → takes_file_bytes l (section_of l n) ≡ true
-takes l n h =
+-- what stands in the part has bytes
+has_bytes : (l : Layout) (n : ℕ) → HasFileBytes l n → has_data l (section_of l n) ≡ true
+has_bytes l n h =
     let at : section_of l n ≡ h.part.section = ap (λ (o : Option Part). section_of_part o) h.listed in
     let none = ne_eqb _ _ h.filled in
-    subst (λ (k : ℕ). takes_file_bytes l k ≡ true) (sym at) (subst (λ (o : Option Section). not (without_data o) ≡ true) (sym h.found) (ap not none))
+    subst (λ (k : ℕ). has_data l k ≡ true) (sym at) (subst (λ (o : Option Section). not (without_data o) ≡ true) (sym h.found) (ap not none))
+
+-- which are written
+bytes_written : (l : Layout) (n : ℕ) → HasFileBytes l n → is_hollow_part l n ≡ false
+bytes_written l n h = part_is_written l n (λ p e hollow. (let both : Some p ≡ Some h.part = sym e ∙ h.listed in let is : p ≡ h.part = cc in h.written (subst (IsHollow l) is hollow)))
 
 -- the section as it stands
 pub record StandsBlank (l : Layout) (s : InputSection) : Type 0 where
@@ -74,8 +79,9 @@ blank_stands l s kind laid b =
 blank_filled : (l : Layout) (s : InputSection) → s.slot ≡ slot.Loaded → s.nobits ≡ true → HasFileBytes l s.part → 1 ≤ s.size → is_filled l s ≡ true
 blank_filled l s loaded blank f some =
     let size : (s.size == 0) ≡ false = ne_eqb s.size 0 (λ e. omega (arith, e, some)) in
-    let there = takes l s.part f in
-    rw (loaded, blank, size, there) refl
+    let there = has_bytes l s.part f in
+    let written = bytes_written l s.part f in
+    rw (loaded, blank, size, there, written) refl
 
 -- which are zeros
 abbrev zeros : InputSection → List ℕ

@@ -13,7 +13,7 @@ use Rattle.wild_geometry.proofs.FrameSizes.{data_bytes}
 use Rattle.wild_geometry.proofs.StoodSections.{each_at, listed_section}
 use Rattle.wild_geometry.specs.Laid.{IsOf, Own, Ordered, IsLaid, IsKeptLaid, file_place}
 use Rattle.std.proofs.Common.{◌≡◌, ℕ, zero, suc, ◌+◌, ◌-◌, ◌^◌, ◌<◌, ◌≤◌, inl, inr, Bool, true, false, List, [], ◌∷◌, length, get_or, refl, sym, arith, subst, ◌++◌}
-use Rattle.std.specs.Prelude.{Contains, Some, slice_get, slice_index, if◌then◌else◌, ◌==◌, not}
+use Rattle.std.specs.Prelude.{Contains, Some, slice_get, slice_index, if◌then◌else◌, ◌==◌, ◌&&◌, not}
 use Rattle.std.proofs.lemmas.Bool.{cases_Bool, eqb-true, and_parts, not-true}
 use Rattle.std.proofs.lemmas.List.Elements.{Contains-append_left, Contains-append_right}
 use Rattle.wild_words.specs.Words.{Stands}
@@ -26,7 +26,8 @@ use Rattle.wild_types.specs.declared.input.InputSection.{InputSection}
 use Rattle.wild_types.specs.Item.{item_of}
 use Rattle.wild_types.specs.declared.file.File.{File}
 use Rattle.wild_types.specs.declared.layout.Layout.{Layout}
-use Rattle.wild_types.specs.Lookups.{is_filled, is_loaded, is_read, is_frame, has_relocations, allocated}
+use Rattle.wild_types.specs.Hollow.{is_hollow_role, is_dropped}
+use Rattle.wild_types.specs.Lookups.{is_given, is_filled, is_hollow_part, is_loaded, is_read, is_frame, has_relocations, allocated}
 use Rattle.wild_layout.specs.Sites.{sites, section_bytes, item_bytes}
 use Rattle.wild_layout.specs.Image.{bytes, pieces, section_piece, section_pieces, thunk_pieces, file_pieces, table_pieces, owned_pieces, group_pieces, offset_in, sorted_piece, of_first_file, once_pieces}
 use Rattle.wild_layout.specs.SectionPlaces.{SectionLies}
@@ -76,13 +77,28 @@ section_listed l s k filled =
         let role : Contains (of_last_file f (flat_map (sorted_piece l) (sorted_inputs l))) p = subst (λ (b : Bool). Contains (if b then flat_map (sorted_piece l) (sorted_inputs l) else []) p) (sym last) all in
         Contains-append_right (section_pieces l f) (sorted_and_rest l f) p (Contains-append_left (of_last_file f (flat_map (sorted_piece l) (sorted_inputs l))) (of_first_file f (once_pieces l) ++ thunk_pieces l f) p role)
 
--- a section that is read and is none of frames owns bytes, where it has some
-pub not_filled : (l : Layout) (s : InputSection) → is_read s ≡ true → is_frame s.slot ≡ false → is_filled l s ≡ false → length s.bytes ≡ 0
-not_filled l s read plain f =
+-- frames that are written stand in a part that is
+pub frames_written : (l : Layout) (s : InputSection) → is_frame s.slot ≡ true → is_dropped l s ≡ false → is_hollow_role l role.EhFrame ≡ false
+frames_written l s frame written = subst (λ (b : Bool). (if b then is_hollow_role l role.EhFrame else is_hollow_part l s.part) ≡ false) frame written
+
+-- so does another section
+pub part_written : (l : Layout) (s : InputSection) → is_frame s.slot ≡ false → is_dropped l s ≡ false → is_hollow_part l s.part ≡ false
+part_written l s plain written = subst (λ (b : Bool). (if b then is_hollow_role l role.EhFrame else is_hollow_part l s.part) ≡ false) plain written
+
+-- what owns no bytes of a part that is written has none
+not_given : (given hollow : Bool) → (given && not hollow) ≡ false → hollow ≡ false → given ≡ false
+not_given true false f e = f
+not_given true true f e = cc
+not_given false hollow f e = refl
+
+-- a section that is read and written, and is none of frames, owns bytes, where it has some
+pub not_filled : (l : Layout) (s : InputSection) → is_read s ≡ true → is_frame s.slot ≡ false → is_dropped l s ≡ false → is_filled l s ≡ false → length s.bytes ≡ 0
+not_filled l s read plain written f =
     let parts = and_parts (has_relocations s.slot) (not s.nobits) read in
     let loaded = loaded_is s.slot (read_loaded s read plain) in
     let n = not-true s.nobits parts.1 in
-    let e : not (length s.bytes == 0) ≡ false = simp (loaded, n) at f in
+    let given = not_given (is_given l s) (is_hollow_part l s.part) f (part_written l s plain written) in
+    let e : not (length s.bytes == 0) ≡ false = simp (loaded, n) at given in
     none (length s.bytes) (length s.bytes == 0) refl e
   where
     none : (k : ℕ) (b : Bool) → (k == 0) ≡ b → not b ≡ false → k ≡ 0
@@ -100,13 +116,13 @@ pub kept_carried : (l : Layout) (s : InputSection) → IsLoadable l.kind → IsL
 kept_carried l s kind laid input room loaded filled k lt = carried_byte l s k filled (each_at (IsMapped l) l s (laid.mapped (not_partial l.kind kind)) input loaded filled room k lt)
 
 -- those of frames are carried with their part
-frame_carried : (l : Layout) (s : InputSection) → IsLoadable l.kind → IsLaidOut l → IsLaid l s → is_frame s.slot ≡ true → (k : ℕ) → k < s.size → (h : Segment) × CarriesByte l h (file_place l s + k) (s.address + k)
-frame_carried l s kind laid input frame k lt =
+frame_carried : (l : Layout) (s : InputSection) → IsLoadable l.kind → IsLaidOut l → IsLaid l s → is_frame s.slot ≡ true → is_hollow_role l role.EhFrame ≡ false → (k : ℕ) → k < s.size → (h : Segment) × CarriesByte l h (file_place l s + k) (s.address + k)
+frame_carried l s kind laid input frame written k lt =
     let h = frame_inside l s laid (listed_section l s input) frame in
     let from = h.from in
     let to = h.to in
     let e = h.distance (omega (arith, lt)) in
-    let c = role_there l role.EhFrame refl kind laid (s.address + k - (role_home l role.EhFrame).address) (omega (arith, from, to, lt)) in
+    let c = role_there l role.EhFrame refl written kind laid (s.address + k - (role_home l role.EhFrame).address) (omega (arith, from, to, lt)) in
     let place : (role_home l role.EhFrame).offset + (s.address + k - (role_home l role.EhFrame).address) ≡ file_place l s + k = omega (arith, e, from) in
     let at : (role_home l role.EhFrame).address + (s.address + k - (role_home l role.EhFrame).address) ≡ s.address + k = omega (arith, from) in
     (c.0, subst (λ (n : ℕ). CarriesByte l c.0 n (s.address + k)) place (subst (λ (n : ℕ). CarriesByte l c.0 ((role_home l role.EhFrame).offset + (s.address + k - (role_home l role.EhFrame).address)) n) at c.1))
@@ -116,10 +132,10 @@ pub stored_kept : (l : Layout) (s : InputSection) → IsLoadable l.kind → IsLa
 stored_kept l s kind laid kept some =
     let full = (each_at (SectionLies l) l s laid.inputs kept.input).bytes (read_written s kept.reads) in
     elim (cases_Bool (is_frame s.slot)) [
-      | inl frame ↦ record { some = omega (arith, full, some); place = Framed frame; carried = frame_carried l s kind laid kept.input frame }
+      | inl frame ↦ record { some = omega (arith, full, some); place = Framed frame; carried = frame_carried l s kind laid kept.input frame (frames_written l s frame kept.written) }
       | inr plain ↦ elim (cases_Bool (is_filled l s)) [
         | inl filled ↦ record { some = omega (arith, full, some); place = Filled filled; carried = kept_carried l s kind laid kept.input (kept.room plain) (read_loaded s kept.reads plain) filled }
-        | inr f ↦ (let none = not_filled l s kept.reads plain f in absurd (omega (arith, none, some)))
+        | inr f ↦ (let none = not_filled l s kept.reads plain kept.written f in absurd (omega (arith, none, some)))
       ]
     ]
 
@@ -134,8 +150,8 @@ filled_held l w s law kind legal laid k room loaded filled bs is long =
     subst (λ (a : ℕ). byte_in (image_memory l w) a ≡ Some (slice_index bs i)) e (byte_carried l w c.0 (file_place l s + i) (s.address + i) (slice_index bs i) law kind legal laid c.1 (byte_stands (bytes l) (file_place l s) i bs lt st')))
 
 -- the bytes of frames are there with the table of frames
-frame_held : (l : Layout) (w : World) (s : InputSection) → PartsAreStored → IsLoadable l.kind → IsLegal l w → IsLaidOut l → (k : IsLaid l s) → is_frame s.slot ≡ true → 1 ≤ length (item_bytes l (item_of l k.owner s)) → IsHeldAt l w s.address (item_bytes l (item_of l k.owner s))
-frame_held l w s law kind legal laid k frame some = stands_held l w role.EhFrame s.address (item_bytes l (item_of l k.owner s)) law refl kind legal laid some (of_file k.file k.owner k.filed k.listed)
+frame_held : (l : Layout) (w : World) (s : InputSection) → PartsAreStored → IsLoadable l.kind → IsLegal l w → IsLaidOut l → (k : IsLaid l s) → is_frame s.slot ≡ true → is_hollow_role l role.EhFrame ≡ false → 1 ≤ length (item_bytes l (item_of l k.owner s)) → IsHeldAt l w s.address (item_bytes l (item_of l k.owner s))
+frame_held l w s law kind legal laid k frame written some = stands_held l w role.EhFrame s.address (item_bytes l (item_of l k.owner s)) law refl written kind legal laid some (of_file k.file k.owner k.filed k.listed)
   where
     of_file : (f owner : File) → Contains (laid_files l k.group) f → IsOf l f owner s → StandsAt l role.EhFrame s.address (item_bytes l (item_of l owner s))
     of_file f owner c (Own e own) = subst (λ (o : File). StandsAt l role.EhFrame s.address (item_bytes l (item_of l o s))) (sym e) (frames_stand l k.group f s laid k.grouped c own frame)
@@ -148,10 +164,10 @@ section_held l w s law parts kind legal laid k apart =
     let len : length whole ≡ length s.bytes = length-overlay (sites l (item_of l k.input.owner s)) s.bytes apart in
     let full = (each_at (SectionLies l) l s laid.inputs k.input).bytes (read_written s k.reads) in
     elim (cases_Bool (is_frame s.slot)) [
-      | inl frame ↦ λ i lt. (frame_held l w s parts kind legal laid k.input frame (omega (arith, lt))).held i lt
+      | inl frame ↦ λ i lt. (frame_held l w s parts kind legal laid k.input frame (frames_written l s frame k.written) (omega (arith, lt))).held i lt
       | inr plain ↦ elim (cases_Bool (is_filled l s)) [
         | inl filled ↦ filled_held l w s law kind legal laid k.input (k.room plain) (read_loaded s k.reads plain) filled whole (data_bytes l k.input.owner s k.reads) (omega (arith, len, full))
-        | inr f ↦ (let none = not_filled l s k.reads plain f in Holds-empty (image_memory l w) (w.base + s.address) whole (omega (arith, len, none)))
+        | inr f ↦ (let none = not_filled l s k.reads plain k.written f in Holds-empty (image_memory l w) (w.base + s.address) whole (omega (arith, len, none)))
       ]
     ]
 

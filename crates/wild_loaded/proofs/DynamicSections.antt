@@ -1,6 +1,6 @@
 -- The dynamic section of an image, and the tables that it names.
 use Rattle.wild_loaded.proofs.KindLemmas.{dynamic_whole}
-use Rattle.std.proofs.Common.{◌≡◌, ℕ, suc, ◌+◌, ◌-◌, ◌*◌, ◌/◌, ◌≤◌, inl, inr, true, List, [], ◌∷◌, ◌++◌, length, map, replicate, refl, sym, ap, ◌∙◌, arith, subst}
+use Rattle.std.proofs.Common.{◌≡◌, ℕ, suc, ◌+◌, ◌-◌, ◌*◌, ◌/◌, ◌≤◌, inl, inr, Bool, true, if◌then◌else◌, List, [], ◌∷◌, ◌++◌, length, map, replicate, refl, sym, ap, ◌∙◌, arith, subst}
 use Rattle.std.specs.Prelude.{Option, Some, None, Contains, ◌==◌}
 use Rattle.std.specs.List.{flat_map}
 use Rattle.std.proofs.lemmas.Bool.{cases_Bool}
@@ -19,7 +19,9 @@ use Rattle.wild_types.specs.declared.layout.Layout.{Layout}
 use Rattle.wild_needs.specs.declared.dynamic.DynamicTag.TheVariants as tags
 use Rattle.wild_needs.specs.Dynamic.{dynamic_number, dynamic_entry, dynamic_flags, dynamic_entries, dynamic_count}
 use Rattle.wild_types.specs.Parts.{part_with}
+use Rattle.wild_types.specs.Hollow.{KeepsAll}
 use Rattle.wild_types.specs.Kinds.{needs_dynamic}
+use Rattle.wild_types.proofs.LookupLemmas.{not_hollow_at}
 use Rattle.wild_types.specs.Lookups.{image_size}
 use Rattle.wild_headers.specs.Headers.{program_header}
 use Rattle.wild_layout.specs.Image.{bytes}
@@ -124,11 +126,11 @@ first_header l (x ∷ xs) g h =
       | inr f ↦ (let e : first_dynamic xs ≡ Some g = rw f at h in rw (same, f) (first_header l xs g e))
     ]
 
-segment_place : (l : Layout) (g : Segment) → ((program_header l g).offset ≡ g.offset) × ((program_header l g).file_size ≡ g.file_size)
+pub segment_place : (l : Layout) (g : Segment) → ((program_header l g).offset ≡ g.offset) × ((program_header l g).file_size ≡ g.file_size)
 unfolding program_header
 segment_place l g = (refl, refl)
 
-first_listed : (gs : List Segment) (g : Segment) → first_dynamic gs ≡ Some g → Contains gs g
+pub first_listed : (gs : List Segment) (g : Segment) → first_dynamic gs ≡ Some g → Contains gs g
 first_listed [] g h = cc
 first_listed (x ∷ xs) g h =
     elim (cases_Bool (x.kind == pt_dynamic)) [
@@ -142,8 +144,9 @@ first_listed (x ∷ xs) g h =
 abbrev all_records : Layout → ℕ → List DynamicEntry
 all_records l room = all_needed l ++ dynamic_records l room
 
-has_dynamic : (l : Layout) → SectionLaws → needs_dynamic l.kind ≡ true → NumbersFit l → IsLaidOut l → (d : HasDynamicPart l) → HasDynamic (bytes l) (map (program_header l) l.segments) (all_records l d.room)
-has_dynamic l laws needs numbers laid d =
+has_dynamic : (l : Layout) → SectionLaws → KeepsAll l → needs_dynamic l.kind ≡ true → NumbersFit l → IsLaidOut l → (d : HasDynamicPart l) → HasDynamic (bytes l) (map (program_header l) l.segments) (all_records l d.room)
+has_dynamic l laws keeps needs numbers laid d =
+    let written = not_hollow_at l d.part.section keeps in
     let s = (laid.loadable (dynamic_whole l.kind needs)).dynamic d.part d.there in
     let place = segment_place l s.segment in
     let c = first_listed l.segments s.segment s.first in
@@ -151,10 +154,10 @@ has_dynamic l laws needs numbers laid d =
     let n = length-bytes l laid in
     let at = laws.records l (all_needed l) d.room d.fits in
     let offset = place.0 ∙ s.offset in
-    let size = place.1 ∙ s.file_size ∙ d.size in
+    let size = place.1 ∙ s.file_size ∙ ap (λ (b : Bool). if b then 0 else d.part.size) written ∙ d.size in
     let o = place.0 in
     let z = place.1 in
-    let here = laws.stand l laid role.Dynamic (λ e. cc) d.part d.there d.some in
+    let here = laws.stand l laid role.Dynamic (λ e. cc) d.part d.there written d.some in
     let whole = subst (λ (bs : List ℕ). Stands (bytes l) d.part.offset bs) d.bytes here in
     let inner = Stands-inner (bytes l) (entries_bytes (all_needed l) ++ dynamic_bytes l d.room) (entries_bytes (all_records l d.room)) d.part.offset 0 whole at.stand in
     let nothing : d.part.offset + 0 ≡ (program_header l s.segment).offset = (let f : d.part.offset + 0 ≡ d.part.offset = omega arith in f ∙ sym offset) in
@@ -169,9 +172,9 @@ has_dynamic l laws needs numbers laid d =
 
 -- so it is found, whatever the tables are
 pub entries_found : SectionLaws → DynamicSectionsStand
-entries_found laws = λ l needs numbers laid.
+entries_found laws = λ l keeps needs numbers laid.
     let d = dynamic_part l laws.lengths laws.found laid needs in
-    record { room = d.room; dynamic = has_dynamic l laws needs numbers laid d }
+    record { room = d.room; dynamic = has_dynamic l laws keeps needs numbers laid d }
 
 -- ---- the tables
 
@@ -179,20 +182,20 @@ table_of : (image : List ℕ) (hs : List ProgramHeader) (a b c d : Option ℕ) (
 table_of image hs a b c d xs ys e f g h =
     subst (λ (o : Option ℕ). IsTableOf image hs o d ys) (sym e) (subst (λ (o : Option ℕ). IsTableOf image hs a o ys) (sym f) (subst (λ (bs : List ℕ). IsTableOf image hs a b bs) g h))
 
-has_tables : (l : Layout) (room : ℕ) → DynamicLaws → NumbersFit l → IsLaidOut l → HasWholeSlots l → needs_dynamic l.kind ≡ true → HasTables (bytes l) (map (program_header l) l.segments) (all_records l room) (tables_of l)
-has_tables l room laws numbers laid slots needs =
+has_tables : (l : Layout) (room : ℕ) → DynamicLaws → KeepsAll l → NumbersFit l → IsLaidOut l → HasWholeSlots l → needs_dynamic l.kind ≡ true → HasTables (bytes l) (map (program_header l) l.segments) (all_records l room) (tables_of l)
+has_tables l room laws keeps numbers laid slots needs =
     let hs = map (program_header l) l.segments in
     let n = laws.named l (all_needed l) room (laws.section.needed.names l l.groups) needs in
     record {
       words_fit = words_fit l laws.words numbers.symbols;
-      words = table_of (bytes l) hs (dynamic_entry l tags.Relr) (dynamic_entry l tags.RelrSize) _ _ (table_bytes l role.RelrDyn) (flat_map word_bytes (tables_of l).words) n.words n.words_size (words_are l) (words_named l laws.section.stand laid needs);
+      words = table_of (bytes l) hs (dynamic_entry l tags.Relr) (dynamic_entry l tags.RelrSize) _ _ (table_bytes l role.RelrDyn) (flat_map word_bytes (tables_of l).words) n.words n.words_size (words_are l) (words_named l laws.section.stand keeps laid needs);
       entries_fit = entries_fit l (pair_low l laws.pair laid slots) numbers.symbols;
-      entries = table_of (bytes l) hs (dynamic_entry l tags.Rela) (dynamic_entry l tags.RelaSize) _ _ (table_bytes l role.RelaDynRelative ++ table_bytes l role.RelaDynGeneral) (flat_map rela_bytes (tables_of l).entries) n.entries n.entries_size (entries_are l) (entries_named l laws.section.stand laid needs);
+      entries = table_of (bytes l) hs (dynamic_entry l tags.Rela) (dynamic_entry l tags.RelaSize) _ _ (table_bytes l role.RelaDynRelative ++ table_bytes l role.RelaDynGeneral) (flat_map rela_bytes (tables_of l).entries) n.entries n.entries_size (entries_are l) (entries_named l laws.section.stand keeps laid needs);
       jumps_fit = jumps_fit l numbers.symbols;
-      jumps = table_of (bytes l) hs (dynamic_entry l tags.JmpRel) (dynamic_entry l tags.PltRelSize) _ _ (table_bytes l role.RelaPlt) (flat_map rela_bytes (tables_of l).jumps) n.jumps n.jumps_size (jumps_are l) (jumps_named l laws.section.stand laid needs);
+      jumps = table_of (bytes l) hs (dynamic_entry l tags.JmpRel) (dynamic_entry l tags.PltRelSize) _ _ (table_bytes l role.RelaPlt) (flat_map rela_bytes (tables_of l).jumps) n.jumps n.jumps_size (jumps_are l) (jumps_named l laws.section.stand keeps laid needs);
     }
 
 pub tables_found : DynamicLaws → TablesAreFound
-tables_found laws = λ l needs numbers laid slots.
-    let e = entries_found laws.section l needs numbers laid in
-    record { entries = all_records l e.room; dynamic = e.dynamic; tables = has_tables l e.room laws numbers laid slots needs }
+tables_found laws = λ l keeps needs numbers laid slots.
+    let e = entries_found laws.section l keeps needs numbers laid in
+    record { entries = all_records l e.room; dynamic = e.dynamic; tables = has_tables l e.room laws keeps numbers laid slots needs }

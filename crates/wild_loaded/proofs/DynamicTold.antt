@@ -19,6 +19,7 @@ use Rattle.wild_types.specs.declared.part.Role.TheVariants as role
 use Rattle.wild_types.specs.declared.file.File.{File}
 use Rattle.wild_types.specs.declared.file.Group.{Group}
 use Rattle.wild_types.specs.declared.layout.Layout.{Layout}
+use Rattle.wild_types.specs.Hollow.{KeepsAll}
 use Rattle.wild_types.specs.Kinds.{is_executable, is_shared_object, is_position_independent, needs_dynamic}
 use Rattle.wild_types.specs.Parts.{part_with}
 use Rattle.wild_needs.specs.declared.dynamic.DynamicTag.{DynamicTag}
@@ -174,10 +175,10 @@ tables_named l base laws numbers loadable e t =
     let same : before_null t.entries ≡ found l e.room = cc in
     subst (λ (ds : List DynamicEntry). named_tables (bytes l) hs ds ≡ Ok (tables_of l)) same (named-found laws.relas laws.words base (bytes l) hs t.entries (tables_of l) loadable t.tables)
 
-pub linker_told : (l : Layout) (base : ℕ) → LawsBelow → needs_dynamic l.kind ≡ true → NumbersFit l → IsLaidOut l → HasWholeSlots l → AreLoadable base (bytes l) (headers_of l) → headers_in (bytes l) ≡ headers_of l → TellsLinker (processor_of l.machine) (bytes l)
-linker_told l base laws needs numbers laid slots loadable same =
-    let e = laws.stand l needs numbers laid in
-    let tables = tables_named l base laws numbers loadable e (laws.tables l needs numbers laid slots) in
+pub linker_told : (l : Layout) (base : ℕ) → LawsBelow → KeepsAll l → needs_dynamic l.kind ≡ true → NumbersFit l → IsLaidOut l → HasWholeSlots l → AreLoadable base (bytes l) (headers_of l) → headers_in (bytes l) ≡ headers_of l → TellsLinker (processor_of l.machine) (bytes l)
+linker_told l base laws keeps needs numbers laid slots loadable same =
+    let e = laws.stand l keeps needs numbers laid in
+    let tables = tables_named l base laws numbers loadable e (laws.tables l keeps needs numbers laid slots) in
     record {
       segment = e.dynamic.segment;
       first = ap found_dynamic same ∙ e.dynamic.first;

@@ -18,7 +18,9 @@ use Rattle.wild_types.specs.declared.input.InputSection.{InputSection}
 use Rattle.wild_types.specs.Item.{item_with, block_for}
 use Rattle.wild_types.specs.declared.file.File.{File}
 use Rattle.wild_types.specs.declared.layout.Layout.{Layout}
+use Rattle.wild_types.specs.Hollow.{KeepsAll}
 use Rattle.wild_types.specs.Lookups.{is_loaded, is_read}
+use Rattle.wild_types.proofs.LookupLemmas.{not_dropped}
 use Rattle.wild_layout.specs.Sites.{field_site, site}
 use Rattle.wild_layout.specs.SectionPlaces.{FieldLies}
 use Rattle.wild_layout.specs.Geometry.{IsLaidOut}
@@ -74,14 +76,15 @@ pub record IsFilledThere (l : Layout) (block : ℕ) (s : InputSection) (x : Fill
   pub has : HasDecision l (item_with block s) filling.index filling.relocation by.decision
   pub ends : filling.relocation.offset + x.width ≤ length s.bytes
 
-pub filled_there : (l : Layout) (s : InputSection) (x : Filling) → IsLaidOut l → EachDecided l → (input : IsLaid l s) → IsFillingOf l s x → IsFilledThere l (block_for l input.owner s) s x
-filled_there l s x laid decided input k =
+pub filled_there : (l : Layout) (s : InputSection) (x : Filling) → KeepsAll l → IsLaidOut l → EachDecided l → (input : IsLaid l s) → IsFillingOf l s x → IsFilledThere l (block_for l input.owner s) s x
+filled_there l s x keeps laid decided input k =
     let block = block_for l input.owner s in
-    let d = (decided s input k.reads).each k.index k.within in
+    let written = not_dropped l s keeps in
+    let d = (decided s input k.reads written).each k.index k.within in
     let same = filling_decided l block s k.index k.relocation x k.listed k.given in
     let made = sym same ∙ d.1 in
     let by = filled_by l block s k.relocation x d.0 made k.given in
-    let kept : IsKeptLaid l s = record { input = input; reads = k.reads; room = λ plain. by.room } in
+    let kept : IsKeptLaid l s = record { input = input; reads = k.reads; room = λ plain. by.room; written = written } in
     let well = kept_well l s laid decided kept in
     let lies = holds_at (FieldLies l.machine (length s.bytes)) s.relocations k.index k.relocation k.listed well.fields in
     let ends = field_lies l (item_with block s) k.relocation by.written.size by.field lies in
@@ -158,23 +161,23 @@ one_filling l s r = by_option (section_filling l s r)
 filling_made : (l : Layout) (s : InputSection) (x : Filling) (i : ℕ) (d : InputRelocation) → is_read s ≡ true → i < length s.relocations → Contains (option_to_list (section_filling l s (get_or s.relocations i d))) x → IsFillingOf l s x
 filling_made l s x i d reads within c = record { reads = reads; index = i; relocation = get_or s.relocations i d; within = within; listed = slice_get-get_or s.relocations i d within; given = one_given (section_filling l s (get_or s.relocations i d)) x c }
 
-both_beside : (l : Layout) (s : InputSection) (x y : Filling) (i j : ℕ) (d : InputRelocation) → IsLaidOut l → EachDecided l → IsLaid l s → is_read s ≡ true → i < j → j < length s.relocations → Contains (option_to_list (section_filling l s (get_or s.relocations i d))) x → Contains (option_to_list (section_filling l s (get_or s.relocations j d))) y → AreBeside x y
+both_beside : (l : Layout) (s : InputSection) (x y : Filling) (i j : ℕ) (d : InputRelocation) → KeepsAll l → IsLaidOut l → EachDecided l → IsLaid l s → is_read s ≡ true → i < j → j < length s.relocations → Contains (option_to_list (section_filling l s (get_or s.relocations i d))) x → Contains (option_to_list (section_filling l s (get_or s.relocations j d))) y → AreBeside x y
 unfolding filling_made filled_there
-both_beside l s x y i j d laid decided input reads lt within cx cy =
+both_beside l s x y i j d keeps laid decided input reads lt within cx cy =
     let kx = filling_made l s x i d reads (omega (arith, lt, within)) cx in
     let ky = filling_made l s y j d reads within cy in
-    beside_there l (block_for l input.owner s) s x y (filled_there l s x laid decided input kx) (filled_there l s y laid decided input ky) lt
+    beside_there l (block_for l input.owner s) s x y (filled_there l s x keeps laid decided input kx) (filled_there l s y keeps laid decided input ky) lt
 
 -- the fillings of one section lie beside each other
-fillings_beside : (l : Layout) (s : InputSection) → IsLaidOut l → EachDecided l → IsLaid l s → AllPairs AreBeside (section_fillings l s)
-fillings_beside l s laid decided input = by_test (is_read s) refl
+fillings_beside : (l : Layout) (s : InputSection) → KeepsAll l → IsLaidOut l → EachDecided l → IsLaid l s → AllPairs AreBeside (section_fillings l s)
+fillings_beside l s keeps laid decided input = by_test (is_read s) refl
   where
     by_test : (b : Bool) → is_read s ≡ b → AllPairs AreBeside (if b then flat_map (λ (r : InputRelocation). option_to_list (section_filling l s r)) s.relocations else [])
     by_test false e = AllPairs-nil AreBeside
     by_test true e =
         AllPairs-flat_map AreBeside (λ (r : InputRelocation). option_to_list (section_filling l s r)) s.relocations
         (λ k d m. one_filling l s (get_or s.relocations k d))
-        (λ i j d lt m. All-each (λ (x : Filling). All (AreBeside x) (option_to_list (section_filling l s (get_or s.relocations j d)))) (option_to_list (section_filling l s (get_or s.relocations i d))) (λ x cx. All-each (AreBeside x) (option_to_list (section_filling l s (get_or s.relocations j d))) (λ y cy. both_beside l s x y i j d laid decided input e lt m cx cy)))
+        (λ i j d lt m. All-each (λ (x : Filling). All (AreBeside x) (option_to_list (section_filling l s (get_or s.relocations j d)))) (option_to_list (section_filling l s (get_or s.relocations i d))) (λ x cx. All-each (AreBeside x) (option_to_list (section_filling l s (get_or s.relocations j d))) (λ y cy. both_beside l s x y i j d keeps laid decided input e lt m cx cy)))
 
 -- ---- all sections
 
@@ -195,9 +198,9 @@ stored_there l block s x law kind laid h =
     let some = width_some l block s x h in
     law l s kind laid h.well.kept (omega (arith, ends, some))
 
-pub have_places : (l : Layout) → SectionsAreCarried → IsLoadable l.kind → IsLaidOut l → EachDecided l → HavePlaces l (section_fillings l)
-have_places l law kind laid decided = record {
-  stored = All-each (λ (s : InputSection). 1 ≤ length (section_fillings l s) → IsStored l s) (all_sections l) (λ s c some. (let x = first_filling (section_fillings l s) some in stored_there l (block_for l (input_of l s c).owner s) s x.0 law kind laid (filled_there l s x.0 laid decided (input_of l s c) (filling_known l s x.0 x.1))));
-  within = All-each (λ (s : InputSection). All (LiesIn (section_home l s)) (section_fillings l s)) (all_sections l) (λ s c. All-each (LiesIn (section_home l s)) (section_fillings l s) (λ x k. lies_there l (block_for l (input_of l s c).owner s) s x (filled_there l s x laid decided (input_of l s c) (filling_known l s x k))));
-  beside = All-each (λ (s : InputSection). AllPairs AreBeside (section_fillings l s)) (all_sections l) (λ s c. fillings_beside l s laid decided (input_of l s c));
+pub have_places : (l : Layout) → SectionsAreCarried → IsLoadable l.kind → KeepsAll l → IsLaidOut l → EachDecided l → HavePlaces l (section_fillings l)
+have_places l law kind keeps laid decided = record {
+  stored = All-each (λ (s : InputSection). 1 ≤ length (section_fillings l s) → IsStored l s) (all_sections l) (λ s c some. (let x = first_filling (section_fillings l s) some in stored_there l (block_for l (input_of l s c).owner s) s x.0 law kind laid (filled_there l s x.0 keeps laid decided (input_of l s c) (filling_known l s x.0 x.1))));
+  within = All-each (λ (s : InputSection). All (LiesIn (section_home l s)) (section_fillings l s)) (all_sections l) (λ s c. All-each (LiesIn (section_home l s)) (section_fillings l s) (λ x k. lies_there l (block_for l (input_of l s c).owner s) s x (filled_there l s x keeps laid decided (input_of l s c) (filling_known l s x k))));
+  beside = All-each (λ (s : InputSection). AllPairs AreBeside (section_fillings l s)) (all_sections l) (λ s c. fillings_beside l s keeps laid decided (input_of l s c));
 }

@@ -1,13 +1,12 @@
 -- The headers of an image have their fields' ranges, and the loader takes them.
 use Rattle.wild_types.specs.Kinds.{is_partial_link}
-use Rattle.wild_types.specs.declared.kind.OutputKind.{OutputKind}
 use Rattle.std.proofs.Common.{◌≡◌, ℕ, suc, ◌+◌, ◌-◌, ◌*◌, ◌/◌, ◌%◌, ◌^◌, ◌<◌, ◌≤◌, inl, inr, Bool, true, false, List, [], ◌∷◌, length, max, refl, sym, ap, ◌∙◌, arith}
 use Rattle.std.specs.Prelude.{All, if◌then◌else◌, ◌==◌, nat_lt}
 use Rattle.std.specs.Int.RustNames.{bit_and}
 use Rattle.std.proofs.lemmas.Bool.{cases_Bool, eqb-true, ltb-true}
 use Rattle.std.proofs.lemmas.Nat.Bits.{and_pow}
 use Rattle.std.proofs.lemmas.List.Elements.{All-cons}
-use Rattle.wild_records.specs.Abi.Section.{shf_compressed, shn_loreserve, shf_alloc}
+use Rattle.wild_records.specs.Abi.Section.{sht_nobits, shf_compressed, shn_loreserve, shf_alloc}
 use Rattle.wild_records.specs.Abi.Segment.{pt_load, pt_gnu_stack, pf_x}
 use Rattle.wild_records.specs.FileHeader.{FileHeaderFits, file_header_size}
 use Rattle.wild_records.specs.ProgramHeader.{ProgramHeaderFits, program_header_size}
@@ -18,7 +17,7 @@ use Rattle.wild_types.specs.declared.section.Section.{Section}
 use Rattle.wild_types.specs.declared.section.Segment.{Segment}
 use Rattle.wild_types.specs.declared.layout.Layout.{Layout}
 use Rattle.wild_types.specs.Lists.{total}
-use Rattle.wild_types.specs.Lookups.{bit}
+use Rattle.wild_types.specs.Lookups.{bit, is_hollow}
 use Rattle.wild_needs.specs.Versions.{need_count}
 use Rattle.wild_headers.specs.Headers.{or_escape, or_none, name_table, section_of_role, file_header, with_execute, program_header, null_header, uncompressed, told_of, local_symbols, info_at, section_header, headers_from, section_headers_of}
 use Rattle.wild_layout.specs.Numbers.{NumbersFit, SegmentNumbers, SectionNumbers}
@@ -163,13 +162,18 @@ info_fits l i s n =
     (one_told (i == section_of_role role.GnuVersionD l.parts) (length l.verdefs) _
     (one_told (i == section_of_role role.GnuVersionR l.parts) (need_count l) s.info n.links.info))))
 
-section_header_fits : (kind : OutputKind) (info name : ℕ) (s : Section) → info < 2 ^ 32 → name < 2 ^ 32 → SectionNumbers s → SectionHeaderFits (section_header kind info name s)
+-- the type that is told
+told_fits : (b : Bool) (k : ℕ) → k < 2 ^ 32 → (if b then sht_nobits else k) < 2 ^ 32
+told_fits true k h = omega arith
+told_fits false k h = h
+
+section_header_fits : (l : Layout) (info name : ℕ) (s : Section) → info < 2 ^ 32 → name < 2 ^ 32 → SectionNumbers s → SectionHeaderFits (section_header l info name s)
 unfolding section_header
-section_header_fits kind info name s told h n =
+section_header_fits l info name s told h n =
     let f = uncompressed-le s.flags in
     let p = n.places.flags in
     record {
-      front = record { name = h; kind = n.places.kind; flags = omega (arith, f, p); address = header_fits (is_partial_link kind) s.address (2 ^ 64) n.places.address; offset = n.places.offset; size = n.places.size; link = n.links.link };
+      front = record { name = h; kind = told_fits (is_hollow l s) s.kind n.places.kind; flags = omega (arith, f, p); address = header_fits (is_partial_link l.kind) s.address (2 ^ 64) n.places.address; offset = n.places.offset; size = n.places.size; link = n.links.link };
       back = record { info = told; align = n.links.align; entry_size = n.links.entsize };
     }
 
@@ -183,21 +187,21 @@ null_header_fits l few named =
       back = record { info = omega arith; align = omega arith; entry_size = omega arith };
     }
 
-headers_fit : (l : Layout) (i name : ℕ) (ss : List Section) → name + total (λ (s : Section). length s.name + 1) ss < 2 ^ 32 → All SectionNumbers ss → All SectionHeaderFits (headers_from l.kind (told_of l) i name ss)
+headers_fit : (l : Layout) (i name : ℕ) (ss : List Section) → name + total (λ (s : Section). length s.name + 1) ss < 2 ^ 32 → All SectionNumbers ss → All SectionHeaderFits (headers_from l (told_of l) i name ss)
 headers_fit l i name [] h n = λ k d m. absurd (omega arith)
 headers_fit l i name (s ∷ ss) h n =
-    All-cons SectionHeaderFits (section_header l.kind (info_at (told_of l) i s.info) name s) (headers_from l.kind (told_of l) (i + 1) (name + length s.name + 1) ss)
-    (section_header_fits l.kind (info_at (told_of l) i s.info) name s (info_fits l i s (n 0 s (omega arith))) (omega (arith, h)) (n 0 s (omega arith)))
+    All-cons SectionHeaderFits (section_header l (info_at (told_of l) i s.info) name s) (headers_from l (told_of l) (i + 1) (name + length s.name + 1) ss)
+    (section_header_fits l (info_at (told_of l) i s.info) name s (info_fits l i s (n 0 s (omega arith))) (omega (arith, h)) (n 0 s (omega arith)))
     (headers_fit l (i + 1) (name + length s.name + 1) ss (omega (arith, h)) (λ k d m. n (suc k) d (omega arith)))
 
 pub section_headers_fit : (l : Layout) (ss : List Section) → length l.sections < 2 ^ 31 → name_table l < 2 ^ 32 → total (λ (s : Section). length s.name + 1) ss < 2 ^ 32 → All SectionNumbers ss → All SectionHeaderFits (section_headers_of l ss)
 section_headers_fit l [] few named h n = λ k d m. absurd (omega arith)
 section_headers_fit l (s ∷ ss) few named h n =
-    All-cons SectionHeaderFits (null_header l) (headers_from l.kind (told_of l) 1 (length s.name + 1) ss)
+    All-cons SectionHeaderFits (null_header l) (headers_from l (told_of l) 1 (length s.name + 1) ss)
     (null_header_fits l few named)
     (headers_fit l 1 (length s.name + 1) ss (omega (arith, h)) (λ k d m. n (suc k) d (omega arith)))
 
-length-headers : (l : Layout) (i name : ℕ) (ss : List Section) → length (headers_from l.kind (told_of l) i name ss) ≡ length ss
+length-headers : (l : Layout) (i name : ℕ) (ss : List Section) → length (headers_from l (told_of l) i name ss) ≡ length ss
 length-headers l i name [] = refl
 length-headers l i name (s ∷ ss) = ap suc (length-headers l (i + 1) (name + length s.name + 1) ss)
 

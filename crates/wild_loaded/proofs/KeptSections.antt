@@ -28,7 +28,7 @@ kept_well l s laid decided k =
     record {
       kept = k;
       own = refl;
-      decisions = decided s k.input read;
+      decisions = decided s k.input read k.written;
       lies = lies;
       full = lies.bytes (read_written s read);
       fields = subst (λ (n : ℕ). All (FieldLies l.machine n) s.relocations) (sym (lies.bytes (read_written s read))) (lies.fields (read_fields s read));

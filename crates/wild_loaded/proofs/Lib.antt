@@ -56,3 +56,4 @@ pub mod SlotsLoaded
 pub mod ThunksHeld
 mod Notes
 pub mod Moving
+pub mod BareImages

@@ -11,6 +11,7 @@ use Rattle.wild_types.specs.declared.file.FileRole.TheVariants as file_role
 use Rattle.wild_types.specs.declared.layout.Layout.{Layout}
 use Rattle.wild_types.specs.FileSymbols.{copies_of}
 use Rattle.wild_types.specs.FileRoles.{is_library}
+use Rattle.wild_types.specs.Hollow.{KeepsAll}
 use Rattle.wild_types.specs.Kinds.{needs_dynamic}
 use Rattle.wild_headers.specs.Headers.{file_header, section_headers_of}
 use Rattle.wild_layout.specs.Image.{bytes}
@@ -60,7 +61,7 @@ moved_image : (l : Layout) (w : World) (m : Memory) → MovingLaws → IsFilledW
 moved_image l w m laws h applied = record {
   laws = laws;
   well = h;
-  sections = have_places l laws.filled.carried h.kind h.laid h.decided;
+  sections = have_places l laws.filled.carried h.kind h.keeps h.laid h.decided;
   slots = slot_tables l w laws.filled h;
   sorted = tables_sorted l w laws.filled h;
   applied = applied;
@@ -101,8 +102,8 @@ item_moved l w m s law h kept =
     subst (λ (i : Item). HasItem l w m i InMemory) (sym k.is) (section_moved l w m (block_for l k.kept.input.owner k.section) k.section h (kept_well l k.section h.well.laid h.well.decided k.kept))
 
 pub memory_moved : MovingLaws → MemoryIsMoved
-memory_moved laws = λ l w m kind numbers legal laid decided whole none applied.
-    let h = moved_image l w m laws (record { kind = kind; numbers = numbers; legal = legal; laid = laid; decided = decided; whole = whole; none = none }) applied in
+memory_moved laws = λ l w m keeps kind numbers legal laid decided whole none applied.
+    let h = moved_image l w m laws (record { keeps = keeps; kind = kind; numbers = numbers; legal = legal; laid = laid; decided = decided; whole = whole; none = none }) applied in
     record {
       items = λ s kept. item_moved l w m s kept_laid h kept;
       slots = slots_loaded l w m h;
@@ -133,9 +134,9 @@ record IsLoadedBy (l : Layout) (w : World) : Type 0 where
   accepted : load w (bytes l) ≡ Ok memory
   applied : HasApplied l w memory
 
-dynamic_loaded : (l : Layout) (w : World) → ImageLaws → needs_dynamic l.kind ≡ true → IsLoadable l.kind → NumbersFit l → IsLegal l w → IsLaidOut l → HasWholeSlots l → AreMade l w → IsLoadedBy l w
-dynamic_loaded l w laws needs kind numbers legal laid whole made =
-    let t = laws.found l needs numbers laid whole in
+dynamic_loaded : (l : Layout) (w : World) → ImageLaws → KeepsAll l → needs_dynamic l.kind ≡ true → IsLoadable l.kind → NumbersFit l → IsLegal l w → IsLaidOut l → HasWholeSlots l → AreMade l w → IsLoadedBy l w
+dynamic_loaded l w laws keeps needs kind numbers legal laid whole made =
+    let t = laws.found l keeps needs numbers laid whole in
     let before = image_memory l w in
     let is = laws.dynamic w (bytes l) (file_header l) (headers_of l) (section_headers_of l l.sections) t.entries (tables_of l) (laws.headers.stand l kind numbers laid) (laws.headers.taken l kind) (laws.segments.loadable l w kind legal laid) t.dynamic t.tables in
     let h = has_changed w before (tables_of l) laws.applied made.made made.apart in
@@ -145,9 +146,9 @@ dynamic_loaded l w laws needs kind numbers legal laid whole made =
       applied = record { machine = h.machine ∙ laws.segments.machine l w; words = h.words; entries = h.entries; others = h.others };
     }
 
-static_loaded : (l : Layout) (w : World) → ImageLaws → needs_dynamic l.kind ≡ false → IsLoadable l.kind → NumbersFit l → IsLegal l w → IsLaidOut l → HasWholeSlots l → AreMade l w → IsLoadedBy l w
-static_loaded l w laws plain kind numbers legal laid whole made =
-    let t = laws.sections l kind plain numbers laid whole in
+static_loaded : (l : Layout) (w : World) → ImageLaws → KeepsAll l → needs_dynamic l.kind ≡ false → IsLoadable l.kind → NumbersFit l → IsLegal l w → IsLaidOut l → HasWholeSlots l → AreMade l w → IsLoadedBy l w
+static_loaded l w laws keeps plain kind numbers legal laid whole made =
+    let t = laws.sections l keeps kind plain numbers laid whole in
     let before = image_memory l w in
     let rs = section_relas (section_headers_of l l.sections) t.of in
     let is = laws.static w (bytes l) (file_header l) (headers_of l) (section_headers_of l l.sections) t.of (laws.headers.stand l kind numbers laid) (laws.headers.taken l kind) (laws.segments.loadable l w kind legal laid) (no-dynamic (headers_of l) t.static) t.told t.sections in
@@ -160,10 +161,10 @@ static_loaded l w laws plain kind numbers legal laid whole made =
     }
 
 pub images_loaded : ImageLaws → ImagesAreLoaded
-images_loaded laws = λ l w kind numbers legal laid decided whole none.
-    let made = laws.made l w kind numbers legal laid decided whole none in
-    let loaded = by_kind l w (needs_dynamic l.kind) refl kind numbers legal laid whole made in
-    let h = laws.moved l w loaded.memory kind numbers legal laid decided whole none loaded.applied in
+images_loaded laws = λ l w keeps kind numbers legal laid decided whole none.
+    let made = laws.made l w keeps kind numbers legal laid decided whole none in
+    let loaded = by_kind l w keeps (needs_dynamic l.kind) refl kind numbers legal laid whole made in
+    let h = laws.moved l w loaded.memory keeps kind numbers legal laid decided whole none loaded.applied in
     record {
       memory = loaded.memory;
       accepted = loaded.accepted;
@@ -176,6 +177,6 @@ images_loaded laws = λ l w kind numbers legal laid decided whole none.
       copies = h.copies;
     }
   where
-    by_kind : (l : Layout) (w : World) (b : Bool) → needs_dynamic l.kind ≡ b → IsLoadable l.kind → NumbersFit l → IsLegal l w → IsLaidOut l → HasWholeSlots l → AreMade l w → IsLoadedBy l w
-    by_kind l w true needs kind numbers legal laid whole made = dynamic_loaded l w laws needs kind numbers legal laid whole made
-    by_kind l w false plain kind numbers legal laid whole made = static_loaded l w laws plain kind numbers legal laid whole made
+    by_kind : (l : Layout) (w : World) → KeepsAll l → (b : Bool) → needs_dynamic l.kind ≡ b → IsLoadable l.kind → NumbersFit l → IsLegal l w → IsLaidOut l → HasWholeSlots l → AreMade l w → IsLoadedBy l w
+    by_kind l w keeps true needs kind numbers legal laid whole made = dynamic_loaded l w laws keeps needs kind numbers legal laid whole made
+    by_kind l w keeps false plain kind numbers legal laid whole made = static_loaded l w laws keeps plain kind numbers legal laid whole made

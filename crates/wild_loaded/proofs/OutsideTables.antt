@@ -12,6 +12,7 @@ use Rattle.wild_types.specs.declared.part.Role.TheVariants as role
 use Rattle.wild_types.specs.declared.input.InputSection.{InputSection}
 use Rattle.wild_types.specs.declared.layout.Layout.{Layout}
 use Rattle.wild_types.specs.Parts.{is_loaded_role}
+use Rattle.wild_types.proofs.LookupLemmas.{not_hollow_role}
 use Rattle.wild_loader.specs.declared.memory.Memory.{Memory}
 use Rattle.wild_loader.specs.declared.world.World.{World}
 use Rattle.wild_meaning.specs.World.{IsBehind}
@@ -46,13 +47,13 @@ home_misses l w m h k image there lt = λ i d b. (λ j less e.
 
 section_misses_table : (l : Layout) (w : World) (m : Memory) (r : Role) (s : InputSection) (k : ℕ) (xs : List Filling) → IsMovedImage l w m → is_loaded_role r ≡ true → (r ≡ role.EhFrame → ⊥) → Contains (all_sections l) s → IsStored l s → k < s.size → InTable l r xs → All (Misses (s.address + k)) xs
 section_misses_table l w m r s k xs h loaded other c stored lt t = λ i d b.
-    misses_across l (section_home l s) (role_home l r) k (get_or xs i d) h.well.kind h.well.laid (stored_home l s stored) (role_there l r loaded h.well.kind h.well.laid) (homes_back (role_home l r) (section_home l s) (section_apart l r s loaded other h.well.laid c stored)) lt (t.within i d b)
+    misses_across l (section_home l s) (role_home l r) k (get_or xs i d) h.well.kind h.well.laid (stored_home l s stored) (role_there l r loaded (not_hollow_role l r h.well.keeps) h.well.kind h.well.laid) (homes_back (role_home l r) (section_home l s) (section_apart l r s loaded other h.well.keeps h.well.laid c stored)) lt (t.within i d b)
 
 -- a byte of a section that the section's own fillings miss
 pub section_misses : (l : Layout) (w : World) (m : Memory) (s : InputSection) (k : ℕ) → IsMovedImage l w m → Contains (all_sections l) s → IsStored l s → k < s.size → All (Misses (s.address + k)) (section_fillings l s) → All (Misses (s.address + k)) (all_fillings l w)
 section_misses l w m s k h c stored lt own =
     all_miss l w (s.address + k)
-    (misses_all l (section_fillings l) s k h.well.kind h.well.laid h.sections c stored lt own)
+    (misses_all l (section_fillings l) s k h.well.kind h.well.keeps h.well.laid h.sections c stored lt own)
     (section_misses_table l w m role.Got s k (slots_filled l) h refl (λ e. cc) c stored lt h.slots.got)
     (section_misses_table l w m role.GotRelr s k (blocks_filled l) h refl (λ e. cc) c stored lt h.slots.block)
     (home_misses l w m (section_home l s) k h (stored_home l s stored) lt)
@@ -69,15 +70,15 @@ run_misses_sections l w m r k h there apart lt =
 
 run_misses_table : (l : Layout) (w : World) (m : Memory) (r : Home) (t : Role) (k : ℕ) (xs : List Filling) → IsMovedImage l w m → HasHome l r → is_loaded_role t ≡ true → HomesApart r (role_home l t) → k < r.size → InTable l t xs → All (Misses (r.address + k)) xs
 run_misses_table l w m r t k xs h there loaded apart low table = λ i d b.
-    misses_across l r (role_home l t) k (get_or xs i d) h.well.kind h.well.laid there (role_there l t loaded h.well.kind h.well.laid) apart low (table.within i d b)
+    misses_across l r (role_home l t) k (get_or xs i d) h.well.kind h.well.laid there (role_there l t loaded (not_hollow_role l t h.well.keeps) h.well.kind h.well.laid) apart low (table.within i d b)
 
 table_misses_sections : (l : Layout) (w : World) (m : Memory) (r : Role) (k : ℕ) → IsMovedImage l w m → is_loaded_role r ≡ true → (r ≡ role.EhFrame → ⊥) → k < (role_home l r).size → All (Misses ((role_home l r).address + k)) (sections_filled l)
 table_misses_sections l w m r k h loaded other lt =
-    run_misses_sections l w m (role_home l r) k h (role_there l r loaded h.well.kind h.well.laid) (λ s c stored. section_apart l r s loaded other h.well.laid c stored) lt
+    run_misses_sections l w m (role_home l r) k h (role_there l r loaded (not_hollow_role l r h.well.keeps) h.well.kind h.well.laid) (λ s c stored. section_apart l r s loaded other h.well.keeps h.well.laid c stored) lt
 
 table_misses_table : (l : Layout) (w : World) (m : Memory) (r t : Role) (k : ℕ) (xs : List Filling) → IsMovedImage l w m → is_loaded_role r ≡ true → is_loaded_role t ≡ true → (r ≡ t → ⊥) → k < (role_home l r).size → InTable l t xs → All (Misses ((role_home l r).address + k)) xs
 table_misses_table l w m r t k xs h lr lt other low table =
-    run_misses_table l w m (role_home l r) t k xs h (role_there l r lr h.well.kind h.well.laid) lt (roles_apart l r t lr lt other h.well.laid) low table
+    run_misses_table l w m (role_home l r) t k xs h (role_there l r lr (not_hollow_role l r h.well.keeps) h.well.kind h.well.laid) lt (roles_apart l r t lr lt other h.well.keeps h.well.laid) low table
 
 -- a byte of a stub
 pub stub_misses : (l : Layout) (w : World) (m : Memory) (k : ℕ) → IsMovedImage l w m → k < (role_home l role.PltGot).size → All (Misses ((role_home l role.PltGot).address + k)) (all_fillings l w)
@@ -86,7 +87,7 @@ stub_misses l w m k h lt =
     (table_misses_sections l w m role.PltGot k h refl (λ e. cc) lt)
     (table_misses_table l w m role.PltGot role.Got k (slots_filled l) h refl refl (λ e. cc) lt h.slots.got)
     (table_misses_table l w m role.PltGot role.GotRelr k (blocks_filled l) h refl refl (λ e. cc) lt h.slots.block)
-    (home_misses l w m (role_home l role.PltGot) k h (role_there l role.PltGot refl h.well.kind h.well.laid) lt)
+    (home_misses l w m (role_home l role.PltGot) k h (role_there l role.PltGot refl (not_hollow_role l role.PltGot h.well.keeps) h.well.kind h.well.laid) lt)
 
 -- a byte of a run that shares none with sections and tables
 pub run_misses : (l : Layout) (w : World) (m : Memory) (r : Home) (k : ℕ) → IsMovedImage l w m → HasHome l r → ((s : InputSection) → Contains (all_sections l) s → IsStored l s → HomesApart r (section_home l s)) → ((t : Role) → is_loaded_role t ≡ true → HomesApart r (role_home l t)) → k < r.size → All (Misses (r.address + k)) (all_fillings l w)
@@ -104,7 +105,7 @@ got_misses l w m k h lt own =
     (table_misses_sections l w m role.Got k h refl (λ e. cc) lt)
     own
     (table_misses_table l w m role.Got role.GotRelr k (blocks_filled l) h refl refl (λ e. cc) lt h.slots.block)
-    (home_misses l w m (role_home l role.Got) k h (role_there l role.Got refl h.well.kind h.well.laid) lt)
+    (home_misses l w m (role_home l role.Got) k h (role_there l role.Got refl (not_hollow_role l role.Got h.well.keeps) h.well.kind h.well.laid) lt)
 
 -- ---- zeros
 
@@ -112,7 +113,7 @@ got_misses l w m k h lt own =
 pub behind_miss : (l : Layout) (w : World) (m : Memory) (a : ℕ) → IsMovedImage l w m → IsBehind l a → IsNotCopied l w a → All (Misses a) (all_fillings l w)
 behind_miss l w m a h b none =
     All-append (Misses a) (stored_fillings l) (copies_filled l w)
-    (λ i d lt. stored_misses l h.well.kind h.well.laid h.sections h.slots i d lt a b)
+    (λ i d lt. stored_misses l h.well.kind h.well.keeps h.well.laid h.sections h.slots i d lt a b)
     (All-map (Misses a) (copy_filling l w) (all_copies l) (All-each (λ (i : ℕ). Misses a (copy_filling l w i)) (all_copies l) (λ i c. missed i c)))
   where
     missed : (i : ℕ) → Contains (all_copies l) i → Misses a (copy_filling l w i)

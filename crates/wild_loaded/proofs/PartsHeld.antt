@@ -1,5 +1,5 @@
 -- The tables of slots and stubs in the memory of an image that no entry has changed.
-use Rattle.std.proofs.Common.{◌≡◌, ℕ, zero, suc, ◌+◌, ◌-◌, ◌^◌, ◌<◌, ◌≤◌, true, List, [], ◌∷◌, length, map, refl, sym, ap, ◌∙◌, arith, subst}
+use Rattle.std.proofs.Common.{◌≡◌, ℕ, zero, suc, ◌+◌, ◌-◌, ◌^◌, ◌<◌, ◌≤◌, true, false, List, [], ◌∷◌, length, map, refl, sym, ap, ◌∙◌, arith, subst}
 use Rattle.std.specs.Prelude.{Option, Some, None, nat_le, ◌&&◌, slice_get, slice_index}
 use Rattle.std.proofs.lemmas.List.Elements.{All-contains}
 use Rattle.wild_records.specs.Abi.Segment.{pt_load}
@@ -12,7 +12,8 @@ use Rattle.wild_types.specs.declared.part.Role.TheVariants as role
 use Rattle.wild_types.specs.declared.section.Segment.{Segment}
 use Rattle.wild_types.specs.declared.input.InputSection.{InputSection}
 use Rattle.wild_types.specs.declared.layout.Layout.{Layout}
-use Rattle.wild_types.specs.Lookups.{image_size}
+use Rattle.wild_types.specs.Hollow.{is_hollow_role}
+use Rattle.wild_types.specs.Lookups.{image_size, section_of_part, is_hollow_at}
 use Rattle.wild_types.specs.Parts.{role_place, is_loaded_role, part_with}
 use Rattle.wild_clauses.specs.SlotPlaces.{address_of_part, start_of}
 use Rattle.wild_headers.specs.Headers.{file_header, program_header}
@@ -87,28 +88,32 @@ placed r h e = by_place (role_place r) e h
     by_place : (n : ℕ) → n ≡ 0 → (nat_le (role_place role.Got) n && nat_le n (role_place role.Dynamic)) ≡ true → ⊥
     by_place n e h = (let z = subst (λ (k : ℕ). (nat_le (role_place role.Got) k && nat_le k (role_place role.Dynamic)) ≡ true) e h in cc)
 
--- each byte of a part that a program reads is carried
-pub part_carried : (l : Layout) (r : Role) (p : Part) (k : ℕ) → is_loaded_role r ≡ true → IsLoadable l.kind → IsLaidOut l → part_with r l.parts ≡ Some p → k < p.size → (g : Segment) × CarriesByte l g (p.offset + k) (p.address + k)
-part_carried l r p k loaded kind laid there lt =
+-- the part of a role, where it is written
+pub written_part : (l : Layout) (r : Role) (p : Part) → is_hollow_role l r ≡ false → part_with r l.parts ≡ Some p → is_hollow_at l p.section ≡ false
+written_part l r p written there = subst (λ (o : Option Part). is_hollow_at l (section_of_part o) ≡ false) there written
+
+-- each byte of a part that a program reads is carried, where it is written
+pub part_carried : (l : Layout) (r : Role) (p : Part) (k : ℕ) → is_loaded_role r ≡ true → IsLoadable l.kind → IsLaidOut l → part_with r l.parts ≡ Some p → is_hollow_at l p.section ≡ false → k < p.size → (g : Segment) × CarriesByte l g (p.offset + k) (p.address + k)
+part_carried l r p k loaded kind laid there written lt =
     let t = (laid.roles r (placed r loaded)).there p there in
-    let c = All-contains (IsPartMapped l) l.parts p (laid.carried (not_partial l.kind kind)) t.listed (not_partial l.kind kind) (subst (λ (x : Role). is_loaded_role x ≡ true) (sym t.has) loaded) k lt in
+    let c = All-contains (IsPartMapped l) l.parts p (laid.carried (not_partial l.kind kind)) t.listed (not_partial l.kind kind) (subst (λ (x : Role). is_loaded_role x ≡ true) (sym t.has) loaded) written k lt in
     (c.0, carries_part l p k c.0 c.1)
 
 pub part_stored : BytesAreLoaded → TablesStand → PartsAreStored
-part_stored law stands = λ l w r p loaded kind legal laid there.
+part_stored law stands = λ l w r p loaded kind legal laid there written.
     let full = ((laid.roles r (placed r loaded)).there p there).size in
     record {
-      ends = λ some. last l w r p loaded kind legal laid there some;
+      ends = λ some. last l w r p loaded kind legal laid there written some;
       held = λ k lt.
-          (let c = part_carried l r p k loaded kind laid there (omega (arith, full, lt)) in
-          let st = stands l laid r (placed r loaded) p there (omega (arith, full, lt)) in
+          (let c = part_carried l r p k loaded kind laid there written (omega (arith, full, lt)) in
+          let st = stands l laid r (placed r loaded) p there written (omega (arith, full, lt)) in
           let e : w.base + (p.address + k) ≡ w.base + p.address + k = omega arith in
           subst (λ (a : ℕ). byte_in (image_memory l w) a ≡ Some (slice_index (table_bytes l r) k)) e (byte_carried l w c.0 (p.offset + k) (p.address + k) (slice_index (table_bytes l r) k) law kind legal laid c.1 (byte_stands (bytes l) p.offset k (table_bytes l r) lt st)));
     }
   where
-    last : (l : Layout) (w : World) (r : Role) (p : Part) → is_loaded_role r ≡ true → IsLoadable l.kind → IsLegal l w → IsLaidOut l → part_with r l.parts ≡ Some p → 1 ≤ p.size → w.base + p.address + p.size ≤ 2 ^ 64
-    last l w r p loaded kind legal laid there some =
-        let c = part_carried l r p (p.size - 1) loaded kind laid there (omega (arith, some)) in
+    last : (l : Layout) (w : World) (r : Role) (p : Part) → is_loaded_role r ≡ true → IsLoadable l.kind → IsLegal l w → IsLaidOut l → part_with r l.parts ≡ Some p → is_hollow_at l p.section ≡ false → 1 ≤ p.size → w.base + p.address + p.size ≤ 2 ^ 64
+    last l w r p loaded kind legal laid there written some =
+        let c = part_carried l r p (p.size - 1) loaded kind laid there written (omega (arith, some)) in
         let e = byte_below l w c.0 (p.offset + (p.size - 1)) (p.address + (p.size - 1)) kind legal laid c.1 in
         omega (arith, e, some)
 
@@ -118,9 +123,9 @@ pub record IsHeldAt (l : Layout) (w : World) (at : ℕ) (bs : List ℕ) : Type 0
   pub ends : w.base + at + length bs ≤ 2 ^ 64
   pub held : Holds (image_memory l w) (w.base + at) bs
 
--- bytes that stand in the table of a role are in memory at their address
-pub stands_held : (l : Layout) (w : World) (r : Role) (at : ℕ) (bs : List ℕ) → PartsAreStored → is_loaded_role r ≡ true → IsLoadable l.kind → IsLegal l w → IsLaidOut l → 1 ≤ length bs → StandsAt l r at bs → IsHeldAt l w at bs
-stands_held l w r at bs law loaded kind legal laid some h = by_part (part_with r l.parts) refl
+-- bytes that stand in the table of a role are in memory at their address, where it is written
+pub stands_held : (l : Layout) (w : World) (r : Role) (at : ℕ) (bs : List ℕ) → PartsAreStored → is_loaded_role r ≡ true → is_hollow_role l r ≡ false → IsLoadable l.kind → IsLegal l w → IsLaidOut l → 1 ≤ length bs → StandsAt l r at bs → IsHeldAt l w at bs
+stands_held l w r at bs law loaded written kind legal laid some h = by_part (part_with r l.parts) refl
   where
     start_is : (o : Option Part) → part_with r l.parts ≡ o → start_of l r ≡ address_of_part o
     start_is o e = ap address_of_part e
@@ -131,7 +136,7 @@ stands_held l w r at bs law loaded kind legal laid some h = by_part (part_with r
         let f = h.stands.fits in
         absurd (omega (arith, none, f, some))
     by_part (Some p) e =
-        let s = law l w r p loaded kind legal laid e in
+        let s = law l w r p loaded kind legal laid e (written_part l r p written e) in
         let full = ((laid.roles r (placed r loaded)).there p e).size in
         let start : start_of l r ≡ p.address = start_is (Some p) e in
         let from = h.from in

@@ -11,6 +11,7 @@ use Rattle.wild_words.proofs.Basics.{not_empty}
 use Rattle.wild_words.proofs.ListLemmas.{All-flat_map, at_places, AllPairs-flat_map}
 use Rattle.wild_types.specs.declared.input.InputSection.{InputSection}
 use Rattle.wild_types.specs.declared.layout.Layout.{Layout}
+use Rattle.wild_types.specs.Hollow.{KeepsAll}
 use Rattle.wild_layout.specs.Geometry.{IsLaidOut}
 use Rattle.wild_loaded.proofs.Fillings.{Filling, Misses, AreBeside}
 use Rattle.wild_loaded.specs.Memory.{IsStored}
@@ -33,9 +34,9 @@ abbrev pub all_places : Layout → (InputSection → List Filling) → List Fill
 all_places l of = flat_map of (all_sections l)
 
 -- all places lie beside each other
-pub places_beside : (l : Layout) (of : InputSection → List Filling) → IsLoadable l.kind → IsLaidOut l → HavePlaces l of → AllPairs AreBeside (flat_map of (all_sections l))
-places_beside l of kind laid h =
-    let apart = sections_aside l laid in
+pub places_beside : (l : Layout) (of : InputSection → List Filling) → IsLoadable l.kind → KeepsAll l → IsLaidOut l → HavePlaces l of → AllPairs AreBeside (flat_map of (all_sections l))
+places_beside l of kind keeps laid h =
+    let apart = sections_aside l keeps laid in
     AllPairs-flat_map AreBeside of (all_sections l) h.beside
     (λ i j d lt m. (λ k e n p f q.
     both (get_or (all_sections l) i d) (get_or (all_sections l) j d) (get_or (of (get_or (all_sections l) i d)) k e) (get_or (of (get_or (all_sections l) j d)) p f)
@@ -49,12 +50,12 @@ places_beside l of kind laid h =
     both s t a b x y across la lb = beside_across l (section_home l s) (section_home l t) a b kind laid (stored_home l s x) (stored_home l t y) (across x y) la lb
 
 -- a byte outside the places of its own section is outside all places
-pub misses_all : (l : Layout) (of : InputSection → List Filling) (s : InputSection) (k : ℕ) → IsLoadable l.kind → IsLaidOut l → HavePlaces l of → Contains (all_sections l) s → IsStored l s → k < s.size → All (Misses (s.address + k)) (of s) → All (Misses (s.address + k)) (flat_map of (all_sections l))
-misses_all l of s k kind laid h c stored below own =
+pub misses_all : (l : Layout) (of : InputSection → List Filling) (s : InputSection) (k : ℕ) → IsLoadable l.kind → KeepsAll l → IsLaidOut l → HavePlaces l of → Contains (all_sections l) s → IsStored l s → k < s.size → All (Misses (s.address + k)) (of s) → All (Misses (s.address + k)) (flat_map of (all_sections l))
+misses_all l of s k kind keeps laid h c stored below own =
     All-flat_map (Misses (s.address + k)) of (all_sections l)
     (λ j d m. elim (same_place j c.0) [
       | inl e ↦ (let here : get_or (all_sections l) j d ≡ s = get_or_default (all_sections l) j d s m ∙ ap (λ (i : ℕ). get_or (all_sections l) i s) e ∙ c.2 in subst (λ (t : InputSection). All (Misses (s.address + k)) (of t)) (sym here) own)
-      | inr other ↦ there l of s k kind laid h c stored below j d m other
+      | inr other ↦ there l of s k kind keeps laid h c stored below j d m other
     ])
   where
     same_place : (i j : ℕ) → (i ≡ j) ⊎ (i ≡ j → ⊥)
@@ -67,9 +68,9 @@ misses_all l of s k kind laid h c stored below own =
           ]
         ]
 
-    there : (l : Layout) (of : InputSection → List Filling) (s : InputSection) (k : ℕ) → IsLoadable l.kind → IsLaidOut l → HavePlaces l of → (c : Contains (all_sections l) s) → IsStored l s → k < s.size → (j : ℕ) (d : InputSection) → j < length (all_sections l) → (j ≡ c.0 → ⊥) → All (Misses (s.address + k)) (of (get_or (all_sections l) j d))
-    there l of s k kind laid h c stored below j d m other =
-        let pair = at_places (AreAside l) (all_sections l) (across_back l) (sections_aside l laid) c.0 j d (λ e. other (sym e)) c.1 m in
+    there : (l : Layout) (of : InputSection → List Filling) (s : InputSection) (k : ℕ) → IsLoadable l.kind → KeepsAll l → IsLaidOut l → HavePlaces l of → (c : Contains (all_sections l) s) → IsStored l s → k < s.size → (j : ℕ) (d : InputSection) → j < length (all_sections l) → (j ≡ c.0 → ⊥) → All (Misses (s.address + k)) (of (get_or (all_sections l) j d))
+    there l of s k kind keeps laid h c stored below j d m other =
+        let pair = at_places (AreAside l) (all_sections l) (across_back l) (sections_aside l keeps laid) c.0 j d (λ e. other (sym e)) c.1 m in
         let here : get_or (all_sections l) c.0 d ≡ s = get_or_default (all_sections l) c.0 d s c.1 ∙ c.2 in
         let across = subst (λ (t : InputSection). AreAside l t (get_or (all_sections l) j d)) here pair in
         λ p f q. (let other = h.stored j d m (not_empty _ p q) in misses_across l (section_home l s) (section_home l (get_or (all_sections l) j d)) k (get_or (of (get_or (all_sections l) j d)) p f) kind laid (stored_home l s stored) (stored_home l (get_or (all_sections l) j d) other) (across stored other) below (h.within j d m p f q))

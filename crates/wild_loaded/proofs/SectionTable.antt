@@ -1,5 +1,6 @@
 -- The entries of an image without a dynamic section, by the sections that have them.
-use Rattle.wild_types.specs.declared.kind.OutputKind.{OutputKind}
+use Rattle.wild_types.specs.Hollow.{KeepsAll}
+use Rattle.wild_types.proofs.LookupLemmas.{not_hollow, not_hollow_at}
 use Rattle.wild_loaded.proofs.KindLemmas.{fixed_whole}
 use Rattle.std.proofs.Common.{◌≡◌, ℕ, zero, suc, ◌+◌, ◌*◌, ◌/◌, ◌%◌, ◌<◌, ◌≤◌, ◌⊎◌, inl, inr, Bool, true, false, not, List, [], ◌∷◌, ◌++◌, length, get_or, All, refl, sym, ap, ◌∙◌, arith, subst}
 use Rattle.std.specs.Prelude.{Option, Some, None, Contains, IsPermutation, ◌&&◌, ◌==◌, if◌then◌else◌, slice_get}
@@ -12,7 +13,7 @@ use Rattle.std.proofs.lemmas.Option.{slice_get-get_or}
 use Rattle.std.proofs.lemmas.List.Concat.{flat_map-append}
 use Rattle.wild_words.specs.Words.{Stands}
 use Rattle.wild_words.proofs.Basics.{middle_exchanged}
-use Rattle.wild_records.specs.Abi.Section.{sht_rela, shf_alloc}
+use Rattle.wild_records.specs.Abi.Section.{sht_rela, sht_nobits, shf_alloc}
 use Rattle.wild_records.specs.Relocations.{rela_size, rela_at, RelaFits}
 use Rattle.wild_records.specs.declared.relocations.Rela.{Rela}
 use Rattle.wild_records.specs.declared.section_header.SectionHeader.{SectionHeader}
@@ -21,7 +22,7 @@ use Rattle.wild_types.specs.declared.part.Role.{Role}
 use Rattle.wild_types.specs.declared.part.Role.TheVariants as role
 use Rattle.wild_types.specs.declared.section.Section.{Section}
 use Rattle.wild_types.specs.declared.layout.Layout.{Layout}
-use Rattle.wild_types.specs.Lookups.{allocated, takes_file_bytes}
+use Rattle.wild_types.specs.Lookups.{allocated, is_hollow, is_hollow_at, has_data, takes_file_bytes}
 use Rattle.wild_types.specs.Parts.{role_place, has_role, part_with, is_entry_role, bytes_in}
 use Rattle.wild_types.specs.Kinds.{is_fixed_static}
 use Rattle.wild_types.proofs.PartLemmas.{not_raw}
@@ -42,16 +43,16 @@ use Rattle.wild_loaded.proofs.TableBytes.{stands_joined}
 -- ---- headers
 
 -- the header is that of the section with its number
-record IsHeaderOf (kind : OutputKind) (ss : List Section) (k : ℕ) (h : SectionHeader) : Type 0 where
+record IsHeaderOf (l : Layout) (ss : List Section) (k : ℕ) (h : SectionHeader) : Type 0 where
   section : Section
   listed : slice_get ss k ≡ Some section
   info : ℕ
   name : ℕ
-  is : h ≡ section_header kind info name section
+  is : h ≡ section_header l info name section
 
-header_of : (l : Layout) (i name : ℕ) (ss : List Section) (k : ℕ) (h : SectionHeader) → slice_get (headers_from l.kind (told_of l) i name ss) k ≡ Some h → IsHeaderOf l.kind ss k h
+header_of : (l : Layout) (i name : ℕ) (ss : List Section) (k : ℕ) (h : SectionHeader) → slice_get (headers_from l (told_of l) i name ss) k ≡ Some h → IsHeaderOf l ss k h
 header_of l i name [] k h there = cc
-header_of l i name (s ∷ ss) zero h there = record { section = s; listed = refl; info = info_at (told_of l) i s.info; name = name; is = (let same : section_header l.kind (info_at (told_of l) i s.info) name s ≡ h = cc in sym same) }
+header_of l i name (s ∷ ss) zero h there = record { section = s; listed = refl; info = info_at (told_of l) i s.info; name = name; is = (let same : section_header l (info_at (told_of l) i s.info) name s ≡ h = cc in sym same) }
 header_of l i name (s ∷ ss) (suc k) h there =
     let r = header_of l (i + 1) (name + length s.name + 1) ss k h there in
     record { section = r.section; listed = r.listed; info = r.info; name = r.name; is = r.is }
@@ -61,7 +62,7 @@ unfolding null_header
 null_none l h = cc
 
 -- the header with entries is that of a section behind section 0
-behind_first : (l : Layout) (ss : List Section) (k : ℕ) (h : SectionHeader) → slice_get (section_headers_of l ss) k ≡ Some h → has_entries h ≡ true → (1 ≤ k) × IsHeaderOf l.kind ss k h
+behind_first : (l : Layout) (ss : List Section) (k : ℕ) (h : SectionHeader) → slice_get (section_headers_of l ss) k ≡ Some h → has_entries h ≡ true → (1 ≤ k) × IsHeaderOf l ss k h
 behind_first l [] k h there has = cc
 behind_first l (s ∷ ss) zero h there has = (let same : null_header l ≡ h = cc in absurd (null_none l (subst (λ (x : SectionHeader). has_entries x ≡ true) (sym same) has)))
 behind_first l (s ∷ ss) (suc k) h there has =
@@ -69,7 +70,7 @@ behind_first l (s ∷ ss) (suc k) h there has =
     (omega arith, record { section = r.section; listed = r.listed; info = r.info; name = r.name; is = r.is })
 
 -- so is each header behind that of section 0
-header_behind : (l : Layout) (ss : List Section) (k : ℕ) (h : SectionHeader) → 1 ≤ k → slice_get (section_headers_of l ss) k ≡ Some h → IsHeaderOf l.kind ss k h
+header_behind : (l : Layout) (ss : List Section) (k : ℕ) (h : SectionHeader) → 1 ≤ k → slice_get (section_headers_of l ss) k ≡ Some h → IsHeaderOf l ss k h
 header_behind l [] k h some there = cc
 header_behind l (s ∷ ss) zero h some there = absurd (omega arith)
 header_behind l (s ∷ ss) (suc k) h some there =
@@ -216,6 +217,7 @@ pub record IsTableOfRole (l : Layout) (r : Role) (es : List Rela) : Type 0 where
 -- an output at its own addresses without a dynamic section, of which the part of relative entries is empty
 pub record IsFixedTable (l : Layout) (js gs : List Rela) : Type 0 where
   pub laid : IsLaidOut l
+  pub keeps : KeepsAll l
   pub fixed : is_fixed_static l.kind ≡ true
   pub stand : TablesStand
   pub lengths : LengthsOfEntries
@@ -236,11 +238,11 @@ lies_in l r es js gs k s x t some there = by_part (part_with r l.parts) refl
   where
     here : (p : Part) → part_with r l.parts ≡ Some p → p.section ≡ k → LieIn (bytes l) s.offset s.size p.size p.offset es
     here p e q =
-        let lie = ((x.laid.loadable (fixed_whole l.kind x.fixed)).entries x.fixed k s some there).own r p t.entry e q in
+        let lie = ((x.laid.loadable (fixed_whole l.kind x.fixed)).entries x.fixed k s some there).own (not_hollow l s x.keeps) r p t.entry e q in
         record {
           count = size_is l r es p x.laid x.lengths t e;
           fits = t.fits;
-          stands = λ h. subst (λ (bs : List ℕ). Stands (bytes l) p.offset bs) t.are (x.stand l x.laid r t.place p e h);
+          stands = λ h. subst (λ (bs : List ℕ). Stands (bytes l) p.offset bs) t.are (x.stand l x.laid r t.place p e (not_hollow_at l p.section x.keeps) h);
           low = λ h. lie.from;
           high = λ h. lie.to;
         }
@@ -259,15 +261,18 @@ listed_index : (ps : List Part) (p : Part) → (c : Contains ps p) → slice_get
 listed_index ps p c = slice_get-get_or ps c.0 p c.1 ∙ ap (λ (q : Part). Some q) c.2
 
 -- parts of two roles share no byte of the file
-roles_apart : (l : Layout) (r t : Role) (p q : Part) → IsLaidOut l → (role_place r ≡ 0 → ⊥) → (role_place t ≡ 0 → ⊥) → (r ≡ t → ⊥) → part_with r l.parts ≡ Some p → part_with t l.parts ≡ Some q → RangesApart p q
-roles_apart l r t p q laid place other two e f =
+roles_apart : (l : Layout) (r t : Role) (p q : Part) → KeepsAll l → IsLaidOut l → (role_place r ≡ 0 → ⊥) → (role_place t ≡ 0 → ⊥) → (r ≡ t → ⊥) → part_with r l.parts ≡ Some p → part_with t l.parts ≡ Some q → RangesApart p q
+roles_apart l r t p q keeps laid place other two e f =
     let x = (laid.roles r place).there p e in
     let y = (laid.roles t other).there q f in
-    let takes : (u : Role) (z : Part) → Contains l.parts z → z.role ≡ u → (role_place u ≡ 0 → ⊥) → takes_file_bytes l z.section ≡ true = λ u z c h n. All-contains (λ (o : Part). has_role role.Raw o ≡ false → takes_file_bytes l o.section ≡ true) l.parts z laid.room c (not_raw u z n h) in
+    let takes : (u : Role) (z : Part) → Contains l.parts z → z.role ≡ u → (role_place u ≡ 0 → ⊥) → takes_file_bytes l z.section ≡ true = λ u z c h n. both (has_data l z.section) (is_hollow_at l z.section) (All-contains (λ (o : Part). has_role role.Raw o ≡ false → has_data l o.section ≡ true) l.parts z laid.room c (not_raw u z n h)) (not_hollow_at l z.section keeps) in
     laid.apart x.listed.0 y.listed.0 p q (listed_index l.parts p x.listed) (listed_index l.parts q y.listed)
     (λ same. two (roles_same x.listed.0 y.listed.0 same (listed_index l.parts p x.listed) (listed_index l.parts q y.listed) x.has y.has))
     (takes r p x.listed x.has place) (takes t q y.listed y.has other)
   where
+    both : (holds hollow : Bool) → holds ≡ true → hollow ≡ false → (holds && not hollow) ≡ true
+    both holds hollow d h = rw (d, h) refl
+
     roles_same : (i j : ℕ) → i ≡ j → slice_get l.parts i ≡ Some p → slice_get l.parts j ≡ Some q → p.role ≡ r → q.role ≡ t → r ≡ t
     roles_same i j same x y h k =
         let both : Some p ≡ Some q = sym x ∙ ap (λ (n : ℕ). slice_get l.parts n) same ∙ y in
@@ -275,9 +280,9 @@ roles_apart l r t p q laid place other two e f =
         sym h ∙ ap (λ (z : Part). z.role) one ∙ k
 
 -- those that have entries in one section lie apart in it
-entries_apart : (l : Layout) (r t : Role) (k : ℕ) → IsLaidOut l → (role_place r ≡ 0 → ⊥) → (role_place t ≡ 0 → ⊥) → (r ≡ t → ⊥) → 1 ≤ bytes_in k (part_with r l.parts) → 1 ≤ bytes_in k (part_with t l.parts)
+entries_apart : (l : Layout) (r t : Role) (k : ℕ) → KeepsAll l → IsLaidOut l → (role_place r ≡ 0 → ⊥) → (role_place t ≡ 0 → ⊥) → (r ≡ t → ⊥) → 1 ≤ bytes_in k (part_with r l.parts) → 1 ≤ bytes_in k (part_with t l.parts)
     → (begins_at (part_with r l.parts) + bytes_in k (part_with r l.parts) ≤ begins_at (part_with t l.parts)) ⊎ (begins_at (part_with t l.parts) + bytes_in k (part_with t l.parts) ≤ begins_at (part_with r l.parts))
-entries_apart l r t k laid place other two some more = by_parts (part_with r l.parts) (part_with t l.parts) refl refl some more
+entries_apart l r t k keeps laid place other two some more = by_parts (part_with r l.parts) (part_with t l.parts) refl refl some more
   where
     by_tests : (p q : Part) → RangesApart p q → (a b : Bool) → 1 ≤ (if a then p.size else 0) → 1 ≤ (if b then q.size else 0) → (p.offset + (if a then p.size else 0) ≤ q.offset) ⊎ (q.offset + (if b then q.size else 0) ≤ p.offset)
     by_tests p q h true true m n = h
@@ -287,7 +292,7 @@ entries_apart l r t k laid place other two some more = by_parts (part_with r l.p
     by_parts : (o u : Option Part) → part_with r l.parts ≡ o → part_with t l.parts ≡ u → 1 ≤ bytes_in k o → 1 ≤ bytes_in k u → (begins_at o + bytes_in k o ≤ begins_at u) ⊎ (begins_at u + bytes_in k u ≤ begins_at o)
     by_parts None u e f m n = absurd (omega (arith, m))
     by_parts (Some p) None e f m n = absurd (omega (arith, n))
-    by_parts (Some p) (Some q) e f m n = by_tests p q (roles_apart l r t p q laid place other two e f) (p.section == k) (q.section == k) m n
+    by_parts (Some p) (Some q) e f m n = by_tests p q (roles_apart l r t p q keeps laid place other two e f) (p.section == k) (q.section == k) m n
 
 -- ---- one section
 
@@ -312,18 +317,23 @@ filled l js gs k s x some there kind flag size =
     fill_both (bytes l) s.offset s.size (bytes_in k (part_with role.RelaPlt l.parts)) (bytes_in k (part_with role.RelaDynGeneral l.parts)) (begins_at (part_with role.RelaPlt l.parts)) (begins_at (part_with role.RelaDynGeneral l.parts))
     (in_section k (part_with role.RelaPlt l.parts) js) (in_section k (part_with role.RelaDynGeneral l.parts) gs) x.lengths
     (lies_in l role.RelaPlt js js gs k s x x.jumps some there) (lies_in l role.RelaDynGeneral gs js gs k s x x.generals some there)
-    size (omega (arith, full, still)) (entries_apart l role.RelaPlt role.RelaDynGeneral k x.laid (λ z. cc) (λ z. cc) (λ z. cc))
+    size (omega (arith, full, still)) (entries_apart l role.RelaPlt role.RelaDynGeneral k x.keeps x.laid (λ z. cc) (λ z. cc) (λ z. cc))
+
+-- a section that is not written is told to be without bytes
+pub rela_told : (b : Bool) (k : ℕ) → (if b then sht_nobits else k) ≡ sht_rela → k ≡ sht_rela
+rela_told true k e = cc
+rela_told false k e = e
 
 -- what a header tells of its section
-header_tells : (told : OutputKind) (info name : ℕ) (s : Section) → HasRelas (section_header told info name s) → (s.kind ≡ sht_rela) × (allocated s.flags ≡ true) × (s.size ≡ 0 → ⊥)
+header_tells : (l : Layout) (info name : ℕ) (s : Section) → HasRelas (section_header l info name s) → (s.kind ≡ sht_rela) × (allocated s.flags ≡ true) × (s.size ≡ 0 → ⊥)
 unfolding section_header
-header_tells told info name s r = (r.kind, alloc_bit s.flags (sym (uncompressed-alloc s.flags) ∙ r.flag), r.some)
+header_tells l info name s r = (rela_told (is_hollow l s) s.kind r.kind, alloc_bit s.flags (sym (uncompressed-alloc s.flags) ∙ r.flag), r.some)
 
-tells_header : (told : OutputKind) (info name : ℕ) (s : Section) → s.kind ≡ sht_rela → allocated s.flags ≡ true → (s.size ≡ 0 → ⊥) → HasRelas (section_header told info name s)
+tells_header : (l : Layout) (info name : ℕ) (s : Section) → is_hollow l s ≡ false → s.kind ≡ sht_rela → allocated s.flags ≡ true → (s.size ≡ 0 → ⊥) → HasRelas (section_header l info name s)
 unfolding section_header
-tells_header told info name s kind flag some = record { kind = kind; flag = uncompressed-alloc s.flags ∙ bit_alloc s.flags flag; some = some }
+tells_header l info name s written kind flag some = record { kind = rw written kind; flag = uncompressed-alloc s.flags ∙ bit_alloc s.flags flag; some = some }
 
-holds : (l : Layout) (info name : ℕ) (s : Section) (es : List Rela) → (f : Fill (bytes l) s.offset s.size es) → HoldsEntries (bytes l) (section_header l.kind info name s) f.whole
+holds : (l : Layout) (info name : ℕ) (s : Section) (es : List Rela) → (f : Fill (bytes l) s.offset s.size es) → HoldsEntries (bytes l) (section_header l info name s) f.whole
 unfolding section_header
 holds l info name s es f = record { size = f.count; fits = f.fits; stands = f.stands }
 
@@ -340,7 +350,7 @@ section_read : (l : Layout) (js gs : List Rela) (k : ℕ) (h : SectionHeader) �
 section_read l js gs k h x there has =
     let b = behind_first l l.sections k h there has in
     let y = b.1 in
-    let tells = header_tells l.kind y.info y.name y.section (subst HasRelas y.is (has_relas h has)) in
+    let tells = header_tells l y.info y.name y.section (subst HasRelas y.is (has_relas h has)) in
     let f = filled l js gs k y.section x b.0 y.listed tells.0 tells.1 (positive y.section.size tells.2) in
     let held = subst (λ (z : SectionHeader). HoldsEntries (bytes l) z f.whole) (sym y.is) (holds l y.info y.name y.section (section_parts l k js gs) f) in
     let same = found_there l h f.whole x.read held in
@@ -353,14 +363,14 @@ section_read l js gs k h x there has =
 empty_section : (l : Layout) (r : Role) (es js gs : List Rela) (k : ℕ) (h : SectionHeader) → IsFixedTable l js gs → IsTableOfRole l r es → slice_get (section_headers_of l l.sections) k ≡ Some h → has_entries h ≡ false → in_section k (part_with r l.parts) es ≡ []
 empty_section l r es js gs k h x t there none = by_part (part_with r l.parts) refl
   where
-    by_header : (p : Part) → part_with r l.parts ≡ Some p → p.section ≡ k → IsHeaderOf l.kind l.sections k h → es ≡ []
+    by_header : (p : Part) → part_with r l.parts ≡ Some p → p.section ≡ k → IsHeaderOf l l.sections k h → es ≡ []
     by_header p e q y =
         let first = (x.laid.loadable (fixed_whole l.kind x.fixed)).stands x.fixed r p t.entry e in
-        let lie = ((x.laid.loadable (fixed_whole l.kind x.fixed)).entries x.fixed k y.section (subst (λ (n : ℕ). 1 ≤ n) q first) y.listed).own r p t.entry e q in
+        let lie = ((x.laid.loadable (fixed_whole l.kind x.fixed)).entries x.fixed k y.section (subst (λ (n : ℕ). 1 ≤ n) q first) y.listed).own (not_hollow l y.section x.keeps) r p t.entry e q in
         let size = size_is l r es p x.laid x.lengths t e in
         elim (cases_lt 0 y.section.size) [
           | inl some ↦
-              (let relas = tells_header l.kind y.info y.name y.section lie.kind lie.allocated (λ z. omega (arith, z, some)) in
+              (let relas = tells_header l y.info y.name y.section (not_hollow l y.section x.keeps) lie.kind lie.allocated (λ z. omega (arith, z, some)) in
               let has = relas_there h (subst HasRelas (sym y.is) relas) in
               let both : true ≡ false = sym has ∙ none in
               cc)

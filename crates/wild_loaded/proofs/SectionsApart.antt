@@ -1,6 +1,6 @@
 -- No two kept sections share a byte of the file.
 use Rattle.std.proofs.Common.{◌≡◌, ◌+◌, ◌<◌, ◌≤◌, inl, inr, Bool, true, false, [], ◌∷◌, length, sym, ap, ◌∙◌, arith, subst}
-use Rattle.std.specs.Prelude.{All, AllPairs, slice_get, if◌then◌else◌}
+use Rattle.std.specs.Prelude.{All, AllPairs, slice_get, if◌then◌else◌, not}
 use Rattle.std.specs.List.{flat_map}
 use Rattle.std.proofs.lemmas.Bool.{and_parts}
 use Rattle.std.proofs.lemmas.List.Elements.{All-weaker}
@@ -14,7 +14,7 @@ use Rattle.wild_types.specs.declared.input.InputSection.{InputSection}
 use Rattle.wild_types.specs.declared.file.File.{File}
 use Rattle.wild_types.specs.declared.file.Group.{Group}
 use Rattle.wild_types.specs.declared.layout.Layout.{Layout}
-use Rattle.wild_types.specs.Lookups.{is_filled, is_frame, has_range}
+use Rattle.wild_types.specs.Lookups.{is_given, is_filled, is_frame, is_hollow_part, has_bytes, has_range}
 use Rattle.wild_types.specs.Parts.{part_with}
 use Rattle.wild_laid.specs.Laid.{laid_files, processed}
 use Rattle.wild_layout.specs.Image.{pieces, thunk_pieces, of_first_file, once_pieces, table_pieces, owned_pieces, offset_in}
@@ -73,7 +73,7 @@ not_frame other h = cc
 
 -- a section that owns bytes is none of frames
 pub filled_place : (l : Layout) (s : InputSection) → is_filled l s ≡ true → file_place l s ≡ offset_in (slice_get l.parts s.part) s.address
-filled_place l s filled = ap (λ (b : Bool). offset_in (if b then part_with role.EhFrame l.parts else slice_get l.parts s.part) s.address) (not_frame s.slot (and_parts (has_range s.slot) _ filled).0)
+filled_place l s filled = ap (λ (b : Bool). offset_in (if b then part_with role.EhFrame l.parts else slice_get l.parts s.part) s.address) (not_frame s.slot (and_parts (has_range s.slot) (has_bytes l s) (and_parts (is_given l s) (not (is_hollow_part l s.part)) filled).0).0)
 
 -- sections with rooms apart share no byte of the file
 pub filled_apart : (l : Layout) (s t : InputSection) → is_filled l s ≡ true → is_filled l t ≡ true → Between Apart (section_room l) s t → HomesApart (section_home l s) (section_home l t)

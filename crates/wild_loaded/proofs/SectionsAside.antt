@@ -11,6 +11,7 @@ use Rattle.wild_types.specs.declared.part.Role.{Role}
 use Rattle.wild_types.specs.declared.part.Role.TheVariants as role
 use Rattle.wild_types.specs.declared.input.InputSection.{InputSection}
 use Rattle.wild_types.specs.declared.layout.Layout.{Layout}
+use Rattle.wild_types.specs.Hollow.{KeepsAll}
 use Rattle.wild_types.specs.Lookups.{is_filled, is_frame}
 use Rattle.wild_types.specs.Parts.{part_with, is_loaded_role}
 use Rattle.wild_clauses.specs.SlotPlaces.{start_of, address_of_part}
@@ -70,12 +71,12 @@ frame_inside l s laid c frame =
     offset_is (Some p) some = refl
 
 -- a section shares no byte with another table
-pub section_apart : (l : Layout) (r : Role) (s : InputSection) → is_loaded_role r ≡ true → (r ≡ role.EhFrame → ⊥) → IsLaidOut l → Contains (all_sections l) s → IsStored l s → HomesApart (role_home l r) (section_home l s)
-section_apart l r s loaded other laid c stored = by_place stored.place
+pub section_apart : (l : Layout) (r : Role) (s : InputSection) → is_loaded_role r ≡ true → (r ≡ role.EhFrame → ⊥) → KeepsAll l → IsLaidOut l → Contains (all_sections l) s → IsStored l s → HomesApart (role_home l r) (section_home l s)
+section_apart l r s loaded other keeps laid c stored = by_place stored.place
   where
     by_place : HasPlace l s → HomesApart (role_home l r) (section_home l s)
-    by_place (Filled filled) = filled_apart_from l r s loaded laid (each_at (SectionLies l) l s laid.inputs (input_of l s c)) filled
-    by_place (Framed frame) = inside_apart (section_home l s) (role_home l role.EhFrame) (role_home l r) stored.some (frame_inside l s laid c frame) (roles_apart l r role.EhFrame loaded refl other laid)
+    by_place (Filled filled) = filled_apart_from l r s loaded keeps laid (each_at (SectionLies l) l s laid.inputs (input_of l s c)) filled
+    by_place (Framed frame) = inside_apart (section_home l s) (role_home l role.EhFrame) (role_home l r) stored.some (frame_inside l s laid c frame) (roles_apart l r role.EhFrame loaded refl other keeps laid)
 
 -- ---- two sections
 
@@ -92,8 +93,8 @@ both_framed h i j sh si lh li le =
     inl (omega (arith, a, b, fh, fi, le))
 
 -- so it is with each two of the layout
-pub sections_aside : (l : Layout) → IsLaidOut l → AllPairs (AreAside l) (all_sections l)
-sections_aside l laid = λ i j d lt m.
+pub sections_aside : (l : Layout) → KeepsAll l → IsLaidOut l → AllPairs (AreAside l) (all_sections l)
+sections_aside l keeps laid = λ i j d lt m.
     let s = get_or (all_sections l) i d in
     let t = get_or (all_sections l) j d in
     let cs : Contains (all_sections l) s = (i, omega (arith, lt, m), get_or_default (all_sections l) i s d (omega (arith, lt, m))) in
@@ -107,9 +108,9 @@ sections_aside l laid = λ i j d lt m.
         by_places ss st (Filled fs) (Filled ft) = filled_apart l s t fs ft across
         by_places ss st (Filled fs) (Framed ft) =
             (inside_apart (section_home l t) (role_home l role.EhFrame) (section_home l s) st (frame_inside l t laid ct ft)
-            (homes_back (role_home l role.EhFrame) (section_home l s) (filled_apart_from l role.EhFrame s refl laid (each_at (SectionLies l) l s laid.inputs (input_of l s cs)) fs)))
+            (homes_back (role_home l role.EhFrame) (section_home l s) (filled_apart_from l role.EhFrame s refl keeps laid (each_at (SectionLies l) l s laid.inputs (input_of l s cs)) fs)))
         by_places ss st (Framed fs) (Filled ft) =
             homes_back (section_home l t) (section_home l s)
             (inside_apart (section_home l s) (role_home l role.EhFrame) (section_home l t) ss (frame_inside l s laid cs fs)
-            (homes_back (role_home l role.EhFrame) (section_home l t) (filled_apart_from l role.EhFrame t refl laid (each_at (SectionLies l) l t laid.inputs (input_of l t ct)) ft)))
+            (homes_back (role_home l role.EhFrame) (section_home l t) (filled_apart_from l role.EhFrame t refl keeps laid (each_at (SectionLies l) l t laid.inputs (input_of l t ct)) ft)))
         by_places ss st (Framed fs) (Framed ft) = both_framed (section_home l s) (section_home l t) (role_home l role.EhFrame) ss st (frame_inside l s laid cs fs) (frame_inside l t laid ct ft) (beside fs ft)

@@ -14,6 +14,7 @@ use Rattle.wild_types.specs.declared.input.InputRelocation.{InputRelocation}
 use Rattle.wild_types.specs.declared.input.InputSection.{InputSection}
 use Rattle.wild_types.specs.Item.{item_with, block_for}
 use Rattle.wild_types.specs.declared.layout.Layout.{Layout}
+use Rattle.wild_types.specs.Hollow.{KeepsAll}
 use Rattle.wild_types.specs.Lookups.{place_of}
 use Rattle.wild_layout.specs.declared.decision.Decision.{Decision}
 use Rattle.wild_layout.specs.declared.decision.Decision.TheVariants.{Nothing, Field, Moved, Left, Rewritten, Partner}
@@ -186,7 +187,7 @@ filling_there l w block s x laws kind numbers legal laid h = by_decision h.by.de
     by_decision Partner made has f = absurd f
 
 -- so it is with all of them
-pub sections_known : (l : Layout) (w : World) → SectionLaws → IsLoadable l.kind → NumbersFit l → IsLegal l w → IsLaidOut l → EachDecided l → All (IsKnown w (image_memory l w)) (all_places l (section_fillings l))
-sections_known l w laws kind numbers legal laid decided =
+pub sections_known : (l : Layout) (w : World) → SectionLaws → KeepsAll l → IsLoadable l.kind → NumbersFit l → IsLegal l w → IsLaidOut l → EachDecided l → All (IsKnown w (image_memory l w)) (all_places l (section_fillings l))
+sections_known l w laws keeps kind numbers legal laid decided =
     All-flat_map (IsKnown w (image_memory l w)) (section_fillings l) (all_sections l)
-    (All-each (λ (s : InputSection). All (IsKnown w (image_memory l w)) (section_fillings l s)) (all_sections l) (λ s c. All-each (IsKnown w (image_memory l w)) (section_fillings l s) (λ x cx. filling_there l w (block_for l (input_of l s c).owner s) s x laws kind numbers legal laid (filled_there l s x laid decided (input_of l s c) (filling_known l s x cx)))))
+    (All-each (λ (s : InputSection). All (IsKnown w (image_memory l w)) (section_fillings l s)) (all_sections l) (λ s c. All-each (IsKnown w (image_memory l w)) (section_fillings l s) (λ x cx. filling_there l w (block_for l (input_of l s c).owner s) s x laws kind numbers legal laid (filled_there l s x keeps laid decided (input_of l s c) (filling_known l s x cx)))))

@@ -65,7 +65,7 @@ kept_there l w m block s k h well lt out =
     let full = well.full in
     let same = well.own in
     let stored = h.laws.filled.carried l s h.well.kind h.well.laid well.kept (omega (arith, lt)) in
-    let own = All-each (Misses (s.address + k)) (section_fillings l s) (λ x cx. out x (subst (λ (k : ℕ). IsFilledThere l k s x) (sym same) (filled_there l s x h.well.laid h.well.decided well.kept.input (filling_known l s x cx)))) in
+    let own = All-each (Misses (s.address + k)) (section_fillings l s) (λ x cx. out x (subst (λ (k : ℕ). IsFilledThere l k s x) (sym same) (filled_there l s x h.well.keeps h.well.laid h.well.decided well.kept.input (filling_known l s x cx)))) in
     kept_at l w m (s.address + k) h (section_misses l w m s k h c stored (omega (arith, lt, full)) own)
 
 by_side : (at k a n : ℕ) (x : Filling) → n ≡ x.width → x.entry.offset ≡ at + a → (k < a) ⊎ (a + n ≤ k) → Misses (at + k) x

@@ -17,8 +17,10 @@ use Rattle.wild_types.specs.declared.file.File.{File}
 use Rattle.wild_types.specs.declared.file.Group.{Group}
 use Rattle.wild_types.specs.declared.symbol.Symbol.{Symbol}
 use Rattle.wild_types.specs.declared.layout.Layout.{Layout}
+use Rattle.wild_types.specs.Hollow.{KeepsAll}
 use Rattle.wild_types.specs.Kinds.{is_executable}
 use Rattle.wild_types.specs.Parts.{is_loaded_role}
+use Rattle.wild_types.proofs.LookupLemmas.{not_hollow_role}
 use Rattle.wild_slot.specs.Storage.{less}
 use Rattle.wild_slot.specs.Slots.{setting_of, storage_pair}
 use Rattle.wild_slot.specs.SlotParts.{is_packed, word_of, slot_words}
@@ -65,17 +67,17 @@ role_loaded : (part : WordPart) → is_loaded_role (role_of_words part) ≡ true
 role_loaded words.Got = refl
 role_loaded words.Block = refl
 
-word_held : (l : Layout) (w : World) (at : ℕ) (d : SlotWord) → PartsAreStored → IsLoadable l.kind → IsLegal l w → IsLaidOut l → WordFits d → WordStands l at d → IsWordStored l w at d
-word_held l w at d law kind legal laid fits h =
+word_held : (l : Layout) (w : World) (at : ℕ) (d : SlotWord) → PartsAreStored → KeepsAll l → IsLoadable l.kind → IsLegal l w → IsLaidOut l → WordFits d → WordStands l at d → IsWordStored l w at d
+word_held l w at d law keeps kind legal laid fits h =
     let n = length-word 8 h.value in
-    let s = stands_held l w (role_of_words (part_of_word d)) at (word 8 h.value) law (role_loaded (part_of_word d)) kind legal laid (omega (arith, n)) h.stands in
+    let s = stands_held l w (role_of_words (part_of_word d)) at (word 8 h.value) law (role_loaded (part_of_word d)) (not_hollow_role l (role_of_words (part_of_word d)) keeps) kind legal laid (omega (arith, n)) h.stands in
     let ends = s.ends in
     record { value = h.value; is = h.is; fits = value_fits l.options.relr at h.value d fits h.is; stands = h.stands; ends = omega (arith, ends, n); held = s.held }
 
-symbol_word : (l : Layout) (w : World) (i at k : ℕ) (s : Symbol) (d : SlotWord) → SlotLaws → PartsAreStored → IsLoadable l.kind → NumbersFit l → IsLegal l w → IsLaidOut l → HasWholeSlots l → slice_get l.symbols i ≡ Some s → got_of s ≡ Some at → slice_get (slots_of l s).words k ≡ Some d → IsWordStored l w (at + word_size * k) d
-symbol_word l w i at k s d laws law kind numbers legal laid slots there got here =
+symbol_word : (l : Layout) (w : World) (i at k : ℕ) (s : Symbol) (d : SlotWord) → SlotLaws → PartsAreStored → KeepsAll l → IsLoadable l.kind → NumbersFit l → IsLegal l w → IsLaidOut l → HasWholeSlots l → slice_get l.symbols i ≡ Some s → got_of s ≡ Some at → slice_get (slots_of l s).words k ≡ Some d → IsWordStored l w (at + word_size * k) d
+symbol_word l w i at k s d laws law keeps kind numbers legal laid slots there got here =
     let fits = words_fit l s (All-contains SymbolNumbers l.symbols s numbers.symbols (listed_at l.symbols i s there)) in
-    word_held l w (at + word_size * k) d law kind legal laid (All-contains WordFits (slots_of l s).words d fits (listed_at (slots_of l s).words k d here)) (laws.words l slots.order i at k s d there got here)
+    word_held l w (at + word_size * k) d law keeps kind legal laid (All-contains WordFits (slots_of l s).words d fits (listed_at (slots_of l s).words k d here)) (laws.words l slots.order i at k s d there got here)
 
 -- ---- stubs
 
@@ -96,11 +98,11 @@ stub_is l s at stub got plt has =
 some_stub : (l : Layout) (at stub : ℕ) → 1 ≤ length (stub_in l at stub).bytes
 some_stub l at stub = (let e = length-stub_of l.machine l.options.bti at stub in omega (arith, e))
 
-stub_held : (l : Layout) (w : World) (i at stub : ℕ) (s : Symbol) → SlotLaws → PartsAreStored → IsLoadable l.kind → IsLegal l w → IsLaidOut l → HasWholeSlots l → slice_get l.symbols i ≡ Some s → got_of s ≡ Some at → plt_of s ≡ Some stub → IsStubStored l w at stub
-stub_held l w i at stub s laws law kind legal laid slots there got plt =
+stub_held : (l : Layout) (w : World) (i at stub : ℕ) (s : Symbol) → SlotLaws → PartsAreStored → KeepsAll l → IsLoadable l.kind → IsLegal l w → IsLaidOut l → HasWholeSlots l → slice_get l.symbols i ≡ Some s → got_of s ≡ Some at → plt_of s ≡ Some stub → IsStubStored l w at stub
+stub_held l w i at stub s laws law keeps kind legal laid slots there got plt =
     let has = laws.stubs l slots.order i at stub s there got plt (whole_slots l i at s laws.stand slots there got) in
     let stands = subst (λ (bs : List ℕ). StandsAt l role.PltGot stub bs) (stub_is l s at stub got plt has) ((laws.stand l slots.order i at s there got).stub stub plt) in
-    record { stands = stands; held = (stands_held l w role.PltGot stub (stub_in l at stub).bytes law refl kind legal laid (some_stub l at stub) stands).held }
+    record { stands = stands; held = (stands_held l w role.PltGot stub (stub_in l at stub).bytes law refl (not_hollow_role l role.PltGot keeps) kind legal laid (some_stub l at stub) stands).held }
 
 -- ---- the pair of the output's own thread-local data
 
@@ -145,17 +147,17 @@ storage_pair_of l at e =
     let are : storage_words l ≡ storage_pair (setting_of l) = ap (λ (o : Option ℕ). storage_at (setting_of l) o) e in
     subst (IsPair l at) (sym are) (pair_of l at (setting_of l))
 
-pair_held : (l : Layout) (w : World) (at k : ℕ) (d : SlotWord) → SlotLaws → PartsAreStored → IsLoadable l.kind → IsLegal l w → IsLaidOut l → HasWholeSlots l → l.tlsld ≡ Some at → slice_get (storage_words l) k ≡ Some d → IsWordStored l w (at + word_size * k) d
-pair_held l w at k d laws law kind legal laid slots e here =
+pair_held : (l : Layout) (w : World) (at k : ℕ) (d : SlotWord) → SlotLaws → PartsAreStored → KeepsAll l → IsLoadable l.kind → IsLegal l w → IsLaidOut l → HasWholeSlots l → l.tlsld ≡ Some at → slice_get (storage_words l) k ≡ Some d → IsWordStored l w (at + word_size * k) d
+pair_held l w at k d laws law keeps kind legal laid slots e here =
     let fits = All-contains WordFits (storage_words l) d (storage_fits l) (listed_at (storage_words l) k d here) in
     let pair = storage_pair_of l at e in
     let stands = subst (λ (xs : List ℕ). StandsAt l role.Got at (word_bytes xs)) pair.file (laws.pair l slots.order laid.some_group at e) in
     let there = subst (λ (ws : List SlotWord). slice_get ws k ≡ Some d) pair.are here in
-    word_held l w (at + word_size * k) d law kind legal laid fits (pair_stands l pair.first at pair.value pair.second k d pair.front stands there)
+    word_held l w (at + word_size * k) d law keeps kind legal laid fits (pair_stands l pair.first at pair.value pair.second k d pair.front stands there)
 
 pub slots_held : SlotLaws → PartsAreStored → SlotsAreStored
 slots_held laws law = record {
-  words = λ l w i at k s d kind numbers legal laid slots there got here. symbol_word l w i at k s d laws law kind numbers legal laid slots there got here;
-  stubs = λ l w i at stub s kind legal laid slots there got plt. stub_held l w i at stub s laws law kind legal laid slots there got plt;
-  pair = λ l w at k d kind legal laid slots e here. pair_held l w at k d laws law kind legal laid slots e here;
+  words = λ l w i at k s d keeps kind numbers legal laid slots there got here. symbol_word l w i at k s d laws law keeps kind numbers legal laid slots there got here;
+  stubs = λ l w i at stub s keeps kind legal laid slots there got plt. stub_held l w i at stub s laws law keeps kind legal laid slots there got plt;
+  pair = λ l w at k d keeps kind legal laid slots e here. pair_held l w at k d laws law keeps kind legal laid slots e here;
 }

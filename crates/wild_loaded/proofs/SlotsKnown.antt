@@ -21,6 +21,7 @@ use Rattle.wild_types.specs.declared.symbol.Resolution.{Resolution}
 use Rattle.wild_types.specs.declared.symbol.Symbol.{Symbol}
 use Rattle.wild_types.specs.declared.file.File.{File}
 use Rattle.wild_types.specs.declared.layout.Layout.{Layout}
+use Rattle.wild_types.specs.Hollow.{KeepsAll}
 use Rattle.wild_types.specs.Kinds.{is_executable}
 use Rattle.wild_slot.specs.Storage.{less}
 use Rattle.wild_slot.specs.Slots.{slot, setting_of, with_items, items_at, no_slot}
@@ -83,6 +84,7 @@ pub record SlotLaws : Type 0 where
 
 -- what is known of a layout
 pub record IsFilledSlots (l : Layout) (w : World) : Type 0 where
+  pub keeps : KeepsAll l
   pub kind : IsLoadable l.kind
   pub numbers : NumbersFit l
   pub legal : IsLegal l w
@@ -126,7 +128,7 @@ site_known l w s x laws h listed c =
     let low = slots_low s numbers in
     let k = site_of (slots_at s) (slots_of l s).words x low c in
     let there : slice_get l.symbols listed.0 ≡ Some s = slice_get-get_or l.symbols listed.0 s listed.1 ∙ ap (λ (y : Symbol). Some y) listed.2 in
-    let b = laws.stored.words l w listed.0 (slots_at s) k.index s x.word h.kind h.numbers h.legal h.laid h.whole there (place_there l s x c) k.word in
+    let b = laws.stored.words l w listed.0 (slots_at s) k.index s x.word h.keeps h.kind h.numbers h.legal h.laid h.whole there (place_there l s x c) k.word in
     let ends = b.ends in
     let place = k.place in
     let is : slots_at s + word_size * k.index ≡ x.at = omega (arith, ends, place) in
@@ -156,9 +158,9 @@ pair_known l w x laws h c = by_place l.tlsld refl
         let first : unwrap_or l.tlsld 0 ≡ at = ap (λ (o : Option ℕ). unwrap_or o 0) e in
         let here = subst (λ (a : ℕ). Contains (sites_at a (storage_words l)) x) first c in
         let zeroth = storage_first l at e in
-        let low : at < 2 ^ 64 = (let ends = (laws.stored.pair l w at 0 zeroth.0 h.kind h.legal h.laid h.whole e zeroth.1).ends in omega (arith, ends)) in
+        let low : at < 2 ^ 64 = (let ends = (laws.stored.pair l w at 0 zeroth.0 h.keeps h.kind h.legal h.laid h.whole e zeroth.1).ends in omega (arith, ends)) in
         let k = site_of at (storage_words l) x low here in
-        let b = laws.stored.pair l w at k.index x.word h.kind h.legal h.laid h.whole e k.word in
+        let b = laws.stored.pair l w at k.index x.word h.keeps h.kind h.legal h.laid h.whole e k.word in
         let ends = b.ends in
         let place = k.place in
         let is : at + word_size * k.index ≡ x.at = omega (arith, ends, place) in

@@ -73,7 +73,7 @@ word_loaded l w m i at k s d h there got here =
     let group = Contains-flat_map (file_sites l) written.group.files written.file y written.holds file in
     let all = Contains-flat_map (group_sites l) l.groups written.group y written.listed group in
     let after = site_after l w m x.place d h (Contains-append_right (pair_sites l) (all_sites l) y all) (λ a e. all) in
-    let ends = (h.laws.filled.slots.stored.words l w i at k s d h.well.kind h.well.numbers h.well.legal h.well.laid h.well.whole there got here).ends in
+    let ends = (h.laws.filled.slots.stored.words l w i at k s d h.well.keeps h.well.kind h.well.numbers h.well.legal h.well.laid h.well.whole there got here).ends in
     let is = x.is in
     word_at w m x.place (w.base + at + 8 * k) d h.laws.filled.changes.read (omega (arith, is, first, ends)) after
 
@@ -81,7 +81,7 @@ word_loaded l w m i at k s d h there got here =
 
 stub_loaded : (l : Layout) (w : World) (m : Memory) (i at stub : ℕ) (s : Symbol) → IsMovedImage l w m → slice_get l.symbols i ≡ Some s → got_of s ≡ Some at → plt_of s ≡ Some stub → Holds m (w.base + stub) (stub_in l at stub).bytes
 stub_loaded l w m i at stub s h there got plt = λ k lt.
-    let b = h.laws.filled.slots.stored.stubs l w i at stub s h.well.kind h.well.legal h.well.laid h.well.whole there got plt in
+    let b = h.laws.filled.slots.stored.stubs l w i at stub s h.well.keeps h.well.kind h.well.legal h.well.laid h.well.whole there got plt in
     let n = stands_inside l role.PltGot stub (stub_in l at stub).bytes refl h.well.laid b.stands in
     let from = n.0 in
     let to = n.1 in
@@ -95,7 +95,7 @@ stub_loaded l w m i at stub s h there got plt = λ k lt.
 pair_loaded : (l : Layout) (w : World) (m : Memory) (at k : ℕ) (d : SlotWord) → IsMovedImage l w m → l.tlsld ≡ Some at → slice_get (storage_words l) k ≡ Some d → (x : ℕ) × (number_in m (w.base + at + 8 * k) 8 ≡ Some x) × IsLoadedWord w m (w.base + at + 8 * k) d x
 pair_loaded l w m at k d h e here =
     let first : unwrap_or l.tlsld 0 ≡ at = ap (λ (o : Option ℕ). unwrap_or o 0) e in
-    let s = h.laws.filled.slots.stored.pair l w at k d h.well.kind h.well.legal h.well.laid h.well.whole e here in
+    let s = h.laws.filled.slots.stored.pair l w at k d h.well.keeps h.well.kind h.well.legal h.well.laid h.well.whole e here in
     let ends = s.ends in
     let x = site_there (unwrap_or l.tlsld 0) k (storage_words l) d (omega (arith, first, ends)) here in
     let is = x.is in

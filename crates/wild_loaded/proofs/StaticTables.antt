@@ -104,7 +104,7 @@ record IsLong (l : Layout) (ss : List Section) : Type 0 where
 long : (l : Layout) (ss : List Section) → 1 ≤ length ss → IsLong l ss
 long l [] h = absurd (omega (arith, h))
 long l (s ∷ ss) h =
-    let rest = flat_map (λ (h : SectionHeader). spell (section_header_fields h)) (headers_from l.kind (told_of l) 1 (length s.name + 1) ss) in
+    let rest = flat_map (λ (h : SectionHeader). spell (section_header_fields h)) (headers_from l (told_of l) 1 (length s.name + 1) ss) in
     let a = length-append (spell (section_header_fields (null_header l))) rest in
     let b = length-section_header (null_header l) in
     record { some = omega (arith, a, b); first = null_byte l rest }
@@ -155,7 +155,7 @@ header_offset l = refl
 -- ---- the tables
 
 pub sections_found : TablesStand → LengthsOfEntries → EntriesAreRead → PairStands → FixedOutputsMoveNothing → SectionTablesAreFound
-sections_found stand lengths read pair fixed = λ l kind plain numbers laid slots.
+sections_found stand lengths read pair fixed = λ l keeps kind plain numbers laid slots.
     let still = plain_still l.kind plain in
     let moves = fixed l still in
     let none = relatives_none l moves still in
@@ -164,6 +164,7 @@ sections_found stand lengths read pair fixed = λ l kind plain numbers laid slot
     let static = plain_fixed l.kind kind plain in
     let table : IsFixedTable l js gs = record {
       laid = laid;
+      keeps = keeps;
       fixed = static;
       stand = stand;
       lengths = lengths;

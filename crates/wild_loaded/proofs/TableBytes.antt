@@ -22,7 +22,9 @@ use Rattle.wild_needs.specs.DynamicPlaces as dynamic_places
 use Rattle.wild_types.specs.Kinds.{needs_dynamic}
 use Rattle.wild_types.specs.FileRoles.{is_prelude}
 use Rattle.wild_types.specs.Lookups.{image_size}
+use Rattle.wild_types.specs.Hollow.{KeepsAll}
 use Rattle.wild_types.specs.Parts.{role_place, part_with, is_table_role}
+use Rattle.wild_types.proofs.LookupLemmas.{not_hollow_at}
 use Rattle.wild_headers.specs.Headers.{program_header}
 use Rattle.wild_slot.specs.declared.slot_parts.EntryPart.TheVariants as entries
 use Rattle.wild_needs.specs.SlotShares.{block_words}
@@ -124,12 +126,13 @@ unfolding program_header
 segment_offset l g a = refl
 
 -- the bytes of a table stand in a loaded segment, at its address
-table_at : (l : Layout) (r : Role) (p : Part) → TablesStand → IsLaidOut l → (role_place r ≡ 0 → ⊥) → needs_dynamic l.kind ≡ true → is_table_role r ≡ true → part_with r l.parts ≡ Some p → 1 ≤ p.size → length (table_bytes l r) ≡ p.size → StandsAt (bytes l) (map (program_header l) l.segments) p.address (table_bytes l r)
-table_at l r p stands laid place needs relative there some full =
-    let c = (laid.loadable (dynamic_whole l.kind needs)).tables needs r p relative there some in
+table_at : (l : Layout) (r : Role) (p : Part) → TablesStand → KeepsAll l → IsLaidOut l → (role_place r ≡ 0 → ⊥) → needs_dynamic l.kind ≡ true → is_table_role r ≡ true → part_with r l.parts ≡ Some p → 1 ≤ p.size → length (table_bytes l r) ≡ p.size → StandsAt (bytes l) (map (program_header l) l.segments) p.address (table_bytes l r)
+table_at l r p stands keeps laid place needs relative there some full =
+    let written = not_hollow_at l p.section keeps in
+    let c = (laid.loadable (dynamic_whole l.kind needs)).tables needs r p relative there written some in
     let to = c.to in
     let sizes = (All-contains (SegmentLoads (image_size l)) l.segments c.segment (laid.loadable (dynamic_whole l.kind needs)).each c.listed).sizes c.loaded in
-    let here = stands l laid r place p there some in
+    let here = stands l laid r place p there written some in
     record {
       segment = program_header l c.segment;
       contained = Contains-map (program_header l) l.segments c.segment c.listed;
@@ -141,16 +144,16 @@ table_at l r p stands laid place needs relative there some full =
     }
 
 -- a part that is there
-table_there : (l : Layout) (r : Role) → TablesStand → IsLaidOut l → (role_place r ≡ 0 → ⊥) → needs_dynamic l.kind ≡ true → is_table_role r ≡ true → (o : Option Part) → part_with r l.parts ≡ o → IsTableOf (bytes l) (map (program_header l) l.segments) (dynamic_places.part_address o) (dynamic_places.part_size o) (table_bytes l r)
-table_there l r stands laid place needs relative None e = (laid.roles r place).missing e
-table_there l r stands laid place needs relative (Some p) e =
+table_there : (l : Layout) (r : Role) → TablesStand → KeepsAll l → IsLaidOut l → (role_place r ≡ 0 → ⊥) → needs_dynamic l.kind ≡ true → is_table_role r ≡ true → (o : Option Part) → part_with r l.parts ≡ o → IsTableOf (bytes l) (map (program_header l) l.segments) (dynamic_places.part_address o) (dynamic_places.part_size o) (table_bytes l r)
+table_there l r stands keeps laid place needs relative None e = (laid.roles r place).missing e
+table_there l r stands keeps laid place needs relative (Some p) e =
     let full = ((laid.roles r place).there p e).size in
-    (sym full, λ some. table_at l r p stands laid place needs relative e (omega (arith, some, full)) full)
+    (sym full, λ some. table_at l r p stands keeps laid place needs relative e (omega (arith, some, full)) full)
 
 -- the words, by their tags
-pub words_named : (l : Layout) → TablesStand → IsLaidOut l → needs_dynamic l.kind ≡ true → IsTableOf (bytes l) (map (program_header l) l.segments) (dynamic.dynamic_entry l tags.Relr) (dynamic.dynamic_entry l tags.RelrSize) (table_bytes l role.RelrDyn)
+pub words_named : (l : Layout) → TablesStand → KeepsAll l → IsLaidOut l → needs_dynamic l.kind ≡ true → IsTableOf (bytes l) (map (program_header l) l.segments) (dynamic.dynamic_entry l tags.Relr) (dynamic.dynamic_entry l tags.RelrSize) (table_bytes l role.RelrDyn)
 unfolding dynamic.dynamic_entry
-words_named l stands laid needs = table_there l role.RelrDyn stands laid (λ e. cc) needs refl (part_with role.RelrDyn l.parts) refl
+words_named l stands keeps laid needs = table_there l role.RelrDyn stands keeps laid (λ e. cc) needs refl (part_with role.RelrDyn l.parts) refl
 
 -- ---- entries with addends, of which the relative ones stand first
 
@@ -175,10 +178,10 @@ stands_joined whole xs ys a b e s t = record {
         ap (λ (m : ℕ). slice_index whole m) z ∙ here ∙ sym (get_or-append_right xs ys (length xs) k 0 refl high)
 
 -- both parts have bytes: one segment has them
-both_at : (l : Layout) (p q : Part) → TablesStand → IsLaidOut l → needs_dynamic l.kind ≡ true → part_with role.RelaDynRelative l.parts ≡ Some p → part_with role.RelaDynGeneral l.parts ≡ Some q → 1 ≤ p.size → 1 ≤ q.size
+both_at : (l : Layout) (p q : Part) → TablesStand → KeepsAll l → IsLaidOut l → needs_dynamic l.kind ≡ true → part_with role.RelaDynRelative l.parts ≡ Some p → part_with role.RelaDynGeneral l.parts ≡ Some q → 1 ≤ p.size → 1 ≤ q.size
     → StandsAt (bytes l) (map (program_header l) l.segments) p.address (table_bytes l role.RelaDynRelative ++ table_bytes l role.RelaDynGeneral)
-both_at l p q stands laid needs first second some more =
-    let c = (laid.loadable (dynamic_whole l.kind needs)).together needs p q first second some more in
+both_at l p q stands keeps laid needs first second some more =
+    let c = (laid.loadable (dynamic_whole l.kind needs)).together needs p q first second (not_hollow_at l p.section keeps) (not_hollow_at l q.section keeps) some more in
     let b = (laid.loadable (dynamic_whole l.kind needs)).behind p q first second in
     let to = c.to in
     let at = b.address in
@@ -187,8 +190,8 @@ both_at l p q stands laid needs first second some more =
     let n = ((laid.roles role.RelaDynRelative (λ z. cc)).there p first).size in
     let m = ((laid.roles role.RelaDynGeneral (λ z. cc)).there q second).size in
     let x = length-append (table_bytes l role.RelaDynRelative) (table_bytes l role.RelaDynGeneral) in
-    let here = stands l laid role.RelaDynRelative (λ z. cc) p first some in
-    let there = stands l laid role.RelaDynGeneral (λ z. cc) q second more in
+    let here = stands l laid role.RelaDynRelative (λ z. cc) p first (not_hollow_at l p.section keeps) some in
+    let there = stands l laid role.RelaDynGeneral (λ z. cc) q second (not_hollow_at l q.section keeps) more in
     let whole = stands_joined (bytes l) (table_bytes l role.RelaDynRelative) (table_bytes l role.RelaDynGeneral) p.offset q.offset (omega (arith, off, n)) here there in
     record {
       segment = program_header l c.segment;
@@ -231,11 +234,11 @@ full_part (Some x) p h = by_test (x.size == 0) refl h
     by_test false z e = (let is : x ≡ p = cc in (e, subst (λ (y : Part). 1 ≤ y.size) is (some x.size z)))
 
 -- of two parts, by which of them have bytes
-entries_by : (l : Layout) (o q x y : Option Part) → TablesStand → IsLaidOut l → needs_dynamic l.kind ≡ true → part_with role.RelaDynRelative l.parts ≡ o → part_with role.RelaDynGeneral l.parts ≡ q → dynamic_places.unless_empty o ≡ x → dynamic_places.unless_empty q ≡ y
+entries_by : (l : Layout) (o q x y : Option Part) → TablesStand → KeepsAll l → IsLaidOut l → needs_dynamic l.kind ≡ true → part_with role.RelaDynRelative l.parts ≡ o → part_with role.RelaDynGeneral l.parts ≡ q → dynamic_places.unless_empty o ≡ x → dynamic_places.unless_empty q ≡ y
     → IsTableOf (bytes l) (map (program_header l) l.segments) (dynamic_places.part_address (option_or x y)) (dynamic_places.beside (min (2 ^ 64 - 1) (dynamic_places.bytes_of o + dynamic_places.bytes_of q)) (option_or x y)) (table_bytes l role.RelaDynRelative ++ table_bytes l role.RelaDynGeneral)
-entries_by l o q None None stands laid needs e f g h =
+entries_by l o q None None stands keeps laid needs e f g h =
     ap (λ (bs : List ℕ). bs ++ table_bytes l role.RelaDynGeneral) (empty_table l role.RelaDynRelative o laid (λ z. cc) e g) ∙ empty_table l role.RelaDynGeneral q laid (λ z. cc) f h
-entries_by l o q None (Some b) stands laid needs e f g h =
+entries_by l o q None (Some b) stands keeps laid needs e f g h =
     let none = empty_table l role.RelaDynRelative o laid (λ z. cc) e g in
     let zero_size = empty_size o g in
     let full = full_part q b h in
@@ -245,8 +248,8 @@ entries_by l o q None (Some b) stands laid needs e f g h =
     let ends = part_low l b laid t.listed in
     let bytes_are : dynamic_places.bytes_of q ≡ b.size = ap (λ (p : Option Part). dynamic_places.bytes_of p) full.0 in
     let P : List ℕ → Type 0 = λ bs. (min (2 ^ 64 - 1) (dynamic_places.bytes_of o + dynamic_places.bytes_of q) ≡ length (bs ++ table_bytes l role.RelaDynGeneral)) × (0 < length (bs ++ table_bytes l role.RelaDynGeneral) → StandsAt (bytes l) (map (program_header l) l.segments) b.address (bs ++ table_bytes l role.RelaDynGeneral)) in
-    subst P (sym none) (omega (arith, zero_size, bytes_are, size, ends), λ some. table_at l role.RelaDynGeneral b stands laid (λ z. cc) needs refl there full.1 size)
-entries_by l o q (Some a) None stands laid needs e f g h =
+    subst P (sym none) (omega (arith, zero_size, bytes_are, size, ends), λ some. table_at l role.RelaDynGeneral b stands keeps laid (λ z. cc) needs refl there full.1 size)
+entries_by l o q (Some a) None stands keeps laid needs e f g h =
     let none = empty_table l role.RelaDynGeneral q laid (λ z. cc) f h in
     let zero_size = empty_size q h in
     let full = full_part o a g in
@@ -257,8 +260,8 @@ entries_by l o q (Some a) None stands laid needs e f g h =
     let bytes_are : dynamic_places.bytes_of o ≡ a.size = ap (λ (p : Option Part). dynamic_places.bytes_of p) full.0 in
     let alone : table_bytes l role.RelaDynRelative ++ table_bytes l role.RelaDynGeneral ≡ table_bytes l role.RelaDynRelative = ap (λ (bs : List ℕ). table_bytes l role.RelaDynRelative ++ bs) none ∙ append-nil (table_bytes l role.RelaDynRelative) in
     let P : List ℕ → Type 0 = λ bs. (min (2 ^ 64 - 1) (dynamic_places.bytes_of o + dynamic_places.bytes_of q) ≡ length bs) × (0 < length bs → StandsAt (bytes l) (map (program_header l) l.segments) a.address bs) in
-    subst P (sym alone) (omega (arith, zero_size, bytes_are, size, ends), λ some. table_at l role.RelaDynRelative a stands laid (λ z. cc) needs refl there full.1 size)
-entries_by l o q (Some a) (Some b) stands laid needs e f g h =
+    subst P (sym alone) (omega (arith, zero_size, bytes_are, size, ends), λ some. table_at l role.RelaDynRelative a stands keeps laid (λ z. cc) needs refl there full.1 size)
+entries_by l o q (Some a) (Some b) stands keeps laid needs e f g h =
     let first = full_part o a g in
     let second = full_part q b h in
     let here : part_with role.RelaDynRelative l.parts ≡ Some a = e ∙ first.0 in
@@ -272,16 +275,16 @@ entries_by l o q (Some a) (Some b) stands laid needs e f g h =
     let front : dynamic_places.bytes_of o ≡ a.size = ap (λ (p : Option Part). dynamic_places.bytes_of p) first.0 in
     let back : dynamic_places.bytes_of q ≡ b.size = ap (λ (p : Option Part). dynamic_places.bytes_of p) second.0 in
     let x = length-append (table_bytes l role.RelaDynRelative) (table_bytes l role.RelaDynGeneral) in
-    (omega (arith, front, back, n, m, low, high, x), λ some. both_at l a b stands laid needs here there first.1 second.1)
+    (omega (arith, front, back, n, m, low, high, x), λ some. both_at l a b stands keeps laid needs here there first.1 second.1)
 
-pub entries_named : (l : Layout) → TablesStand → IsLaidOut l → needs_dynamic l.kind ≡ true → IsTableOf (bytes l) (map (program_header l) l.segments) (dynamic.dynamic_entry l tags.Rela) (dynamic.dynamic_entry l tags.RelaSize) (table_bytes l role.RelaDynRelative ++ table_bytes l role.RelaDynGeneral)
+pub entries_named : (l : Layout) → TablesStand → KeepsAll l → IsLaidOut l → needs_dynamic l.kind ≡ true → IsTableOf (bytes l) (map (program_header l) l.segments) (dynamic.dynamic_entry l tags.Rela) (dynamic.dynamic_entry l tags.RelaSize) (table_bytes l role.RelaDynRelative ++ table_bytes l role.RelaDynGeneral)
 unfolding dynamic.dynamic_entry dynamic_places.first_entries dynamic_places.entries_bytes
-entries_named l stands laid needs = entries_by l (part_with role.RelaDynRelative l.parts) (part_with role.RelaDynGeneral l.parts) _ _ stands laid needs refl refl refl refl
+entries_named l stands keeps laid needs = entries_by l (part_with role.RelaDynRelative l.parts) (part_with role.RelaDynGeneral l.parts) _ _ stands keeps laid needs refl refl refl refl
 
 -- the entries that stubs go through, by their tags
-pub jumps_named : (l : Layout) → TablesStand → IsLaidOut l → needs_dynamic l.kind ≡ true → IsTableOf (bytes l) (map (program_header l) l.segments) (dynamic.dynamic_entry l tags.JmpRel) (dynamic.dynamic_entry l tags.PltRelSize) (table_bytes l role.RelaPlt)
+pub jumps_named : (l : Layout) → TablesStand → KeepsAll l → IsLaidOut l → needs_dynamic l.kind ≡ true → IsTableOf (bytes l) (map (program_header l) l.segments) (dynamic.dynamic_entry l tags.JmpRel) (dynamic.dynamic_entry l tags.PltRelSize) (table_bytes l role.RelaPlt)
 unfolding dynamic.dynamic_entry
-jumps_named l stands laid needs = by_part (part_with role.RelaPlt l.parts) refl
+jumps_named l stands keeps laid needs = by_part (part_with role.RelaPlt l.parts) refl
   where
     empty : (bs : List ℕ) → length bs ≡ 0 → bs ≡ []
     empty [] h = refl
@@ -291,7 +294,7 @@ jumps_named l stands laid needs = by_part (part_with role.RelaPlt l.parts) refl
     by_size p true e z = (let full = ((laid.roles role.RelaPlt (λ z. cc)).there p e).size in let none = eqb-true p.size 0 z in empty (table_bytes l role.RelaPlt) (omega (arith, full, none)))
     by_size p false e z =
         let full = ((laid.roles role.RelaPlt (λ z. cc)).there p e).size in
-        (sym full, λ some. table_at l role.RelaPlt p stands laid (λ z. cc) needs refl e (omega (arith, some, full)) full)
+        (sym full, λ some. table_at l role.RelaPlt p stands keeps laid (λ z. cc) needs refl e (omega (arith, some, full)) full)
 
     by_part : (o : Option Part) → part_with role.RelaPlt l.parts ≡ o → IsTableOf (bytes l) (map (program_header l) l.segments) (dynamic_places.part_address (dynamic_places.unless_empty o)) (dynamic_places.part_size (dynamic_places.unless_empty o)) (table_bytes l role.RelaPlt)
     by_part None e = (laid.roles role.RelaPlt (λ z. cc)).missing e

@@ -1,6 +1,6 @@
 -- The parts of slots and stubs in memory: they share no byte with each other, nor with an input section.
 use Rattle.std.proofs.Common.{◌≡◌, ℕ, ◌+◌, ◌-◌, ◌^◌, ◌≤◌, inl, inr, Bool, true, false, List, length, refl, sym, ap, ◌∙◌, arith, subst}
-use Rattle.std.specs.Prelude.{Option, Some, None, All, AllPairs, Contains, slice_get}
+use Rattle.std.specs.Prelude.{Option, Some, None, All, AllPairs, Contains, slice_get, ◌&&◌, not}
 use Rattle.std.proofs.lemmas.Bool.{eqb-true}
 use Rattle.std.proofs.lemmas.List.Elements.{All-contains}
 use Rattle.std.proofs.lemmas.Option.{slice_get-get_or}
@@ -9,7 +9,9 @@ use Rattle.wild_types.specs.declared.part.Role.{Role}
 use Rattle.wild_types.specs.declared.part.Role.TheVariants as role
 use Rattle.wild_types.specs.declared.input.InputSection.{InputSection}
 use Rattle.wild_types.specs.declared.layout.Layout.{Layout}
-use Rattle.wild_types.specs.Lookups.{takes_file_bytes, is_filled}
+use Rattle.wild_types.specs.Hollow.{is_hollow_role, KeepsAll}
+use Rattle.wild_types.specs.Lookups.{has_data, is_hollow_at, takes_file_bytes, is_filled}
+use Rattle.wild_types.proofs.LookupLemmas.{not_hollow_at}
 use Rattle.wild_types.specs.Parts.{role_place, has_role, is_loaded_role, part_with}
 use Rattle.wild_clauses.specs.SlotPlaces.{address_of_part, start_of}
 use Rattle.wild_layout.specs.Image.{offset_in}
@@ -19,7 +21,7 @@ use Rattle.wild_meaning.specs.World.{IsLoadable}
 use Rattle.wild_slots.specs.Order.{end_of}
 use Rattle.wild_slots.specs.Stand.{StandsAt}
 use Rattle.wild_loaded.specs.Memory.{IsStored}
-use Rattle.wild_loaded.proofs.PartsHeld.{placed, part_carried}
+use Rattle.wild_loaded.proofs.PartsHeld.{placed, written_part, part_carried}
 use Rattle.wild_loaded.proofs.Fillings.{Filling, AreBeside}
 use Rattle.wild_loaded.proofs.Homes.{Home, HasHome, HomesApart, LiesIn}
 use Rattle.wild_loaded.proofs.SectionsApart.{section_home, filled_place}
@@ -34,12 +36,12 @@ home_of (Some p) = record { address = p.address; offset = p.offset; size = p.siz
 abbrev pub role_home : Layout → Role → Home
 role_home l r = home_of (part_with r l.parts)
 
-pub role_there : (l : Layout) (r : Role) → is_loaded_role r ≡ true → IsLoadable l.kind → IsLaidOut l → HasHome l (role_home l r)
-role_there l r loaded kind laid = by_part (part_with r l.parts) refl
+pub role_there : (l : Layout) (r : Role) → is_loaded_role r ≡ true → is_hollow_role l r ≡ false → IsLoadable l.kind → IsLaidOut l → HasHome l (role_home l r)
+role_there l r loaded written kind laid = by_part (part_with r l.parts) refl
   where
     by_part : (o : Option Part) → part_with r l.parts ≡ o → HasHome l (home_of o)
     by_part None e k lt = absurd (omega (arith, lt))
-    by_part (Some p) e k lt = part_carried l r p k loaded kind laid e lt
+    by_part (Some p) e k lt = part_carried l r p k loaded kind laid e (written_part l r p written e) lt
 
 -- ---- parts
 
@@ -60,8 +62,8 @@ not_raw p h = by_test (has_role role.Raw p) refl
         raw_place : has_role role.Raw p ≡ true → role_place p.role ≡ 0
         raw_place e = eqb-true (role_place p.role) (role_place role.Raw) e
 
-part_of : (l : Layout) (r : Role) (p : Part) → is_loaded_role r ≡ true → IsLaidOut l → part_with r l.parts ≡ Some p → IsPartOf l r p
-part_of l r p loaded laid e =
+part_of : (l : Layout) (r : Role) (p : Part) → is_loaded_role r ≡ true → KeepsAll l → IsLaidOut l → part_with r l.parts ≡ Some p → IsPartOf l r p
+part_of l r p loaded keeps laid e =
     let t = (laid.roles r (placed r loaded)).there p e in
     let c = t.listed in
     let raw = not_raw p (subst (λ (x : Role). is_loaded_role x ≡ true) (sym t.has) loaded) in
@@ -69,27 +71,30 @@ part_of l r p loaded laid e =
       index = c.0;
       there = slice_get-get_or l.parts c.0 p c.1 ∙ ap (λ (q : Part). Some q) c.2;
       has = t.has;
-      takes = All-contains (λ (q : Part). has_role role.Raw q ≡ false → takes_file_bytes l q.section ≡ true) l.parts p laid.room c raw;
+      takes = both (has_data l p.section) (is_hollow_at l p.section) (All-contains (λ (q : Part). has_role role.Raw q ≡ false → has_data l q.section ≡ true) l.parts p laid.room c raw) (not_hollow_at l p.section keeps);
     }
+  where
+    both : (holds hollow : Bool) → holds ≡ true → hollow ≡ false → (holds && not hollow) ≡ true
+    both holds hollow d h = rw (d, h) refl
 
 one_part : (l : Layout) (i j : ℕ) (p q : Part) → slice_get l.parts i ≡ Some p → slice_get l.parts j ≡ Some q → i ≡ j → p ≡ q
 one_part l i j p q a b e = (let both : Some p ≡ Some q = sym a ∙ ap (λ (k : ℕ). slice_get l.parts k) e ∙ b in cc)
 
 -- the parts of two roles
-pub roles_apart : (l : Layout) (r t : Role) → is_loaded_role r ≡ true → is_loaded_role t ≡ true → (r ≡ t → ⊥) → IsLaidOut l → HomesApart (role_home l r) (role_home l t)
-roles_apart l r t lr lt other laid = by_parts (part_with r l.parts) (part_with t l.parts) refl refl
+pub roles_apart : (l : Layout) (r t : Role) → is_loaded_role r ≡ true → is_loaded_role t ≡ true → (r ≡ t → ⊥) → KeepsAll l → IsLaidOut l → HomesApart (role_home l r) (role_home l t)
+roles_apart l r t lr lt other keeps laid = by_parts (part_with r l.parts) (part_with t l.parts) refl refl
   where
     by_parts : (o x : Option Part) → part_with r l.parts ≡ o → part_with t l.parts ≡ x → HomesApart (home_of o) (home_of x)
     by_parts None x a b = inl (omega arith)
     by_parts (Some p) None a b = inr (omega arith)
     by_parts (Some p) (Some q) a b =
-        let m = part_of l r p lr laid a in
-        let n = part_of l t q lt laid b in
+        let m = part_of l r p lr keeps laid a in
+        let n = part_of l t q lt keeps laid b in
         laid.apart m.index n.index p q m.there n.there (λ e. other (sym m.has ∙ ap (λ (x : Part). x.role) (one_part l m.index n.index p q m.there n.there e) ∙ n.has)) m.takes n.takes
 
 -- the part of a role and what stands in a raw part
-pub room_apart : (l : Layout) (r : Role) (k at n : ℕ) (q : Part) → is_loaded_role r ≡ true → IsLaidOut l → HasRoom l k at n q → HomesApart (role_home l r) (record { address = at; offset = offset_in (slice_get l.parts k) at; size = n })
-room_apart l r k at n q loaded laid h = by_part (part_with r l.parts) refl
+pub room_apart : (l : Layout) (r : Role) (k at n : ℕ) (q : Part) → is_loaded_role r ≡ true → KeepsAll l → IsLaidOut l → HasRoom l k at n q → HomesApart (role_home l r) (record { address = at; offset = offset_in (slice_get l.parts k) at; size = n })
+room_apart l r k at n q loaded keeps laid h = by_part (part_with r l.parts) refl
   where
     home : Home
     home = record { address = at; offset = offset_in (slice_get l.parts k) at; size = n }
@@ -104,17 +109,17 @@ room_apart l r k at n q loaded laid h = by_part (part_with r l.parts) refl
     by_part : (o : Option Part) → part_with r l.parts ≡ o → HomesApart (home_of o) home
     by_part None e = inl (omega arith)
     by_part (Some p) e =
-        let m = part_of l r p loaded laid e in
+        let m = part_of l r p loaded keeps laid e in
         within p (laid.apart m.index k p q m.there h.listed (λ same. raw_not_loaded r loaded (sym m.has ∙ ap (λ (x : Part). x.role) (one_part l m.index k p q m.there h.listed same) ∙ h.raw)) m.takes h.takes)
       where
         raw_not_loaded : (t : Role) → is_loaded_role t ≡ true → t ≡ role.Raw → ⊥
         raw_not_loaded t h e = (let z = subst (λ (x : Role). is_loaded_role x ≡ true) e h in cc)
 
 -- the part of a role and an input section
-pub filled_apart_from : (l : Layout) (r : Role) (s : InputSection) → is_loaded_role r ≡ true → IsLaidOut l → SectionLies l s → is_filled l s ≡ true → HomesApart (role_home l r) (section_home l s)
-filled_apart_from l r s loaded laid lies filled =
+pub filled_apart_from : (l : Layout) (r : Role) (s : InputSection) → is_loaded_role r ≡ true → KeepsAll l → IsLaidOut l → SectionLies l s → is_filled l s ≡ true → HomesApart (role_home l r) (section_home l s)
+filled_apart_from l r s loaded keeps laid lies filled =
     let q = (lies.owner filled).stands in
-    let apart = room_apart l r s.part s.address s.size q.0 loaded laid q.1 in
+    let apart = room_apart l r s.part s.address s.size q.0 loaded keeps laid q.1 in
     subst (λ (k : ℕ). HomesApart (role_home l r) (record { address = s.address; offset = k; size = s.size })) (sym (filled_place l s filled)) apart
 
 -- ---- what stands in a table

@@ -5,7 +5,7 @@ use Rattle.wild_geometry.specs.Laid.{file_place}
 use Rattle.wild_loaded.proofs.SectionsAside.{inside_apart, frame_inside}
 use Rattle.wild_geometry.proofs.StoodSections.{all_sections, input_of, in_processed, laid_of, laid_same_all}
 use Rattle.wild_loaded.proofs.Rooms.{room_of, length-room, section_room, rooms_in, stood_files}
-use Rattle.std.proofs.Common.{◌≡◌, ℕ, ◌+◌, ◌<◌, inl, inr, true, List, [], ◌∷◌, length, Some, flat_map, refl, sym, ap, ◌∙◌, arith, subst, ◌++◌}
+use Rattle.std.proofs.Common.{◌≡◌, ℕ, ◌+◌, ◌<◌, inl, inr, Bool, true, if◌then◌else◌, List, [], ◌∷◌, length, Some, flat_map, refl, sym, ap, ◌∙◌, arith, subst, ◌++◌}
 use Rattle.std.specs.Prelude.{All, Contains, Result, slice_index, slice_get}
 use Rattle.std.proofs.lemmas.List.Elements.{All-contains, Contains-append_right}
 use Rattle.wild_words.specs.Words.{Stands}
@@ -19,6 +19,8 @@ use Rattle.wild_types.specs.declared.file.Group.{Group}
 use Rattle.wild_types.specs.declared.layout.Thunk.{Thunk}
 use Rattle.wild_types.specs.declared.layout.Layout.{Layout}
 use Rattle.wild_types.specs.FileThunks.{thunk_size, thunks_of}
+use Rattle.wild_types.specs.Hollow.{KeepsAll}
+use Rattle.wild_types.proofs.LookupLemmas.{not_hollow_part}
 use Rattle.wild_types.specs.Lookups.{is_filled, files_of}
 use Rattle.wild_types.specs.Parts.{is_loaded_role}
 use Rattle.wild_relax.specs.ThunkAArch64.{thunk_aarch64}
@@ -69,41 +71,43 @@ each_of l P t h k =
 abbrev thunk_at : Layout → Thunk → Piece
 thunk_at l t = record { at = thunk_offset l t; bytes = thunk_bytes l t }
 
-of_thunks : (l : Layout) (t : Thunk) (k : IsOfFile l t) → Contains (thunk_pieces l k.file) (thunk_at l t)
-of_thunks l t k = Contains-flat_map (thunk_piece l) (thunks_of l k.file) t (thunk_at l t) k.own (0, omega arith, refl)
+of_thunks : (l : Layout) (t : Thunk) → KeepsAll l → (k : IsOfFile l t) → Contains (thunk_pieces l k.file) (thunk_at l t)
+of_thunks l t keeps k =
+    let one = Contains-flat_map (thunk_piece l) (thunks_of l k.file) t (thunk_at l t) k.own (0, omega arith, refl) in
+    subst (λ (b : Bool). Contains (if b then [] else flat_map (thunk_piece l) (thunks_of l k.file)) (thunk_at l t)) (sym (not_hollow_part l l.primary_part keeps)) one
 
-thunk_listed : (l : Layout) (t : Thunk) → IsOfFile l t → Contains (pieces l) (thunk_at l t)
+thunk_listed : (l : Layout) (t : Thunk) → KeepsAll l → IsOfFile l t → Contains (pieces l) (thunk_at l t)
 unfolding pieces
-thunk_listed l t k =
+thunk_listed l t keeps k =
     let a = laid_of l k.group k.file k.filed in
     let f = laid_file l a.0 k.file in
     let sorted = of_last_file f (flat_map (sorted_piece l) (sorted_inputs l)) in
     let once = of_first_file f (once_pieces l) in
-    let owned = Contains-append_right (section_pieces l f) (sorted ++ (once ++ thunk_pieces l f)) (thunk_at l t) (Contains-append_right sorted (once ++ thunk_pieces l f) (thunk_at l t) (Contains-append_right once (thunk_pieces l f) (thunk_at l t) (of_thunks l t k))) in
+    let owned = Contains-append_right (section_pieces l f) (sorted ++ (once ++ thunk_pieces l f)) (thunk_at l t) (Contains-append_right sorted (once ++ thunk_pieces l f) (thunk_at l t) (Contains-append_right once (thunk_pieces l f) (thunk_at l t) (of_thunks l t keeps k))) in
     let in_group = Contains-flat_map (file_pieces l) (laid_files l k.group) f (thunk_at l t) a.1 owned in
     Contains-flat_map_from (group_pieces l) 0 l.groups k.group (thunk_at l t) k.grouped (λ n. Contains-append_right (table_pieces l n k.group) (owned_pieces l k.group) (thunk_at l t) in_group)
 
-thunk_stands : (l : Layout) (t : Thunk) → IsLaidOut l → IsOfFile l t → Stands (bytes l) (thunk_offset l t) (thunk_bytes l t)
-thunk_stands l t laid k = piece_stands l (thunk_at l t) laid (thunk_listed l t k)
+thunk_stands : (l : Layout) (t : Thunk) → KeepsAll l → IsLaidOut l → IsOfFile l t → Stands (bytes l) (thunk_offset l t) (thunk_bytes l t)
+thunk_stands l t keeps laid k = piece_stands l (thunk_at l t) laid (thunk_listed l t keeps k)
 
 -- ---- in memory
 
-thunk_held : (l : Layout) (w : World) (t : Thunk) → BytesAreLoaded → IsLoadable l.kind → IsLegal l w → IsLaidOut l → IsOfFile l t → Holds (image_memory l w) (w.base + t.address) (thunk_bytes l t)
-thunk_held l w t law kind legal laid k = λ i lt.
+thunk_held : (l : Layout) (w : World) (t : Thunk) → BytesAreLoaded → KeepsAll l → IsLoadable l.kind → IsLegal l w → IsLaidOut l → IsOfFile l t → Holds (image_memory l w) (w.base + t.address) (thunk_bytes l t)
+thunk_held l w t law keeps kind legal laid k = λ i lt.
     let n = length-thunk_bytes l t in
-    let c = (each_of l (ThunkLies l) t laid.thunks k).carried i (omega (arith, lt, n)) in
+    let c = (each_of l (ThunkLies l) t (laid.thunks (not_hollow_part l l.primary_part keeps)) k).carried i (omega (arith, lt, n)) in
     let e : w.base + (t.address + i) ≡ w.base + t.address + i = omega arith in
-    subst (λ (a : ℕ). byte_in (image_memory l w) a ≡ Some (slice_index (thunk_bytes l t) i)) e (byte_carried l w c.0 (thunk_offset l t + i) (t.address + i) (slice_index (thunk_bytes l t) i) law kind legal laid c.1 (byte_stands (bytes l) (thunk_offset l t) i (thunk_bytes l t) lt (thunk_stands l t laid k)))
+    subst (λ (a : ℕ). byte_in (image_memory l w) a ≡ Some (slice_index (thunk_bytes l t) i)) e (byte_carried l w c.0 (thunk_offset l t + i) (t.address + i) (slice_index (thunk_bytes l t) i) law kind legal laid c.1 (byte_stands (bytes l) (thunk_offset l t) i (thunk_bytes l t) lt (thunk_stands l t keeps laid k)))
 
 -- the bytes of a thunk with a target
 aimed : (l : Layout) (t : Thunk) (g : GoesOnTo t.address (thunk_target l t)) → thunk_bytes l t ≡ (thunk_aarch64 t.address g.target).bytes
 aimed l t g = ap (λ (r : Result ℕ Fault). (thunk_aarch64 t.address (target_or_zero r)).bytes) g.known
 
 pub thunks_there : BytesAreLoaded → ThunksAreThere
-thunks_there law = λ l w kind legal laid none b t c d.
+thunks_there law = λ l w keeps kind legal laid none b t c d.
     let k = of_file l b t laid c d in
-    let g = goes_on t.address (thunk_target l t) (each_of l (CanGoOn l) t (thunks_of_groups l none) k) in
-    record { target = g.target; known = g.known; reaches = g.reaches; stands = subst (Holds (image_memory l w) (w.base + t.address)) (aimed l t g) (thunk_held l w t law kind legal laid k) }
+    let g = goes_on t.address (thunk_target l t) (each_of l (CanGoOn l) t (thunks_of_groups l keeps none) k) in
+    record { target = g.target; known = g.known; reaches = g.reaches; stands = subst (Holds (image_memory l w) (w.base + t.address)) (aimed l t g) (thunk_held l w t law keeps kind legal laid k) }
 
 -- ---- behind what the tables fill
 
@@ -118,14 +122,14 @@ thunks_stood : (l : Layout) → flat_map (thunk_pieces l) (stood_files l) ≡ fl
 thunks_stood l = flat_map-flat_map (thunk_pieces l) (laid_files l) l.groups ∙ laid_same_all (thunk_pieces l) l (λ at f. refl) ∙ sym (flat_map-flat_map (thunk_pieces l) (λ (g : Group). g.files) l.groups)
 
 -- a thunk shares no byte with a section that owns bytes
-filled_apart : (l : Layout) (t : Thunk) (s : InputSection) → IsLaidOut l → IsOfFile l t → Contains (all_sections l) s → is_filled l s ≡ true → HomesApart (thunk_home l t) (section_home l s)
-filled_apart l t s laid k c filled =
+filled_apart : (l : Layout) (t : Thunk) (s : InputSection) → KeepsAll l → IsLaidOut l → IsOfFile l t → Contains (all_sections l) s → is_filled l s ≡ true → HomesApart (thunk_home l t) (section_home l s)
+filled_apart l t s keeps laid k c filled =
     let i = input_of l s c in
     let own : Contains (section_room l s) (room_of l s) = subst (λ (ps : List Piece). Contains ps (room_of l s)) (sym (one l s filled)) (0, omega arith, refl) in
     let in_file = Contains-flat_map (section_room l) (processed l i.file) s (room_of l s) (in_processed l i.file i.owner s i.listed) own in
     let file = Contains-flat_map (laid_files l) l.groups i.group i.file i.grouped i.filed in
     let section = Contains-flat_map (rooms_in l) (stood_files l) i.file (room_of l s) file in_file in
-    let thunk = subst (λ (ps : List Piece). Contains ps (thunk_at l t)) (sym (thunks_stood l)) (Contains-flat_map (thunk_pieces l) (files_of l.groups) k.file (thunk_at l t) (Contains-flat_map (λ (g : Group). g.files) l.groups k.group k.file k.grouped k.filed) (of_thunks l t k)) in
+    let thunk = subst (λ (ps : List Piece). Contains ps (thunk_at l t)) (sym (thunks_stood l)) (Contains-flat_map (thunk_pieces l) (files_of l.groups) k.file (thunk_at l t) (Contains-flat_map (λ (g : Group). g.files) l.groups k.group k.file k.grouped k.filed) (of_thunks l t keeps k)) in
     let all = All-contains (λ a. All (Apart a) (flat_map (thunk_pieces l) (stood_files l))) (flat_map (rooms_in l) (stood_files l)) (room_of l s) (thunk_pieces_apart l laid) section in
     sides (All-contains (Apart (room_of l s)) (flat_map (thunk_pieces l) (stood_files l)) (thunk_at l t) all thunk) (length-room l s) (length-thunk_bytes l t) (filled_place l s filled)
   where
@@ -137,28 +141,28 @@ filled_apart l t s laid k c filled =
     sides (inr le) fs ft e = inl (omega (arith, le, ft, e))
 
 -- nor with a table
-table_apart : (l : Layout) (t : Thunk) (r : Role) → IsLaidOut l → ThunkLies l t → is_loaded_role r ≡ true → HomesApart (thunk_home l t) (role_home l r)
-table_apart l t r laid h loaded = homes_back (role_home l r) (thunk_home l t) (room_apart l r l.primary_part t.address thunk_size h.stands.0 loaded laid h.stands.1)
+table_apart : (l : Layout) (t : Thunk) (r : Role) → KeepsAll l → IsLaidOut l → ThunkLies l t → is_loaded_role r ≡ true → HomesApart (thunk_home l t) (role_home l r)
+table_apart l t r keeps laid h loaded = homes_back (role_home l r) (thunk_home l t) (room_apart l r l.primary_part t.address thunk_size h.stands.0 loaded keeps laid h.stands.1)
 
 -- nor with any section
-section_apart : (l : Layout) (t : Thunk) (s : InputSection) → IsLaidOut l → IsOfFile l t → ThunkLies l t → Contains (all_sections l) s → IsStored l s → HomesApart (thunk_home l t) (section_home l s)
-section_apart l t s laid k lies c stored = by_place stored.place
+section_apart : (l : Layout) (t : Thunk) (s : InputSection) → KeepsAll l → IsLaidOut l → IsOfFile l t → ThunkLies l t → Contains (all_sections l) s → IsStored l s → HomesApart (thunk_home l t) (section_home l s)
+section_apart l t s keeps laid k lies c stored = by_place stored.place
   where
     by_place : HasPlace l s → HomesApart (thunk_home l t) (section_home l s)
-    by_place (Filled filled) = filled_apart l t s laid k c filled
-    by_place (Framed frame) = inside_apart (section_home l s) (role_home l role.EhFrame) (thunk_home l t) stored.some (frame_inside l s laid c frame) (table_apart l t role.EhFrame laid lies refl)
+    by_place (Filled filled) = filled_apart l t s keeps laid k c filled
+    by_place (Framed frame) = inside_apart (section_home l s) (role_home l role.EhFrame) (thunk_home l t) stored.some (frame_inside l s laid c frame) (table_apart l t role.EhFrame keeps laid lies refl)
 
 -- a byte of a thunk is filled by none of them
 thunk_kept : (l : Layout) (w : World) (m : Memory) (t : Thunk) (i : ℕ) → IsMovedImage l w m → IsOfFile l t → i < thunk_size → byte_in m (w.base + t.address + i) ≡ byte_in (image_memory l w) (w.base + t.address + i)
 thunk_kept l w m t i h k lt =
-    let lies = each_of l (ThunkLies l) t h.well.laid.thunks k in
-    let same = kept_at l w m (t.address + i) h (run_misses l w m (thunk_home l t) i h (home_there l t lies) (λ s c stored. section_apart l t s h.well.laid k lies c stored) (λ r loaded. table_apart l t r h.well.laid lies loaded) lt) in
+    let lies = each_of l (ThunkLies l) t (h.well.laid.thunks (not_hollow_part l l.primary_part h.well.keeps)) k in
+    let same = kept_at l w m (t.address + i) h (run_misses l w m (thunk_home l t) i h (home_there l t lies) (λ s c stored. section_apart l t s h.well.keeps h.well.laid k lies c stored) (λ r loaded. table_apart l t r h.well.keeps h.well.laid lies loaded) lt) in
     let e : w.base + (t.address + i) ≡ w.base + t.address + i = omega arith in
     subst (λ (a : ℕ). byte_in m a ≡ byte_in (image_memory l w) a) e same
 
 pub thunks_moved : (l : Layout) (w : World) (m : Memory) → ThunksAreThere → IsMovedImage l w m → HasThunks l w m
 thunks_moved l w m law h = λ b t c d.
-    let before = law l w h.well.kind h.well.legal h.well.laid h.well.none b t c d in
+    let before = law l w h.well.keeps h.well.kind h.well.legal h.well.laid h.well.none b t c d in
     let n = length-thunk t.address before.target in
     record {
       target = before.target;

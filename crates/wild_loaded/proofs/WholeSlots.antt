@@ -3,7 +3,7 @@ use Rattle.wild_layout.proofs.FaultLemmas.{slots_of_groups}
 use Rattle.wild_loaded.specs.Laws.{SlotsAreThere}
 
 pub slots_there : SlotsAreThere
-slots_there = λ l flags laid none. record {
+slots_there = λ l keeps flags laid none. record {
   order = record { slots = laid.slots; flags = laid.slot_flags; resolved = flags; files = laid.files };
-  whole = slots_of_groups l none;
+  whole = slots_of_groups l keeps none;
 }

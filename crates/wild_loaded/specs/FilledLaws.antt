@@ -2,6 +2,7 @@
 --   TablesAreMade   over the loaded segments each place and each entry makes a known change, and no two share a byte
 use Rattle.std.specs.Prelude.{◌≡◌, [], AllPairs}
 use Rattle.wild_types.specs.declared.layout.Layout.{Layout}
+use Rattle.wild_types.specs.Hollow.{KeepsAll}
 use Rattle.wild_layout.specs.Numbers.{NumbersFit}
 use Rattle.wild_layout.specs.Faults.{flat_map_from, group_errors}
 use Rattle.wild_layout.specs.Geometry.{IsLaidOut}
@@ -22,4 +23,4 @@ pub record AreMade (l : Layout) (w : World) : Type 0 where
 
 -- where no group has a fault, each is known, and no two share a byte
 abbrev pub TablesAreMade : Type 0
-TablesAreMade = (l : Layout) (w : World) → IsLoadable l.kind → NumbersFit l → IsLegal l w → IsLaidOut l → EachDecided l → HasWholeSlots l → flat_map_from (group_errors l) 0 l.groups ≡ [] → AreMade l w
+TablesAreMade = (l : Layout) (w : World) → KeepsAll l → IsLoadable l.kind → NumbersFit l → IsLegal l w → IsLaidOut l → EachDecided l → HasWholeSlots l → flat_map_from (group_errors l) 0 l.groups ≡ [] → AreMade l w

@@ -27,7 +27,9 @@ use Rattle.wild_types.specs.declared.symbol.Symbol.{Symbol}
 use Rattle.wild_types.specs.declared.layout.Layout.{Layout}
 use Rattle.wild_types.specs.declared.input.InputRelocation.{InputRelocation}
 use Rattle.wild_slot.specs.declared.slot.SlotEntry.{SlotEntry}
+use Rattle.wild_types.specs.Hollow.{KeepsAll}
 use Rattle.wild_types.specs.Kinds.{needs_dynamic}
+use Rattle.wild_types.specs.Lookups.{is_hollow_at}
 use Rattle.wild_types.specs.ResolvedFlags.{HaveTheirFlags}
 use Rattle.wild_types.specs.Parts.{is_loaded_role, part_with}
 use Rattle.wild_needs.specs.SlotShares.{word_size, storage_words}
@@ -98,45 +100,45 @@ ZerosAreStored = (l : Layout) (w : World) (a : ℕ) → IsLoadable l.kind → Is
 abbrev pub BlanksAreStored : Type 0
 BlanksAreStored = (l : Layout) (w : World) (s : InputSection) (k : ℕ) → IsLoadable l.kind → IsLegal l w → IsLaidOut l → IsBlank l s → HasFileBytes l s.part → k < s.size → byte_in (image_memory l w) (w.base + (s.address + k)) ≡ Some 0
 
--- slots are whole where no group has a fault
+-- slots are whole where no group has a fault and all is written
 abbrev pub SlotsAreThere : Type 0
-SlotsAreThere = (l : Layout) → HaveTheirFlags l → IsLaidOut l → flat_map_from (group_errors l) 0 l.groups ≡ [] → HasWholeSlots l
+SlotsAreThere = (l : Layout) → KeepsAll l → HaveTheirFlags l → IsLaidOut l → flat_map_from (group_errors l) 0 l.groups ≡ [] → HasWholeSlots l
 
--- memory has the table of each role that a program reads
+-- memory has the table of each role that a program reads, unless nothing of its section is written
 abbrev pub PartsAreStored : Type 0
-PartsAreStored = (l : Layout) (w : World) (r : Role) (p : Part) → is_loaded_role r ≡ true → IsLoadable l.kind → IsLegal l w → IsLaidOut l → part_with r l.parts ≡ Some p → IsPartStored l w r p
+PartsAreStored = (l : Layout) (w : World) (r : Role) (p : Part) → is_loaded_role r ≡ true → IsLoadable l.kind → IsLegal l w → IsLaidOut l → part_with r l.parts ≡ Some p → is_hollow_at l p.section ≡ false → IsPartStored l w r p
 
--- each word of the slots of symbols, 8 bytes behind the one before it, their stubs, and the pair
+-- each word of the slots of symbols, 8 bytes behind the one before it, their stubs, and the pair, where all is written
 pub record SlotsAreStored : Type 0 where
-  pub words : (l : Layout) (w : World) (i at k : ℕ) (s : Symbol) (d : SlotWord) → IsLoadable l.kind → NumbersFit l → IsLegal l w → IsLaidOut l → HasWholeSlots l → slice_get l.symbols i ≡ Some s → got_of s ≡ Some at
+  pub words : (l : Layout) (w : World) (i at k : ℕ) (s : Symbol) (d : SlotWord) → KeepsAll l → IsLoadable l.kind → NumbersFit l → IsLegal l w → IsLaidOut l → HasWholeSlots l → slice_get l.symbols i ≡ Some s → got_of s ≡ Some at
       → slice_get (slots_of l s).words k ≡ Some d → IsWordStored l w (at + word_size * k) d
-  pub stubs : (l : Layout) (w : World) (i at stub : ℕ) (s : Symbol) → IsLoadable l.kind → IsLegal l w → IsLaidOut l → HasWholeSlots l → slice_get l.symbols i ≡ Some s → got_of s ≡ Some at → plt_of s ≡ Some stub → IsStubStored l w at stub
-  pub pair : (l : Layout) (w : World) (at k : ℕ) (d : SlotWord) → IsLoadable l.kind → IsLegal l w → IsLaidOut l → HasWholeSlots l → l.tlsld ≡ Some at → slice_get (storage_words l) k ≡ Some d → IsWordStored l w (at + word_size * k) d
+  pub stubs : (l : Layout) (w : World) (i at stub : ℕ) (s : Symbol) → KeepsAll l → IsLoadable l.kind → IsLegal l w → IsLaidOut l → HasWholeSlots l → slice_get l.symbols i ≡ Some s → got_of s ≡ Some at → plt_of s ≡ Some stub → IsStubStored l w at stub
+  pub pair : (l : Layout) (w : World) (at k : ℕ) (d : SlotWord) → KeepsAll l → IsLoadable l.kind → IsLegal l w → IsLaidOut l → HasWholeSlots l → l.tlsld ≡ Some at → slice_get (storage_words l) k ≡ Some d → IsWordStored l w (at + word_size * k) d
 
--- each thunk, where no group has a fault
+-- each thunk, where no group has a fault and all is written
 abbrev pub ThunksAreThere : Type 0
-ThunksAreThere = (l : Layout) (w : World) → IsLoadable l.kind → IsLegal l w → IsLaidOut l → flat_map_from (group_errors l) 0 l.groups ≡ [] → HasThunks l w (image_memory l w)
+ThunksAreThere = (l : Layout) (w : World) → KeepsAll l → IsLoadable l.kind → IsLegal l w → IsLaidOut l → flat_map_from (group_errors l) 0 l.groups ≡ [] → HasThunks l w (image_memory l w)
 
 -- the image has a dynamic section: the entries of libraries, those of the last file, and zeros up to the end of its room
 pub record HasEntries (l : Layout) : Type 0 where
   pub room : ℕ
   pub dynamic : HasDynamic (bytes l) (headers_of l) (all_needed l ++ dynamic_records l room)
 
--- so it is where the output needs one
+-- so it is where the output needs one and all is written
 abbrev pub DynamicSectionsStand : Type 0
-DynamicSectionsStand = (l : Layout) → needs_dynamic l.kind ≡ true → NumbersFit l → IsLaidOut l → HasEntries l
+DynamicSectionsStand = (l : Layout) → KeepsAll l → needs_dynamic l.kind ≡ true → NumbersFit l → IsLaidOut l → HasEntries l
 
 -- in whatever legal world, its entries tell a dynamic linker what it is to do
 abbrev pub DynamicSectionsTell : Type 0
-DynamicSectionsTell = (l : Layout) (w : World) → IsLoadable l.kind → needs_dynamic l.kind ≡ true → NumbersFit l → IsLegal l w → IsLaidOut l → HasWholeSlots l → TellsLinker (processor_of l.machine) (bytes l)
+DynamicSectionsTell = (l : Layout) (w : World) → KeepsAll l → IsLoadable l.kind → needs_dynamic l.kind ≡ true → NumbersFit l → IsLegal l w → IsLaidOut l → HasWholeSlots l → TellsLinker (processor_of l.machine) (bytes l)
 
 -- the image of an output that needs a dynamic section has one, by which a loader finds the tables that the groups give
 abbrev pub TablesAreFound : Type 0
-TablesAreFound = (l : Layout) → needs_dynamic l.kind ≡ true → NumbersFit l → IsLaidOut l → HasWholeSlots l → HasTablesIn l
+TablesAreFound = (l : Layout) → KeepsAll l → needs_dynamic l.kind ≡ true → NumbersFit l → IsLaidOut l → HasWholeSlots l → HasTablesIn l
 
 -- any other has none, and a loader finds them by a section
 abbrev pub SectionTablesAreFound : Type 0
-SectionTablesAreFound = (l : Layout) → IsLoadable l.kind → needs_dynamic l.kind ≡ false → NumbersFit l → IsLaidOut l → HasWholeSlots l → HasSectionsIn l
+SectionTablesAreFound = (l : Layout) → KeepsAll l → IsLoadable l.kind → needs_dynamic l.kind ≡ false → NumbersFit l → IsLaidOut l → HasWholeSlots l → HasSectionsIn l
 
 -- what entries make a loader do in a legal world: that of a word of a slot stores a number or notes a descriptor, by the symbol's
 -- answer or its resolver's, and so does that of the pair; that of a field that is left to it stores a number there; that of a

@@ -2,21 +2,23 @@
 --   headers_of l       the program headers of the image
 --   image_memory l w   its loaded segments in a world, before any entry is applied
 --   IsStored l s       the section's bytes stand in the file, and loaded segments carry each to its address; a section as it stands
---   EachDecided l      each section that is read is decided
+--   EachDecided l      each section that is read and written is decided
 --   HasMemory l w      the loader accepts the image, and memory has each kept item as it was decided, the slots and the thunks
-use Rattle.std.specs.Prelude.{◌≡◌, ℕ, ◌+◌, ◌<◌, ◌≤◌, true, List, length, map, Some, Ok}
+--   HasBareMemory l w  the loader accepts the image of which no table is written, and memory has each kept item as the file has it
+use Rattle.std.specs.Prelude.{◌≡◌, ℕ, ◌+◌, ◌<◌, ◌≤◌, true, false, List, length, map, Some, Ok}
 use Rattle.wild_records.specs.declared.program_header.ProgramHeader.{ProgramHeader}
 use Rattle.wild_types.specs.declared.input.InputSection.{InputSection}
 use Rattle.wild_types.specs.Item.{Item, item_of}
 use Rattle.wild_types.specs.declared.layout.Layout.{Layout}
 use Rattle.wild_types.specs.declared.section.Segment.{Segment}
+use Rattle.wild_types.specs.Hollow.{is_dropped}
 use Rattle.wild_types.specs.Lookups.{is_read, is_frame, is_filled}
 use Rattle.wild_headers.specs.Headers.{file_header, program_header}
 use Rattle.wild_layout.specs.Image.{bytes}
 use Rattle.wild_layout.specs.Loadable.{CarriesByte}
 use Rattle.wild_geometry.specs.Slots.{HasSlots}
 use Rattle.wild_geometry.specs.Thunks.{HasThunks}
-use Rattle.wild_geometry.specs.Loaded.{IsDecided, HasItem, InMemory}
+use Rattle.wild_geometry.specs.Loaded.{IsDecided, HasItem, InFile, InMemory}
 use Rattle.wild_loader.specs.declared.memory.Memory.{Memory}
 use Rattle.wild_loader.specs.declared.world.World.{World}
 use Rattle.wild_loader.specs.declared.world.Answer.{Answer}
@@ -49,9 +51,9 @@ headers_of l = map (program_header l) l.segments
 abbrev pub image_memory : Layout → World → Memory
 image_memory l w = loaded_memory (machine_of (file_header l)) w.base (bytes l) (headers_of l)
 
--- each section whose relocations are read has decisions that lie apart
+-- each section that is written and whose relocations are read has decisions that lie apart
 abbrev pub EachDecided : Layout → Type 0
-EachDecided l = (s : InputSection) (k : IsLaid l s) → is_read s ≡ true → IsDecided l (item_of l k.owner s)
+EachDecided l = (s : InputSection) (k : IsLaid l s) → is_read s ≡ true → is_dropped l s ≡ false → IsDecided l (item_of l k.owner s)
 
 -- the loader accepts the image; memory has each kept item as it was decided, addresses that move more by the base, the
 -- slots, stubs and thunks, copies of symbols, and else zeros behind the file bytes of segments, and in sections without data
@@ -65,3 +67,13 @@ pub record HasMemory (l : Layout) (w : World) : Type 0 where
   pub zeros : (a : ℕ) → IsBehind l a → IsNotCopied l w a → byte_in memory (w.base + a) ≡ Some 0
   pub blanks : (s : InputSection) (k : ℕ) → IsBlank l s → HasFileBytes l s.part → k < s.size → byte_in memory (w.base + (s.address + k)) ≡ Some 0
   pub copies : (i raw : ℕ) (x : Answer) → HasCopy l w i raw x → Holds memory (w.base + raw) x.bytes
+
+-- the loader accepts the image, of which no table is written that it applies; memory has each kept item as the file has it, zeros behind the
+-- file bytes of segments, and in sections without data
+pub record HasBareMemory (l : Layout) (w : World) : Type 0 where
+  pub memory : Memory
+  pub accepted : load w (bytes l) ≡ Ok memory
+  pub machine : memory.machine ≡ processor_of l.machine
+  pub items : (item : Item) → IsKept l item → HasItem l w memory item InFile
+  pub zeros : (a : ℕ) → IsBehind l a → byte_in memory (w.base + a) ≡ Some 0
+  pub blanks : (s : InputSection) (k : ℕ) → IsBlank l s → HasFileBytes l s.part → k < s.size → byte_in memory (w.base + (s.address + k)) ≡ Some 0

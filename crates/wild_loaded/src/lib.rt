@@ -3,7 +3,7 @@
 
 ghost use Rattle.wild_loaded.specs.Laws.{BlanksAreStored, CopiesAreThere, DynamicSectionsStand, DynamicSectionsTell, EntriesHaveChanges, HeadersStand, HeadersTell, OwnersAreKnown, PartsAreStored, SectionTablesAreFound, SectionsAreCarried, SectionsAreStored, SegmentsAreLoadable, SlotsAreStored, SlotsAreThere, TablesAreFound, ThunksAreThere, ZerosAreStored};
 ghost use Rattle.wild_loaded.specs.FilledLaws.{TablesAreMade};
-ghost use Rattle.wild_loaded.specs.MovedLaws.{ImagesAreLoaded, MemoryIsMoved};
+ghost use Rattle.wild_loaded.specs.MovedLaws.{BareImagesAreLoaded, ImagesAreLoaded, MemoryIsMoved};
 
 use wild_geometry::tables_stand;
 use wild_loader::{
@@ -190,6 +190,18 @@ pub fn images_are_loaded()
     tables_are_made();
     tables_are_applied();
     memory_is_moved();
+    dynamic_images_are_loaded();
+    static_images_are_loaded();
+}
+
+/// The loader accepts the image for debuggers alone in every legal world, without tables to apply, and memory has each kept section as the
+/// file has it.
+pub fn bare_images_are_loaded()
+    ensures { BareImagesAreLoaded }
+{
+    headers_stand();
+    sections_are_stored();
+    segments_are_loadable();
     dynamic_images_are_loaded();
     static_images_are_loaded();
 }

@@ -17,7 +17,7 @@ use Rattle.wild_loader.specs.Instruction.{Template, stands, signed_32}
 use Rattle.wild_loader.specs.CodeX86_64.{branch, bare, rex, rex2, with_prefix}
 use Rattle.wild_loader.specs.InstructionX86_64.{whole_sequences, short}
 use Rattle.wild_loader.specs.Effect.{window, first_standing, narrowed, value_in, effect_of, step, step_of, step_x86_64}
-use Rattle.wild_loader.specs.StepLaws.{CallsAreNear}
+use Rattle.wild_loader.specs.StepLawsX86_64.{CallsAreNear}
 use Rattle.wild_loader.proofs.Held.{held-first, held-rest, number-front}
 use Rattle.wild_loader.proofs.StandLemmas.{standing-append, standing_passes}
 use Rattle.wild_loader.proofs.Windows.{held-window}

@@ -10,7 +10,7 @@ use Rattle.wild_loader.specs.Memory.{Holds}
 use Rattle.wild_loader.specs.Instruction.{Template, fits, stands}
 use Rattle.wild_loader.specs.InstructionX86_64.{templates_x86_64}
 use Rattle.wild_loader.specs.Effect.{window, first_standing, value_in, effect_of, step_x86_64}
-use Rattle.wild_loader.specs.StepLaws.{StepsAreLongest}
+use Rattle.wild_loader.specs.StepLawsX86_64.{StepsAreLongest}
 use Rattle.wild_loader.proofs.Windows.{window-held}
 use Rattle.wild_loader.proofs.MeantLemmas.{stands-take, stands_long, take_long, held_front, sized}
 

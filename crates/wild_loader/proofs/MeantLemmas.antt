@@ -18,7 +18,8 @@ use Rattle.wild_loader.specs.Instruction.{Template, Reader, fits, stands, fills,
 use Rattle.wild_loader.specs.ThreadCodeX86_64.{nop_byte}
 use Rattle.wild_loader.specs.InstructionX86_64.{templates_x86_64, meaning_x86_64}
 use Rattle.wild_loader.specs.Effect.{window, first_standing, narrowed, value_in, effect_in, effect_of, step_x86_64}
-use Rattle.wild_loader.specs.StepLaws.{ReadsMemory, told, IsMeant, StepsAreMeant}
+use Rattle.wild_loader.specs.StepLaws.{ReadsMemory, told}
+use Rattle.wild_loader.specs.StepLawsX86_64.{IsMeant, StepsAreMeant}
 use Rattle.wild_loader.proofs.Windows.{held-window}
 use Rattle.wild_loader.proofs.StandLemmas.{standing_passes}
 

@@ -18,7 +18,7 @@ use Rattle.wild_loader.specs.Instruction.{Template, signed_32}
 use Rattle.wild_loader.specs.CodeX86_64.{branch, stub}
 use Rattle.wild_loader.specs.InstructionX86_64.{templates_x86_64}
 use Rattle.wild_loader.specs.Effect.{window, first_standing, narrowed, effect_of, step, step_of, step_x86_64}
-use Rattle.wild_loader.specs.StepLaws.{stub_bytes, CallsAreRead, CallsOfValuesAreRead, JumpsAreRead, SlotCallsAreRead, SlotJumpsAreRead, StubsAreRead, IsSigned32, StubsOfValuesAreRead}
+use Rattle.wild_loader.specs.StepLawsX86_64.{stub_bytes, CallsAreRead, CallsOfValuesAreRead, JumpsAreRead, SlotCallsAreRead, SlotJumpsAreRead, StubsAreRead, IsSigned32, StubsOfValuesAreRead}
 use Rattle.wild_loader.proofs.Windows.{window-held}
 
 -- where a template stands at the front of bytes, whatever is behind them, memory that has the bytes does what it does

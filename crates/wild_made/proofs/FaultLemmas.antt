@@ -20,7 +20,7 @@ use Rattle.wild_types.specs.Flags.{has_flag}
 use Rattle.wild_types.specs.Rows.{row_of}
 use Rattle.wild_types.specs.FilePlaces.{given}
 use Rattle.wild_types.specs.Item.{item_with, block_for}
-use Rattle.wild_types.specs.Lookups.{place_of, bit, is_written, is_frame, is_debug}
+use Rattle.wild_types.specs.Lookups.{place_of, bit, is_hollow_part, is_written, is_frame, is_debug}
 use Rattle.wild_reloc.specs.TableX86_64.{x86_64_row}
 use Rattle.wild_reloc.specs.declared.info.RelocationSize.TheVariants.{ByteSize}
 use Rattle.wild_reloc.specs.declared.info.Width.TheVariants.{Four}
@@ -240,7 +240,7 @@ unfolding made_section
 frame_made n i = refl
 
 section_clean : (n i g f : ℕ) (file : File) (at k : ℕ) → IsCount n → i < n → section_errors (made n) g f file at k (made_section n i) ≡ []
-unfolding section_errors
+unfolding section_errors made made_section
 section_clean n i g f file at k h low =
     let block = block_for (made n) file (made_section n i) in
     rw (section_stands n i file at, is_written_made n i, debug_made n i, frame_made n i, whole_made n, relocations_made n i, relocations_clean block n i k g f h low, none_shared block n i h low) refl
@@ -254,6 +254,11 @@ none_far : (n : ℕ) → search_table_faults (made n) ≡ []
 unfolding search_table_faults made
 none_far n = refl
 
+-- all is written
+none_hollow : (n : ℕ) → is_hollow_part (made n) (made n).primary_part ≡ false
+unfolding made
+none_hollow n = refl
+
 files_clean : (n i g at k : ℕ) → IsCount n → i < n → files_errors (made n) g at k (made_files n i) ≡ []
 unfolding file_errors thunk_errors
 files_clean n i g at k h low =
@@ -262,9 +267,10 @@ files_clean n i g at k h low =
     let slots = slots_clean n g in
     let sorted = none_sorted n in
     let far = none_far n in
+    let hollow = none_hollow n in
     elim (cases_Bool (i == 0)) [
-      | inl a ↦ elim (cases_Bool (i + 1 == n)) [ inl b ↦ simp (a, b, two, slots, sorted, far) refl | inr b ↦ simp (a, b, two, slots, far) refl ]
-      | inr a ↦ elim (cases_Bool (i + 1 == n)) [ inl b ↦ simp (a, b, one, slots, sorted) refl | inr b ↦ simp (a, b, one, slots) refl ]
+      | inl a ↦ elim (cases_Bool (i + 1 == n)) [ inl b ↦ simp (a, b, two, slots, sorted, far, hollow) refl | inr b ↦ simp (a, b, two, slots, far, hollow) refl ]
+      | inr a ↦ elim (cases_Bool (i + 1 == n)) [ inl b ↦ simp (a, b, one, slots, sorted, hollow) refl | inr b ↦ simp (a, b, one, slots, hollow) refl ]
     ]
 
 -- no other module sees a symbol

@@ -188,7 +188,8 @@ abbrev text : ℕ → Section
 text n = section_with (codes ".text") sht_progbits 6 4194432 128 (64 * n) 16
 
 -- the segment has each byte of the code
-code_in_segment : (on : Side) (n k : ℕ) → k < 64 * n → has_byte on (text n) (4194432 + k) (made_segment n) ≡ true
+code_in_segment : (on : Side) (n k : ℕ) → k < 64 * n → has_byte on (made n) (text n) (4194432 + k) (made_segment n) ≡ true
+unfolding made
 code_in_segment side.Memory n k lt =
     let a = le-leb 4194304 (4194432 + k) (omega arith) in
     let b = lt-ltb (4194432 + k) (4194304 + (128 + 64 * n)) (omega arith) in
@@ -198,22 +199,22 @@ code_in_segment side.File n k lt =
     let b = lt-ltb (4194432 + k) (4194304 + (128 + 64 * n)) (omega arith) in
     simp (a, b) refl
 
-code_loaded : (on : Side) (n : ℕ) → bytes_are_loaded on (made_segment n ∷ []) (text n) ≡ true
+code_loaded : (on : Side) (n : ℕ) → bytes_are_loaded on (made n) (made_segment n ∷ []) (text n) ≡ true
 code_loaded on n =
-    let each = all_below_from (λ k. list_any (has_byte on (text n) (4194432 + k)) (made_segment n ∷ [])) (64 * n) (λ k lt. let here = code_in_segment on n k lt in rw here refl) in
-    or_true (not (is_asked on (text n))) _ each
+    let each = all_below_from (λ k. list_any (has_byte on (made n) (text n) (4194432 + k)) (made_segment n ∷ [])) (64 * n) (λ k lt. let here = code_in_segment on n k lt in rw here refl) in
+    or_true (not (is_asked on (made n) (text n))) _ each
   where
     or_true : (b c : Bool) → c ≡ true → (b || c) ≡ true
     or_true true c h = refl
     or_true false c h = h
 
 -- section names are loaded nowhere
-names_loaded : (on : Side) (n : ℕ) → bytes_are_loaded on (made_segment n ∷ []) (section_with (codes ".shstrtab") sht_strtab 0 0 (128 + 64 * n) 17 1) ≡ true
-unfolding bit
+names_loaded : (on : Side) (n : ℕ) → bytes_are_loaded on (made n) (made_segment n ∷ []) (section_with (codes ".shstrtab") sht_strtab 0 0 (128 + 64 * n) 17 1) ≡ true
+unfolding made bit
 names_loaded side.Memory n = refl
 names_loaded side.File n = refl
 
-each_loaded : (on : Side) (n : ℕ) → first_failing (bytes_are_loaded on (made_segment n ∷ [])) 1 (drop 1 (made_sections n)) ≡ None
+each_loaded : (on : Side) (n : ℕ) → first_failing (bytes_are_loaded on (made n) (made_segment n ∷ [])) 1 (drop 1 (made_sections n)) ≡ None
 each_loaded on n =
     let a = code_loaded on n in
     let b = names_loaded on n in

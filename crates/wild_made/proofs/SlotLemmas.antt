@@ -1,5 +1,5 @@
 -- No symbol of the plan of n groups has a slot or a stub.
-use Rattle.std.proofs.Common.{◌≡◌, ℕ, zero, suc, ◌+◌, ◌-◌, ◌<◌, ◌==◌, inl, inr, Bool, true, false, List, [], ◌∷◌, take, drop, refl, ◌∙◌, arith}
+use Rattle.std.proofs.Common.{◌≡◌, ℕ, zero, suc, ◌+◌, ◌-◌, ◌<◌, ◌==◌, inl, inr, Bool, true, false, List, [], ◌∷◌, ◌++◌, if◌then◌else◌, take, drop, refl, ◌∙◌, arith}
 use Rattle.std.specs.Prelude.{None, Ok, not, slice_range, length}
 use Rattle.std.specs.List.{flat_map, list_all}
 use Rattle.std.proofs.lemmas.Bool.{cases_Bool, and_parts, le-ltb, and_from}
@@ -17,16 +17,18 @@ use Rattle.wild_types.specs.FileSymbols.{range_of, own_symbols}
 use Rattle.wild_needs.specs.DynamicSymbols.{is_undefined_entry, places_where, undefined_in, dynamic_symbols}
 use Rattle.wild_types.specs.Flags.{has_flag}
 use Rattle.wild_types.specs.Lists.{first_failing}
+use Rattle.wild_types.specs.Hollow.{is_hollow_role}
 use Rattle.wild_types.specs.Lookups.{files_of}
 use Rattle.wild_types.specs.FileRoles.{writes_slots}
 use Rattle.wild_needs.specs.SlotShares.{slot_share, block_places, group_block, block_share}
 use Rattle.wild_clauses.specs.SlotPlaces.{first_free, walk, symbol_step, slot_before, range_step, group_step, slots_astray, slot_is_even}
 use Rattle.wild_types.specs.SymbolSlots.{is_without}
 use Rattle.wild_clauses.specs.ClauseTests.{check_slots}
+use Rattle.wild_slot.specs.SymbolWords.{slots_of}
 use Rattle.wild_needs.proofs.SlotShareLemmas.{no_slots, slots_plain}
 use Rattle.wild_needs.proofs.SlotBlockLemmas.{places_without}
 use Rattle.wild_clauses.proofs.SlotPlaceLemmas.{step_without}
-use Rattle.wild_layout.specs.Faults.{flat_map_from, symbol_errors, slot_errors}
+use Rattle.wild_layout.specs.Faults.{flat_map_from, at_file, slot_refusal, slot_role, symbol_errors, slot_errors}
 use Rattle.wild_made.specs.Made.{made_object, made_files, made_symbol, made_group, made}
 use Rattle.wild_made.proofs.ListLemmas.{made_from, none_fails, list_all_made}
 
@@ -74,12 +76,17 @@ unfolding block
 block_made n role.RelrDyn g = rw (no_block n g) refl
 block_made n other g = refl
 
+-- what is refused of a symbol is nothing, whether its slots are written or not
+none_refused : {X : Type 0} (b : Bool) (xs ys : List X) → xs ≡ [] → ys ≡ [] → (if b then [] else xs) ++ ys ≡ []
+none_refused true xs ys x y = y
+none_refused false xs ys x y = rw (x, y) refl
+
 errors_without : (l : Layout) (g k i : ℕ) (ss : List Symbol) → list_all is_without ss ≡ true → flat_map_from (symbol_errors l g k) i ss ≡ []
 errors_without l g k i [] h = refl
 errors_without l g k i (s ∷ ss) h =
     let p = and_parts (is_without s) (list_all is_without ss) h in
     let none = no_slots l s p.0 in
-    rw none (errors_without l g k (i + 1) ss p.1)
+    none_refused (is_hollow_role l (slot_role l s)) (slot_refusal (at_file g k) i (slots_of l s).fault) (flat_map_from (symbol_errors l g k) (i + 1) ss) (rw none refl) (errors_without l g k (i + 1) ss p.1)
 
 pub slots_clean : (n g k : ℕ) (f : File) → slot_errors (made n) g k f ≡ []
 unfolding slot_errors

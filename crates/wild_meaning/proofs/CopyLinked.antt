@@ -79,8 +79,8 @@ no_other k lt (inr h) = omega (arith, lt, h)
 
 item_holds : ItemHolds copying copying_world copying_memory copying_item
 item_holds = record {
-  references = λ r ref asked alone. (All-contains Both copying_item.relocations r each ref.listed).0;
-  linked = λ r ref alone base. absurd ((All-contains Both copying_item.relocations r each ref.listed).1 alone);
+  references = λ r ref present asked alone. (All-contains Both copying_item.relocations r each ref.listed).0;
+  linked = λ r ref present alone base. absurd ((All-contains Both copying_item.relocations r each ref.listed).1 alone);
   others = λ k lt other. absurd (no_other k lt (other.fields 0 copied_reference (omega arith) (formula SymbolAddress Full) address_formula));
 }
 
@@ -211,7 +211,7 @@ copying_linked = record {
   machine = refl;
   kept = items_hold;
   zeros = zeros;
-  copies = copies;
+  copies = λ whole. copies;
   header = record {
     header = copying_header;
     fits = record {
@@ -228,5 +228,5 @@ copying_linked = record {
     sizes = record { ident_version = refl; version = refl; header = refl; program = refl; section = refl; flags = refl };
     segments = copying_segments;
   };
-  dynamic = λ d. copying_told;
+  dynamic = λ whole d. copying_told;
 }

@@ -29,7 +29,7 @@ use Rattle.wild_types.specs.declared.input.InputRelocation.{InputRelocation}
 
 pub wrong_copy : WrongCopyIsRefused
 wrong_copy image h x =
-    let there : byte_in h.memory 0x23103 ≡ Some 4 = h.copies 0 0x3100 copied_answer has_copy 3 (omega arith) in
+    let there : byte_in h.memory 0x23103 ≡ Some 4 = h.copies (λ e. (let off : false ≡ true = e in cc)) 0 0x3100 copied_answer has_copy 3 (omega arith) in
     let both : Some x.byte ≡ Some 4 = sym x.there ∙ there in
     let same : x.byte ≡ 4 = cc in
     x.wrong same
@@ -64,7 +64,7 @@ unfolding x86_64_formula
 address_formula = refl
 
 kept : IsKept copying copying_item
-kept = OfSection copying_data (record { input = record { group = _; grouped = (0, omega arith, refl); file = _; filed = (0, omega arith, refl); listed = (0, omega arith, refl) }; loaded = tt; room = refl; has_data = refl }) refl
+kept = OfSection copying_data (record { input = record { group = _; grouped = (0, omega arith, refl); file = _; filed = (0, omega arith, refl); listed = (0, omega arith, refl) }; loaded = tt; room = refl; has_data = refl; written = λ p at h. (let off : false ≡ true = h.bare in cc) }) refl
 
 -- the program has no merged strings
 pub no_string : (v : Value) (r : InputRelocation) → TakesString v copying r → ⊥
@@ -79,7 +79,7 @@ refers e = let n : 1 ≡ 0 = e in omega (arith, n)
 pub wrong_place : WrongPlaceOfCopyIsRefused
 wrong_place image h x =
     let r = reference 0 r_x86_64_64 0 (pos 0) in
-    let v = value_there copying copying_world h.memory copying_item r (formula SymbolAddress Full) 0 copied_is_own.symbol (h.kept copying_item kept) no_code (0, omega arith, refl) refers address_formula refl copied_is_own.is copied_is_own.moves (λ e. absurd (let both : true ≡ false = sym e ∙ copied_is_own.own in cc)) in
+    let v = value_there copying copying_world h.memory copying_item r (formula SymbolAddress Full) 0 copied_is_own.symbol (λ e. (let off : false ≡ true = e in cc)) (h.kept copying_item kept) no_code (0, omega arith, refl) refers address_formula refl copied_is_own.is copied_is_own.moves (λ e. absurd (let both : true ≡ false = sym e ∙ copied_is_own.own in cc)) in
     let is : v.value ≡ x.number = full_of copying_world h.memory copying_item r v.value x.number v.field x.there in
     let address : v.gives.symbol ≡ 0x23100 = denoted copying copying_world h.memory 0 0x3100 v.gives.symbol copied_is_own (referent_stands SymbolAddress copying copying_world h.memory copying_item r v.gives.symbol refl (no_string SymbolAddress r) v.gives.denoted) in
     x.wrong (omega (arith, is, address, v.gives.sum))

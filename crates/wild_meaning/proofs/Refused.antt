@@ -10,7 +10,7 @@ use Rattle.wild_types.specs.declared.layout.Layout.{Layout}
 use Rattle.wild_types.specs.Flags.{has_flag, absolute}
 use Rattle.wild_loader.specs.declared.memory.Memory.{Memory}
 use Rattle.wild_loader.specs.declared.world.World.{World}
-use Rattle.wild_meaning.specs.Section.{IsSet}
+use Rattle.wild_meaning.specs.Section.{IsSet, IsForDebuggers}
 use Rattle.wild_meaning.specs.Value.{HasFlag, IsReplaceable, may_be_replaced}
 use Rattle.wild_types.specs.Item.{Item}
 use Rattle.wild_meaning.specs.Field.{formula_of, FieldReads}
@@ -60,8 +60,8 @@ data_there : (l : Layout) (w : World) (m : Memory) (item : Item) (r : InputReloc
 data_there l w m item r f plain known (inl h) = plain_there l w m item r f known h
 data_there l w m item r f plain known (inr h) = absurd (no_template l item r h.start h.instruction h.first plain h.template)
 
--- it has its value where it is asked
-pub value_there : (l : Layout) (w : World) (m : Memory) (item : Item) (r : InputRelocation) (f : Formula) (i : ℕ) (t : Symbol) → ItemHolds l w m item → (IsSet item.flags shf_execinstr → ⊥) → Contains item.relocations r → r.number ≢ r_x86_64_none → formula_of l.machine r.number ≡ Some f → r.symbol ≡ Some i → told l i ≡ Some t → has_flag t.flags absolute ≡ false → (may_be_replaced l.kind t.flags ≡ true → TakesItself l item i f → ⊥) → HasValueThere l w m item r f
-value_there l w m item r f i t holds plain listed refers known named e moves takes =
+-- it has its value where it is asked, and the image is for more than debuggers
+pub value_there : (l : Layout) (w : World) (m : Memory) (item : Item) (r : InputRelocation) (f : Formula) (i : ℕ) (t : Symbol) → (IsForDebuggers l → ⊥) → ItemHolds l w m item → (IsSet item.flags shf_execinstr → ⊥) → Contains item.relocations r → r.number ≢ r_x86_64_none → formula_of l.machine r.number ≡ Some f → r.symbol ≡ Some i → told l i ≡ Some t → has_flag t.flags absolute ≡ false → (may_be_replaced l.kind t.flags ≡ true → TakesItself l item i f → ⊥) → HasValueThere l w m item r f
+value_there l w m item r f i t whole holds plain listed refers known named e moves takes =
     data_there l w m item r f plain known
-    (holds.references r (record { listed = listed; refers = refers }) (λ x. absurd (not_excepted l item r i t named e moves x)) (λ x. not_alone l item r f i t known named e takes x))
+    (holds.references r (record { listed = listed; refers = refers }) (λ left. whole left.0) (λ x. absurd (not_excepted l item r i t named e moves x)) (λ x. not_alone l item r f i t known named e takes x))

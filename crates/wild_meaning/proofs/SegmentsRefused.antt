@@ -76,15 +76,15 @@ wrong_sizes read = record {
 -- ---- the dynamic section
 
 pub no_dynamic : NoDynamicIsRefused
-no_dynamic l w image linker h none =
-    let told = h.dynamic linker in
+no_dynamic l w image whole linker h none =
+    let told = h.dynamic whole linker in
     let both : None ≡ Some told.segment = sym none ∙ told.first in
     cc
 
 -- its entries are those that are read
 told_of : (l : Layout) (image : List ℕ) (ds : List DynamicEntry) → IsDynamic l image ds → TellsEntries (processor_of l.machine) image ds
 told_of l image ds d =
-    let told = d.linked.dynamic d.linker in
+    let told = d.linked.dynamic d.whole d.linker in
     let first : Some told.segment ≡ Some d.segment = sym told.first ∙ d.first in
     let segment : told.segment ≡ d.segment = cc in
     let both : Ok told.entries ≡ Ok ds = sym told.read ∙ ap (λ (h : ProgramHeader). section_of image h) segment ∙ d.read in

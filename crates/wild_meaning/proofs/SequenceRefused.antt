@@ -53,7 +53,7 @@ beside_both : (k : ℕ) → (k < 4) ⊎ (8 ≤ k) → (k < 12) ⊎ (16 ≤ k) �
 beside_both k a b = All-from_recursion (λ (q : InputRelocation). (f : Formula) → x86_64_formula q.number ≡ Some f → (k < q.offset) ⊎ (q.offset + form_width f.form ≤ k)) (pair_reference ∷ getter_reference ∷ []) ((λ f e. past r_x86_64_tlsgd 4 k _ f pair_formula refl a e), ((λ f e. past r_x86_64_plt32 12 k _ f plt_formula refl b e), tt))
 
 general_kept : IsKept static_pie general_item
-general_kept = OfSection general_code (record { input = record { group = _; grouped = (0, omega arith, refl); file = _; filed = (0, omega arith, refl); listed = (2, omega arith, refl) }; loaded = tt; room = refl; has_data = refl }) refl
+general_kept = OfSection general_code (record { input = record { group = _; grouped = (0, omega arith, refl); file = _; filed = (0, omega arith, refl); listed = (2, omega arith, refl) }; loaded = tt; room = refl; has_data = refl; written = λ p at h. (let off : false ≡ true = h.bare in cc) }) refl
 
 general_stands : IsInstruction static_pie general_item pair_reference 0 general
 general_stands = record {

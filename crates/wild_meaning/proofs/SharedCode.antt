@@ -31,7 +31,7 @@ abbrev described : Instruction
 described = of_field (with_slot 0x8d Number Set rex) 3 Described (r_x86_64_gotpc32_tlsdesc ∷ [])
 
 code_kept : IsKept shared code_item
-code_kept = OfSection shared_code (record { input = record { group = _; grouped = (0, omega arith, refl); file = _; filed = (0, omega arith, refl); listed = (1, omega arith, refl) }; loaded = tt; room = refl; has_data = refl }) refl
+code_kept = OfSection shared_code (record { input = record { group = _; grouped = (0, omega arith, refl); file = _; filed = (0, omega arith, refl); listed = (1, omega arith, refl) }; loaded = tt; room = refl; has_data = refl; written = λ p at h. (let off : false ≡ true = h.bare in cc) }) refl
 
 described_stands : IsInstruction shared code_item shared_reference 0 described
 described_stands = record {
@@ -88,4 +88,4 @@ no_described m offset read numbers held noted = ((λ start f s d. let at : start
 pub wrong_code : WrongCodeOfLibraryIsRefused
 wrong_code image h x =
     single_refused shared shared_world h.memory code_item shared_reference described refl refl described_template (λ read numbers. no_described h.memory x.offset read numbers x.there x.noted)
-    ((h.kept code_item code_kept).references shared_reference (record { listed = (0, omega arith, refl); refers = refers r_x86_64_gotpc32_tlsdesc (omega arith) }) (λ e. absurd (not_excepted shared code_item shared_reference 2 thread_is.symbol refl thread_is.is thread_is.moves e)) (λ e. not_alone shared code_item shared_reference _ 2 thread_is.symbol descriptor_formula refl thread_is.is (λ o. absurd (let both : true ≡ false = sym o ∙ thread_is.own in cc)) e))
+    ((h.kept code_item code_kept).references shared_reference (record { listed = (0, omega arith, refl); refers = refers r_x86_64_gotpc32_tlsdesc (omega arith) }) (λ left. (let off : false ≡ true = left.0 in cc)) (λ e. absurd (not_excepted shared code_item shared_reference 2 thread_is.symbol refl thread_is.is thread_is.moves e)) (λ e. not_alone shared code_item shared_reference _ 2 thread_is.symbol descriptor_formula refl thread_is.is (λ o. absurd (let both : true ≡ false = sym o ∙ thread_is.own in cc)) e))

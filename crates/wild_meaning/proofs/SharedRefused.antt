@@ -33,7 +33,7 @@ use Rattle.wild_meaning.proofs.SymbolLemmas.{referent_stands}
 
 -- its data is kept
 pub kept : IsKept shared shared_item
-kept = OfSection shared_data (record { input = record { group = _; grouped = (0, omega arith, refl); file = _; filed = (0, omega arith, refl); listed = (0, omega arith, refl) }; loaded = tt; room = refl; has_data = refl }) refl
+kept = OfSection shared_data (record { input = record { group = _; grouped = (0, omega arith, refl); file = _; filed = (0, omega arith, refl); listed = (0, omega arith, refl) }; loaded = tt; room = refl; has_data = refl; written = λ p at h. (let off : false ≡ true = h.bare in cc) }) refl
 
 -- ---- formulas
 
@@ -102,12 +102,12 @@ refers n h e = omega (arith, h, let z : n ≡ 0 = e in z)
 -- a reference to an own symbol has its value there
 pub own_there : (m : Memory) (r : InputRelocation) (f : Formula) (i raw : ℕ) → ItemHolds shared shared_world m shared_item → Contains shared_references r → 0 < r.number → x86_64_formula r.number ≡ Some f → r.symbol ≡ Some i → IsPlainOwn shared i raw → HasValueThere shared shared_world m shared_item r f
 own_there m r f i raw holds listed number known named p =
-    value_there shared shared_world m shared_item r f i p.symbol holds no_code listed (refers r.number number) known named p.is p.moves (λ e. absurd (let both : true ≡ false = sym e ∙ p.own in cc))
+    value_there shared shared_world m shared_item r f i p.symbol (λ e. (let off : false ≡ true = e in cc)) holds no_code listed (refers r.number number) known named p.is p.moves (λ e. absurd (let both : true ≡ false = sym e ∙ p.own in cc))
 
 -- so does one to a symbol that others may define, where it does not take the own one
 pub other_there : (m : Memory) (r : InputRelocation) (f : Formula) (i : ℕ) (x : Answer) → ItemHolds shared shared_world m shared_item → Contains shared_references r → 0 < r.number → x86_64_formula r.number ≡ Some f → r.symbol ≡ Some i → IsAnsweredAs shared shared_world i x → (TakesItself shared shared_item i f → ⊥) → HasValueThere shared shared_world m shared_item r f
 other_there m r f i x holds listed number known named p takes =
-    value_there shared shared_world m shared_item r f i p.symbol holds no_code listed (refers r.number number) known named p.is p.moves (λ e. takes)
+    value_there shared shared_world m shared_item r f i p.symbol (λ e. (let off : false ≡ true = e in cc)) holds no_code listed (refers r.number number) known named p.is p.moves (λ e. takes)
 
 -- ---- slots
 

@@ -111,8 +111,8 @@ Both item r = ReferenceHolds static_pie static_pie_world static_memory item r ×
 
 all_hold : (item : Item) → All (Both item) item.relocations → ((k : ℕ) → k < length item.bytes → IsOther static_pie item k → byte_in static_memory (static_pie_world.base + item.address + k) ≡ Some (slice_index item.bytes k)) → ItemHolds static_pie static_pie_world static_memory item
 all_hold item all others = record {
-  references = λ r ref asked alone. (All-contains (Both item) item.relocations r all ref.listed).0;
-  linked = λ r ref alone base. absurd ((All-contains (Both item) item.relocations r all ref.listed).1 alone);
+  references = λ r ref present asked alone. (All-contains (Both item) item.relocations r all ref.listed).0;
+  linked = λ r ref present alone base. absurd ((All-contains (Both item) item.relocations r all ref.listed).1 alone);
   others = others;
 }
 
@@ -412,7 +412,7 @@ static_linked = record {
   machine = refl;
   kept = items_hold;
   zeros = λ s k h _ _ _. absurd (no_blank s h);
-  copies = λ i raw x h. absurd (no_library i h.copied);
+  copies = λ whole i raw x h. absurd (no_library i h.copied);
   header = record {
     header = static_header;
     fits = record {
@@ -429,5 +429,5 @@ static_linked = record {
     sizes = record { ident_version = refl; version = refl; header = refl; program = refl; section = refl; flags = refl };
     segments = static_segments;
   };
-  dynamic = λ d. absurd d;
+  dynamic = λ whole d. absurd d;
 }

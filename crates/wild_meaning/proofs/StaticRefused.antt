@@ -51,7 +51,7 @@ pub thread_offset : (t : ℕ) → HasThreadOffset static_pie static_pie_world 2 
 thread_offset t h = own_offset static_pie static_pie_world 2 0x3008 (2 ^ 64 - 16) t thread_is (omega arith) (somewhere static_pie 2 0 thread_symbol refl refl) refl h
 
 kept : IsKept static_pie static_item
-kept = OfSection static_data (record { input = record { group = _; grouped = (0, omega arith, refl); file = _; filed = (0, omega arith, refl); listed = (4, omega arith, refl) }; loaded = tt; room = refl; has_data = refl }) refl
+kept = OfSection static_data (record { input = record { group = _; grouped = (0, omega arith, refl); file = _; filed = (0, omega arith, refl); listed = (4, omega arith, refl) }; loaded = tt; room = refl; has_data = refl; written = λ p at h. (let off : false ≡ true = h.bare in cc) }) refl
 
 -- ---- formulas
 
@@ -76,11 +76,11 @@ refers n h e = omega (arith, h, let z : n ≡ 0 = e in z)
 -- a reference to an own symbol holds
 pub holds_there : (m : Memory) (item : Item) (r : InputRelocation) (f : Formula) (i raw : ℕ) → ItemHolds static_pie static_pie_world m item → Contains item.relocations r → 0 < r.number → x86_64_formula r.number ≡ Some f → r.symbol ≡ Some i → IsPlainOwn static_pie i raw → ReferenceHolds static_pie static_pie_world m item r
 holds_there m item r f i raw h listed number known named p =
-    h.references r (record { listed = listed; refers = refers r.number number }) (λ x. absurd (not_excepted static_pie item r i p.symbol named p.is p.moves x)) (λ x. not_alone static_pie item r f i p.symbol known named p.is (λ e. absurd (let both : true ≡ false = sym e ∙ p.own in cc)) x)
+    h.references r (record { listed = listed; refers = refers r.number number }) (λ left. (let off : false ≡ true = left.0 in cc)) (λ x. absurd (not_excepted static_pie item r i p.symbol named p.is p.moves x)) (λ x. not_alone static_pie item r f i p.symbol known named p.is (λ e. absurd (let both : true ≡ false = sym e ∙ p.own in cc)) x)
 
 own_there : (m : Memory) (r : InputRelocation) (f : Formula) (i raw : ℕ) → ItemHolds static_pie static_pie_world m static_item → Contains static_item.relocations r → 0 < r.number → x86_64_formula r.number ≡ Some f → r.symbol ≡ Some i → IsPlainOwn static_pie i raw → HasValueThere static_pie static_pie_world m static_item r f
 own_there m r f i raw holds listed number known named p =
-    value_there static_pie static_pie_world m static_item r f i p.symbol holds no_code listed (refers r.number number) known named p.is p.moves (λ e. absurd (let both : true ≡ false = sym e ∙ p.own in cc))
+    value_there static_pie static_pie_world m static_item r f i p.symbol (λ e. (let off : false ≡ true = e in cc)) holds no_code listed (refers r.number number) known named p.is p.moves (λ e. absurd (let both : true ≡ false = sym e ∙ p.own in cc))
 
 wrong_address : Refuses static_pie static_pie_world (HasWrongNumber 0x41100 8 0x41210)
 wrong_address image h x =
@@ -124,6 +124,7 @@ padded_filled = record {
   section = padded_section;
   found = refl;
   filled = λ e. (let no : 1 ≡ 8 = e in omega (arith, no));
+  written = λ h. (let off : false ≡ true = h.bare in cc);
 }
 
 nothing_copied : (i : ℕ) → IsCopied padded i → ⊥

@@ -104,12 +104,12 @@ string_there a h =
 -- ---- the reference
 
 pointer_kept : IsKept strung pointer_item
-pointer_kept = OfSection pointer_data (record { input = record { group = _; grouped = (0, omega arith, refl); file = strung_file; filed = (0, omega arith, refl); listed = (0, omega arith, refl) }; loaded = tt; room = refl; has_data = refl }) refl
+pointer_kept = OfSection pointer_data (record { input = record { group = _; grouped = (0, omega arith, refl); file = strung_file; filed = (0, omega arith, refl); listed = (0, omega arith, refl) }; loaded = tt; room = refl; has_data = refl; written = λ p at h. (let off : false ≡ true = h.bare in cc) }) refl
 
 wrong_string : Refuses strung static_pie_world (HasWrongNumber 0x41100 8 0x4120a)
 unfolding has_flag
 wrong_string image h x =
-    let v = value_there strung static_pie_world h.memory pointer_item string_reference (formula SymbolAddress Full) 0 string_symbol (h.kept pointer_item pointer_kept) no_code (0, omega arith, refl) (refers 1 (omega arith)) address_formula refl refl refl (λ e. absurd (let both : true ≡ false = sym e in cc)) in
+    let v = value_there strung static_pie_world h.memory pointer_item string_reference (formula SymbolAddress Full) 0 string_symbol (λ e. (let off : false ≡ true = e in cc)) (h.kept pointer_item pointer_kept) no_code (0, omega arith, refl) (refers 1 (omega arith)) address_formula refl refl refl (λ e. absurd (let both : true ≡ false = sym e in cc)) in
     let is : v.value ≡ x.number = full_of static_pie_world h.memory pointer_item string_reference v.value x.number v.field x.there in
     by v.value x.number v.gives.symbol is v.gives.sum v.gives.denoted x.wrong
   where
@@ -155,7 +155,7 @@ strings_judged = record { found = string_found; wrong = wrong_string }
 -- ---- reversed words
 
 turned_kept : IsKept strung turned_item
-turned_kept = OfSection turned_data (record { input = record { group = _; grouped = (0, omega arith, refl); file = strung_file; filed = (0, omega arith, refl); listed = (1, omega arith, refl) }; loaded = tt; room = refl; has_data = refl }) refl
+turned_kept = OfSection turned_data (record { input = record { group = _; grouped = (0, omega arith, refl); file = strung_file; filed = (0, omega arith, refl); listed = (1, omega arith, refl) }; loaded = tt; room = refl; has_data = refl; written = λ p at h. (let off : false ≡ true = h.bare in cc) }) refl
 
 -- where the word with the address went
 abbrev moved_reference : InputRelocation
@@ -177,7 +177,7 @@ no_string t =
 
 wrong_address : Refuses strung static_pie_world (HasWrongNumber 0x41118 8 0x41210)
 wrong_address image h x =
-    let v = value_there strung static_pie_world h.memory turned_item moved_reference (formula SymbolAddress Full) 1 function_is.symbol (h.kept turned_item turned_kept) no_code (0, omega arith, refl) (refers 1 (omega arith)) address_formula refl function_is.is function_is.moves (λ e. absurd (let both : true ≡ false = sym e ∙ function_is.own in cc)) in
+    let v = value_there strung static_pie_world h.memory turned_item moved_reference (formula SymbolAddress Full) 1 function_is.symbol (λ e. (let off : false ≡ true = e in cc)) (h.kept turned_item turned_kept) no_code (0, omega arith, refl) (refers 1 (omega arith)) address_formula refl function_is.is function_is.moves (λ e. absurd (let both : true ≡ false = sym e ∙ function_is.own in cc)) in
     let is : v.value ≡ x.number = full_of static_pie_world h.memory turned_item moved_reference v.value x.number v.field x.there in
     let address : v.gives.symbol ≡ 0x41210 = denoted strung static_pie_world h.memory 1 0x1210 v.gives.symbol function_is (referent_stands SymbolAddress strung static_pie_world h.memory turned_item moved_reference v.gives.symbol refl no_string v.gives.denoted) in
     x.wrong (omega (arith, is, address, v.gives.sum))

@@ -1,5 +1,5 @@
 -- Wrong code of the worked program of AArch64 is refused.
-use Rattle.std.proofs.Common.{◌≡◌, ℕ, ◌+◌, ◌%◌, ◌/◌, ◌^◌, inl, inr, List, [], ◌∷◌, length, refl, sym, ap, ◌∙◌, subst, arith}
+use Rattle.std.proofs.Common.{◌≡◌, ℕ, ◌+◌, ◌%◌, ◌/◌, ◌^◌, inl, inr, true, false, List, [], ◌∷◌, length, refl, sym, ap, ◌∙◌, subst, arith}
 use Rattle.std.specs.Prelude.{◌-◌, Option, Some, None, option_map}
 use Rattle.std.specs.Int.{w64, cast_unsigned}
 use Rattle.wild_words.specs.Words.{word, number}
@@ -48,7 +48,7 @@ use Rattle.wild_types.specs.declared.kind.Machine.TheVariants as machine
 
 -- a reference of an own symbol, which is asked at its one base
 holds_there : (m : Memory) (item : Item) (r : InputRelocation) (i raw : ℕ) → ItemHolds words_static words_world m item → IsReference item r → r.symbol ≡ Some i → IsPlainOwn words_static i raw → ReferenceHolds words_static words_world m item r
-holds_there m item r i raw h listed named p = h.references r listed (λ e. refl) (own_alone item r i raw named p)
+holds_there m item r i raw h listed named p = h.references r listed (λ left. (let off : false ≡ true = left.0 in cc)) (λ e. refl) (own_alone item r i raw named p)
 
 -- in both forms the instruction that it belongs to does what it demands
 abbrev NoneDoes : Memory → Item → InputRelocation → Type 0
@@ -61,7 +61,7 @@ refused m item r start o first t none (inr h) = none (reads_alone words_world m)
 -- ---- a load from another slot
 
 slot_kept : IsKept words_static slot_item
-slot_kept = OfSection slot_code (record { input = record { group = _; grouped = (0, omega arith, refl); file = _; filed = (0, omega arith, refl); listed = (1, omega arith, refl) }; loaded = tt; room = refl; has_data = refl }) refl
+slot_kept = OfSection slot_code (record { input = record { group = _; grouped = (0, omega arith, refl); file = _; filed = (0, omega arith, refl); listed = (1, omega arith, refl) }; loaded = tt; room = refl; has_data = refl; written = λ p at h. (let off : false ≡ true = h.bare in cc) }) refl
 
 -- the slot is the symbol's
 slot_place : (s : Symbol) (d : Resolution) (slot first : ℕ) → s ≡ near_function → s.resolution ≡ Some d → d.got_address ≡ Some first → slot ≡ first + behind_first AddressSlot s.flags → slot ≡ 0x11080
@@ -169,10 +169,10 @@ unfolding word insert_bits
 right_goes m x held = thunks-read m 0 0x11060 0x11200 x (record { above = omega arith; below = omega arith }) refl (omega arith) held
 
 call_kept : IsKept words_static call_item
-call_kept = OfSection call_code (record { input = record { group = _; grouped = (0, omega arith, refl); file = _; filed = (0, omega arith, refl); listed = (2, omega arith, refl) }; loaded = tt; room = refl; has_data = refl }) refl
+call_kept = OfSection call_code (record { input = record { group = _; grouped = (0, omega arith, refl); file = _; filed = (0, omega arith, refl); listed = (2, omega arith, refl) }; loaded = tt; room = refl; has_data = refl; written = λ p at h. (let off : false ≡ true = h.bare in cc) }) refl
 
 past_kept : IsKept words_static past_item
-past_kept = OfSection past_code (record { input = record { group = _; grouped = (0, omega arith, refl); file = _; filed = (0, omega arith, refl); listed = (3, omega arith, refl) }; loaded = tt; room = refl; has_data = refl }) refl
+past_kept = OfSection past_code (record { input = record { group = _; grouped = (0, omega arith, refl); file = _; filed = (0, omega arith, refl); listed = (3, omega arith, refl) }; loaded = tt; room = refl; has_data = refl; written = λ p at h. (let off : false ≡ true = h.bare in cc) }) refl
 
 wrong_thunk : Refuses words_static words_world (HasBoth 0x11020 call_of_thunk 0x11060 far_thunk)
 wrong_thunk image h x =
@@ -191,7 +191,7 @@ wrong_addend image h x =
 -- ---- a descriptor's call
 
 descriptor_kept : IsKept words_static descriptor_item
-descriptor_kept = OfSection descriptor_code (record { input = record { group = _; grouped = (0, omega arith, refl); file = _; filed = (0, omega arith, refl); listed = (4, omega arith, refl) }; loaded = tt; room = refl; has_data = refl }) refl
+descriptor_kept = OfSection descriptor_code (record { input = record { group = _; grouped = (0, omega arith, refl); file = _; filed = (0, omega arith, refl); listed = (4, omega arith, refl) }; loaded = tt; room = refl; has_data = refl; written = λ p at h. (let off : false ≡ true = h.bare in cc) }) refl
 
 descriptor_asked : (v : ℕ) → demand_aarch64 v 0x11030 (old_bytes descriptor_item 0 descriptor_call_words) ≡ Some (effect_with (Set 0) 64 (v % 2 ^ 64))
 unfolding word number read read_address read_access read_vector_access read_literal read_transfer read_condition

@@ -108,8 +108,8 @@ Both item r = ReferenceHolds words_static words_world words_memory item r × (Is
 
 all_hold : (item : Item) → All (Both item) item.relocations → ((k : ℕ) → k < length item.bytes → IsOther words_static item k → IsInputByte words_world words_memory item k) → ItemHolds words_static words_world words_memory item
 all_hold item all others = record {
-  references = λ r ref asked alone. (All-contains (Both item) item.relocations r all ref.listed).0;
-  linked = λ r ref alone base. absurd ((All-contains (Both item) item.relocations r all ref.listed).1 alone);
+  references = λ r ref present asked alone. (All-contains (Both item) item.relocations r all ref.listed).0;
+  linked = λ r ref present alone base. absurd ((All-contains (Both item) item.relocations r all ref.listed).1 alone);
   others = others;
 }
 
@@ -580,7 +580,7 @@ words_linked = record {
   machine = refl;
   kept = items_hold;
   zeros = λ s k h _ _ _. absurd (no_blank s h);
-  copies = λ i raw x h. absurd (no_library i h.copied);
+  copies = λ whole i raw x h. absurd (no_library i h.copied);
   header = record {
     header = words_header;
     fits = record {
@@ -597,5 +597,5 @@ words_linked = record {
     sizes = record { ident_version = refl; version = refl; header = refl; program = refl; section = refl; flags = refl };
     segments = words_segments;
   };
-  dynamic = λ d. absurd d;
+  dynamic = λ whole d. absurd d;
 }

@@ -28,7 +28,7 @@ use Rattle.wild_frames.specs.declared.frames.Target.{Target}
 use Rattle.wild_frames.specs.declared.frames.Target.TheVariants as target
 use Rattle.wild_frames.specs.declared.entry.KeptEntry.{KeptEntry}
 use Rattle.wild_frames.specs.Frames.{Frames, kept_in, frame_bytes, relocations_in}
-use Rattle.wild_meaning.specs.Section.{IsSet}
+use Rattle.wild_meaning.specs.Section.{IsSet, IsHollow}
 
 -- ---- what an FDE is of
 
@@ -106,11 +106,12 @@ abbrev pub address_of_part : Option Part → ℕ
 address_of_part None = 0
 address_of_part (Some p) = p.address
 
--- an allocated input section of frames, with the files of its group and the sections of its file that stand before it
+-- an allocated input section of frames that are written, with the files of its group and the sections of its file that stand before it
 pub record IsFrameInput (l : Layout) (s : InputSection) : Type 0 where
   pub frame : s.slot ≡ slot.Frame
   pub room : IsSet s.flags shf_alloc
   pub has_data : s.nobits ≡ false
+  pub written : (p : Part) → part_with role.EhFrame l.parts ≡ Some p → IsHollow l p → ⊥
   pub group : Group
   pub grouped : Contains l.groups group
   pub files : List File

@@ -1,9 +1,9 @@
 -- What references are asked of.
 --   IsLoadedSlot s   a section of that sort is loaded as it is
 --   stood_item l f s an input section as it stands in the output
---   IsKept l item    the item is one of the layout's: the bytes of an input section that is loaded, allocated and has data
+--   IsKept l item    the item is one of the layout's: the bytes of an input section that is loaded, allocated, has data and is written
 --   IsReference ..   a relocation of an item that refers to something
-use Rattle.std.specs.Prelude.{◌≡◌, ◌≢◌, ℕ, ◌+◌, ◌-◌, ◌%◌, false, ⊤, if◌then◌else◌, List, length, map, Contains, slice_index}
+use Rattle.std.specs.Prelude.{◌≡◌, ◌≢◌, ℕ, ◌+◌, ◌-◌, ◌%◌, false, ⊤, if◌then◌else◌, List, length, map, Contains, Some, slice_get, slice_index}
 use Rattle.std.specs.List.{range_with_len}
 use Rattle.wild_records.specs.Abi.Relocation.{r_x86_64_none}
 use Rattle.wild_records.specs.Abi.Section.{shf_alloc}
@@ -17,7 +17,8 @@ use Rattle.wild_types.specs.declared.file.File.{File}
 use Rattle.wild_types.specs.declared.file.Group.{Group}
 use Rattle.wild_types.specs.declared.layout.Layout.{Layout}
 use Rattle.wild_loader.specs.declared.world.World.{World}
-use Rattle.wild_meaning.specs.Section.{IsSet}
+use Rattle.wild_types.specs.declared.part.Part.{Part}
+use Rattle.wild_meaning.specs.Section.{IsSet, IsHollow}
 
 -- the loaded address of a byte of an item
 abbrev pub place_at : World → Item → ℕ → ℕ
@@ -67,12 +68,13 @@ stood_item l f s = record {
   thunk_block = block_for l f s;
 }
 
--- an input section that is loaded, allocated and has data
+-- an input section that is loaded, allocated, has data and is written
 pub record IsKeptSection (l : Layout) (s : InputSection) : Type 0 where
   pub input : IsInput l s
   pub loaded : IsLoadedSlot s.slot
   pub room : IsSet s.flags shf_alloc
   pub has_data : s.nobits ≡ false
+  pub written : (p : Part) → slice_get l.parts s.part ≡ Some p → IsHollow l p → ⊥
 
 -- an item of the layout that stands in memory: what it is made of
 pub data IsKept (l : Layout) (item : Item) : Type 0 where

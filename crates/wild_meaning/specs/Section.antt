@@ -1,10 +1,11 @@
 -- Whether a section has room in memory, and whether an input section has an address.
 --   IsSet flags flag       the flag is set
 --   IsAllocatedPart l n    part n lies in a section that has room in memory
---   HasFileBytes l n       it lies in one that has bytes in the file
+--   IsHollow l p           nothing is written of the section in which part p lies
+--   HasFileBytes l n       part n lies in a section that has bytes in the file
 --   IsPlaced l s           the input section has an address
-use Rattle.std.specs.Prelude.{◌≡◌, ◌≢◌, ℕ, ◌/◌, ◌%◌, ◌⊎◌, Some, slice_get}
-use Rattle.wild_records.specs.Abi.Section.{sht_nobits, shn_undef, shf_alloc}
+use Rattle.std.specs.Prelude.{◌≡◌, ◌≢◌, ℕ, ◌/◌, ◌%◌, ◌⊎◌, true, Some, slice_get}
+use Rattle.wild_records.specs.Abi.Section.{sht_note, sht_nobits, shn_undef, shf_alloc}
 use Rattle.wild_types.specs.declared.part.Part.{Part}
 use Rattle.wild_types.specs.declared.section.Section.{Section}
 use Rattle.wild_types.specs.declared.input.Slot.TheVariants as slot
@@ -24,6 +25,20 @@ pub record IsAllocatedPart (l : Layout) (n : ℕ) : Type 0 where
   pub found : slice_get l.sections part.section ≡ Some section
   pub room : IsSet section.flags shf_alloc
 
+-- the image is for debuggers alone, which read the program itself elsewhere (GNU Binutils, "objcopy": `--only-keep-debug`)
+abbrev pub IsForDebuggers : Layout → Type 0
+IsForDebuggers l = l.options.only_keep_debug ≡ true
+
+-- nothing is written of the section in which the part lies: the image is for debuggers alone, and the section has room in memory and no
+-- notes, by which debuggers find the image (gABI, "Sections": SHT_NOTE)
+pub record IsHollow (l : Layout) (p : Part) : Type 0 where
+  pub bare : IsForDebuggers l
+  pub named : p.section ≢ shn_undef
+  pub section : Section
+  pub found : slice_get l.sections p.section ≡ Some section
+  pub room : IsSet section.flags shf_alloc
+  pub other : section.kind ≢ sht_note
+
 -- the part lies in a section other than section 0 that has bytes in the file (gABI, "Section Header", sh_type: SHT_NOBITS)
 pub record HasFileBytes (l : Layout) (n : ℕ) : Type 0 where
   pub part : Part
@@ -32,6 +47,7 @@ pub record HasFileBytes (l : Layout) (n : ℕ) : Type 0 where
   pub section : Section
   pub found : slice_get l.sections part.section ≡ Some section
   pub filled : section.kind ≢ sht_nobits
+  pub written : IsHollow l part → ⊥
 
 -- the input section is not discarded, and its address is not 0 or its part has no room in memory
 pub record IsPlaced (l : Layout) (s : InputSection) : Type 0 where

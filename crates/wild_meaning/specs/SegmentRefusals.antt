@@ -17,7 +17,7 @@ use Rattle.wild_loader.specs.declared.tables.Tables.{Tables}
 use Rattle.wild_loader.specs.declared.world.World.{World}
 use Rattle.wild_loader.specs.Changes.{kind_of}
 use Rattle.wild_loader.specs.Tables.{first_dynamic, tagged, section_of, named_tables}
-use Rattle.wild_meaning.specs.Section.{IsSet}
+use Rattle.wild_meaning.specs.Section.{IsSet, IsForDebuggers}
 use Rattle.wild_meaning.specs.Segments.{headers_in, HasDynamicLinker}
 use Rattle.wild_meaning.specs.Linked.{IsLinked, processor_of}
 use Rattle.wild_meaning.specs.Worked.{loaded}
@@ -53,13 +53,14 @@ pub record WrongSizesAreRefused : Type 0 where
   pub program : (l : Layout) (w : World) (image : List ℕ) → IsLinked l w image → (file_header_at image 0).program_entry_size ≢ 56 → ⊥
   pub section : (l : Layout) (w : World) (image : List ℕ) → IsLinked l w image → (file_header_at image 0).section_entry_size ≢ 64 → ⊥
 
--- of any layout of an output that a dynamic linker loads, in any world
+-- of any layout of an output that a dynamic linker loads, which is for more than debuggers, in any world
 abbrev pub NoDynamicIsRefused : Type 0
-NoDynamicIsRefused = (l : Layout) (w : World) (image : List ℕ) → HasDynamicLinker l.kind → IsLinked l w image → first_dynamic (headers_in image) ≡ None → ⊥
+NoDynamicIsRefused = (l : Layout) (w : World) (image : List ℕ) → (IsForDebuggers l → ⊥) → HasDynamicLinker l.kind → IsLinked l w image → first_dynamic (headers_in image) ≡ None → ⊥
 
 -- an image of such an output, with these entries in its dynamic section
 pub record IsDynamic (l : Layout) (image : List ℕ) (ds : List DynamicEntry) : Type 0 where
   pub world : World
+  pub whole : IsForDebuggers l → ⊥
   pub linker : HasDynamicLinker l.kind
   pub linked : IsLinked l world image
   pub segment : ProgramHeader

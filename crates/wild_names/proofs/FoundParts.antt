@@ -20,9 +20,11 @@ use Rattle.wild_types.specs.declared.layout.Layout.{Layout}
 use Rattle.wild_needs.specs.Dynamic.{dynamic_number, dynamic_entry, dynamic_count}
 use Rattle.wild_needs.specs.DynamicPlaces.{part_address, part_size, filled_part, unless_empty}
 use Rattle.wild_needs.specs.DynamicSymbols.{first_listed}
+use Rattle.wild_types.specs.Hollow.{KeepsAll}
 use Rattle.wild_types.specs.Kinds.{needs_dynamic}
 use Rattle.wild_types.specs.Lookups.{image_size}
 use Rattle.wild_types.specs.Parts.{role_place, part_with, is_hash_role, is_look_up_role, has_hashes}
+use Rattle.wild_types.proofs.LookupLemmas.{not_hollow_at}
 use Rattle.wild_headers.specs.Headers.{file_header, section_headers_of}
 use Rattle.wild_tables.specs.Dynamic.{dynamic_records, null_entry}
 use Rattle.wild_layout.specs.Loadable.{SegmentLoads}
@@ -51,6 +53,7 @@ use Rattle.wild_names.proofs.ShapeLemmas.{well_formed}
 
 -- what stands in the image
 pub record IsRead (l : Layout) : Type 0 where
+  pub keeps : KeepsAll l
   pub laid : IsLaidOut l
   pub headers : HasHeaders (bytes l) (file_header l) (headers_of l) (section_headers_of l l.sections)
   pub taken : is_loadable_header (file_header l) ≡ true
@@ -70,10 +73,11 @@ is_read l laws w =
     let laid = laws.laid l formed.0 formed.1 in
     let kind = loadable_kind l.kind w.dynamic in
     record {
+      keeps = w.keeps;
       laid = laid;
       headers = laws.headers.stand l kind w.numbers laid;
       taken = laws.headers.taken l kind;
-      entries = laws.sections l w.dynamic w.numbers laid;
+      entries = laws.sections l w.keeps w.dynamic w.numbers laid;
     }
 
 -- ---- the entries of the dynamic section
@@ -132,12 +136,13 @@ with_hash l r p laid hash loaded found =
     any-contains (λ (q : Part). is_hash_role q.role) l.parts p t.listed (subst (λ (x : Role). is_hash_role x ≡ true) (sym t.has) hash)
 
 -- a look-up finds a part that is not empty
-found_role : (l : Layout) (r : Role) (p : Part) → TablesStand → IsLaidOut l → needs_dynamic l.kind ≡ true → has_hashes l ≡ true → is_look_up_role r ≡ true → (role_place r ≡ 0 → ⊥) → part_with r l.parts ≡ Some p → 1 ≤ p.size → (f : Found) × IsFoundPart (bytes l) (headers_of l) p f
-found_role l r p stand laid needs hashes asked loaded found some =
-    let c = (laid.loadable (dynamic_whole l.kind needs)).look_ups needs hashes r p asked found some in
+found_role : (l : Layout) (r : Role) (p : Part) → TablesStand → KeepsAll l → IsLaidOut l → needs_dynamic l.kind ≡ true → has_hashes l ≡ true → is_look_up_role r ≡ true → (role_place r ≡ 0 → ⊥) → part_with r l.parts ≡ Some p → 1 ≤ p.size → (f : Found) × IsFoundPart (bytes l) (headers_of l) p f
+found_role l r p stand keeps laid needs hashes asked loaded found some =
+    let written = not_hollow_at l p.section keeps in
+    let c = (laid.loadable (dynamic_whole l.kind needs)).look_ups needs hashes r p asked found written some in
     let loads = All-contains (SegmentLoads (image_size l)) l.segments c.segment (laid.loadable (dynamic_whole l.kind needs)).each c.listed in
     let size = ((laid.roles r loaded).there p found).size in
-    let within = (stand l laid r loaded p found some).fits in
+    let within = (stand l laid r loaded p found written some).fits in
     (_, found_part l (bytes l) p (laid.loadable (dynamic_whole l.kind needs)).ascend c loads some (omega (arith, size, within)))
 
 -- ---- the parts of a look-up
@@ -171,14 +176,15 @@ filled_is l r p found some = let e : (p.size == 0) ≡ false = ne_eqb p.size 0 (
 pub has_parts : (l : Layout) (r : Role) (tag : ℕ) (p : Part) → ImageLaws → NameLaws → (read : IsRead l) → needs_dynamic l.kind ≡ true → is_hash_role r ≡ true → is_look_up_role r ≡ true → (role_place r ≡ 0 → ⊥) → tagged tag (entries_read l read.entries.room) ≡ part_address (filled_part l r) → part_with r l.parts ≡ Some p → 1 ≤ p.size → HasParts l tag p
 has_parts l r tag p laws names read needs hash asked loaded telling found some =
     let laid = read.laid in
+    let keeps = read.keeps in
     let room = read.entries.room in
     let hashes = with_hash l r p laid hash loaded found in
-    let own = found_role l r p laws.stand laid needs hashes asked loaded found some in
+    let own = found_role l r p laws.stand keeps laid needs hashes asked loaded found some in
     let t = names.there l laid needs in
-    let all = names.stand l laid needs t.table t.strings t.symbols t.names in
+    let all = names.stand l laid needs t.table t.strings t.symbols t.names (not_hollow_at l t.table.section keeps) (not_hollow_at l t.strings.section keeps) in
     let size = all.whole in
-    let table = found_role l role.Dynsym t.table laws.stand laid needs hashes refl (λ e. cc) t.symbols (omega (arith, size)) in
-    let strings = found_role l role.Dynstr t.strings laws.stand laid needs hashes refl (λ e. cc) t.names t.some in
+    let table = found_role l role.Dynsym t.table laws.stand keeps laid needs hashes refl (λ e. cc) t.symbols (omega (arith, size)) in
+    let strings = found_role l role.Dynstr t.strings laws.stand keeps laid needs hashes refl (λ e. cc) t.names t.some in
     let here : tagged tag (entries_read l room) ≡ Some p.address = telling ∙ ap part_address (filled_is l r p found some) in
     let symbols : tagged dt_symtab (entries_read l room) ≡ Some t.table.address = symbols_told l room laws needs ∙ ap part_address t.symbols in
     let text : tagged dt_strtab (entries_read l room) ≡ Some t.strings.address = strings_told l room laws needs ∙ ap part_address t.names in

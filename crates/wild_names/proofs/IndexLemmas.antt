@@ -172,7 +172,7 @@ same_symbols l local = map-flat_map said (λ (g : Group). filter (is_side local)
 -- ---- the image
 
 pub indexes_stand : TablesStand → IndexesHave4Bytes → LongIndexesStand
-indexes_stand stand four l laid local indexes found =
+indexes_stand stand four l laid local indexes found written =
     let table = index_table l local (asked l (index_role local) indexes found) in
     record { whole = whole_table table; each = λ k n h. one table k n h }
   where
@@ -191,6 +191,6 @@ indexes_stand stand four l laid local indexes found =
         let here = Stands-record spelled 4 (λ (e : NamedEntry). length-word 4 e.fields.long) (side_table l local) k n h in
         record {
           entry = sym (ap (λ (ns : List SaidFields). slice_get ns k) (same_symbols l local)) ∙ slice_get-map said (side_table l local) k ∙ ap (option_map said) h;
-          index = in_image stand l laid (index_role local) (has_place local) indexes found (4 * k) (spelled n) (omega arith) (subst (λ (bs : List ℕ). Stands bs (4 * k) (spelled n)) table here);
+          index = in_image stand l laid (index_role local) (has_place local) indexes found written (4 * k) (spelled n) (omega arith) (subst (λ (bs : List ℕ). Stands bs (4 * k) (spelled n)) table here);
           else_zero = holds_at EntryIsShort (side_table l local) k n h (short_side l local);
         }

@@ -76,7 +76,7 @@ locals_told l k given a b c =
     (ne_eqb k (section_of_role role.Dynsym l.parts) (λ e. a (sym e))) (ne_eqb k (section_of_role role.RelaPlt l.parts) (λ e. b (sym e))) (eq-eqb k (section_of_role role.SymtabLocal l.parts) (sym c))
 
 -- the header of section k tells what is told of it, or what the layout gives
-info_from : (l : Layout) (i name : ℕ) (ss : List Section) (k : ℕ) (h : SectionHeader) → k < length ss → (given : ℕ) × ((get_or (headers_from l.kind (told_of l) i name ss) k h).info ≡ info_at (told_of l) (i + k) given)
+info_from : (l : Layout) (i name : ℕ) (ss : List Section) (k : ℕ) (h : SectionHeader) → k < length ss → (given : ℕ) × ((get_or (headers_from l (told_of l) i name ss) k h).info ≡ info_at (told_of l) (i + k) given)
 unfolding section_header
 info_from l i name [] k h low = absurd (omega (arith, low))
 info_from l i name (s ∷ ss) zero h low =

@@ -1,5 +1,5 @@
 -- Look-ups in the image of a layout without faults.
-use Rattle.std.proofs.Common.{◌≡◌, ℕ, ◌≤◌, List, length, map, Some, None, Ok, refl, sym, ap, arith, subst, add-zero}
+use Rattle.std.proofs.Common.{◌≡◌, ℕ, ◌≤◌, false, List, length, map, Some, None, Ok, refl, sym, ap, arith, subst, add-zero}
 use Rattle.wild_words.specs.Words.{Stands, word}
 use Rattle.wild_records.specs.Abi.Dynamic.{dt_hash, dt_gnu_hash}
 use Rattle.wild_records.specs.HashTables.{gnu_hash_header_fields, GnuHashHeaderFits}
@@ -9,7 +9,9 @@ use Rattle.wild_types.specs.declared.part.Role.{Role}
 use Rattle.wild_types.specs.declared.part.Role.TheVariants as role
 use Rattle.wild_types.specs.declared.layout.Layout.{Layout}
 use Rattle.wild_needs.specs.DynamicSymbols.{first_listed}
+use Rattle.wild_types.specs.Lookups.{is_hollow_at}
 use Rattle.wild_types.specs.Parts.{role_place, part_with}
+use Rattle.wild_types.proofs.LookupLemmas.{not_hollow_at}
 use Rattle.wild_layout.specs.TablePlaces.{table_bytes}
 use Rattle.wild_layout.specs.Geometry.{IsLaidOut, TablesStand}
 use Rattle.wild_layout.specs.Image.{bytes}
@@ -34,9 +36,9 @@ unfolding gnu_table gnu_hash_header_fields word
 some_gnu t hs = omega arith
 
 -- a table that stands in the image stands in the part that a look-up finds
-table_stands : (l : Layout) (r : Role) (tag : ℕ) (p : Part) (table : List ℕ) → TablesStand → IsLaidOut l → (role_place r ≡ 0 → ⊥) → part_with r l.parts ≡ Some p → 1 ≤ p.size → table_bytes l r ≡ table → (parts : HasParts l tag p) → Stands (bytes_of (bytes l) parts.parts.hashes) 0 table
-table_stands l r tag p table stand laid loaded found some is parts =
-    let here = subst (λ (bs : List ℕ). Stands (bytes l) p.offset bs) is (stand l laid r loaded p found some) in
+table_stands : (l : Layout) (r : Role) (tag : ℕ) (p : Part) (table : List ℕ) → TablesStand → IsLaidOut l → (role_place r ≡ 0 → ⊥) → part_with r l.parts ≡ Some p → is_hollow_at l p.section ≡ false → 1 ≤ p.size → table_bytes l r ≡ table → (parts : HasParts l tag p) → Stands (bytes_of (bytes l) parts.parts.hashes) 0 table
+table_stands l r tag p table stand laid loaded found written some is parts =
+    let here = subst (λ (bs : List ℕ). Stands (bytes l) p.offset bs) is (stand l laid r loaded p found written some) in
     let there = subst (λ (n : ℕ). Stands (bytes l) n table) (sym (add-zero p.offset)) here in
     let size = ((laid.roles r loaded).there p found).size in
     let same = ap (λ (bs : List ℕ). length bs) is in
@@ -59,7 +61,7 @@ sysv_found laws names law = λ l h p name w shape there.
     let is = sysv_stands l h laid w.dynamic shape in
     let some = filled l role.SysvHash p table laid (λ e. cc) there is (some_sysv h.buckets (first_listed l) (map sysv_hash_of l.dynsyms)) in
     let parts = has_parts l role.SysvHash dt_hash p laws names read w.dynamic refl refl (λ e. cc) (sysv_told l read.entries.room laws w.dynamic) there some in
-    let stands = table_stands l role.SysvHash dt_hash p table laws.stand laid (λ e. cc) there some is parts in
+    let stands = table_stands l role.SysvHash dt_hash p table laws.stand laid (λ e. cc) there (not_hollow_at l p.section w.keeps) some is parts in
     law (bytes l) parts.parts h.buckets (first_listed l) l.dynsyms name parts.is stands parts.numbered (laid.hashes.sysv h shape) (w.numbers.sysv h shape).buckets
 
 -- ---- GNU
@@ -72,7 +74,7 @@ gnu_found laws names ascend law = λ l h p name w shape there.
     let is = gnu_stands l h laid w.dynamic shape in
     let some = filled l role.GnuHash p table laid (λ e. cc) there is (some_gnu (gnu_header h) (map gnu_hash_of l.dynsyms)) in
     let parts = has_parts l role.GnuHash dt_gnu_hash p laws names read w.dynamic refl refl (λ e. cc) (gnu_told l read.entries.room laws w.dynamic) there some in
-    let stands = table_stands l role.GnuHash dt_gnu_hash p table laws.stand laid (λ e. cc) there some is parts in
+    let stands = table_stands l role.GnuHash dt_gnu_hash p table laws.stand laid (λ e. cc) there (not_hollow_at l p.section w.keeps) some is parts in
     let fits = laid.hashes.gnu h shape in
     let base = fits.base in
     let symbols = bytes_if (bytes l) parts.parts.symbols in

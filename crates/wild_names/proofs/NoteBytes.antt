@@ -69,8 +69,8 @@ property_bytes l laid =
 -- ---- where they stand
 
 holds_just : TablesStand → (l : Layout) (r : Role) (bs : List ℕ) → IsLaidOut l → (role_place r ≡ 0 → ⊥) → table_bytes l r ≡ bs → HoldsJust l r bs
-holds_just stands l r bs laid placed is = λ p there some.
-    (ap (λ (xs : List ℕ). length xs) (sym is) ∙ ((laid.roles r placed).there p there).size, subst (λ (xs : List ℕ). Stands (bytes l) p.offset xs) is (stands l laid r placed p there some))
+holds_just stands l r bs laid placed is = λ p there written some.
+    (ap (λ (xs : List ℕ). length xs) (sym is) ∙ ((laid.roles r placed).there p there).size, subst (λ (xs : List ℕ). Stands (bytes l) p.offset xs) is (stands l laid r placed p there written some))
 
 pub notes_there : TablesStand → NotesStand
 notes_there stands = record {

@@ -186,7 +186,7 @@ first_entry l laid has =
 -- ---- the image
 
 pub table_stands : TablesStand → NamesOfGroups → TableSymbolsStand
-table_stands stand names l laid local table strings found with_strings =
+table_stands stand names l laid local table strings found with_strings written text_written =
     let text = table_bytes l role.Strtab in
     let all = sides_belong l local names laid in
     record {
@@ -197,7 +197,7 @@ table_stands stand names l laid local table strings found with_strings =
   where
     null_stands : local ≡ true → slice_get (all_entries l local) 0 ≡ Some (entry_at 0 no_fields) → Stands (bytes l) table.offset (replicate 24 0)
     null_stands is e =
-        let here = entry_stands stand l laid (table_role local) (has_place local) (all_entries l local) (entries_table l local) table found 0 (entry_at 0 no_fields) e in
+        let here = entry_stands stand l laid (table_role local) (has_place local) (all_entries l local) (entries_table l local) table found written 0 (entry_at 0 no_fields) e in
         let z : table.offset + 24 * 0 ≡ table.offset = omega arith in
         subst (λ (n : ℕ). Stands (bytes l) n (replicate 24 0)) z (subst (λ (bs : List ℕ). Stands (bytes l) (table.offset + 24 * 0) bs) null_bytes here)
 
@@ -209,12 +209,12 @@ table_stands stand names l laid local table strings found with_strings =
 
     name_there : (at : ℕ) (o : Option (List ℕ)) → TellsName (table_bytes l role.Strtab) at o → IsNamedOr l strings at o
     name_there at None h = h
-    name_there at (Some name) h = named stand l laid role.Strtab (λ e. absurd (omega arith)) (text_is_short l laid) strings with_strings at name h
+    name_there at (Some name) h = named stand l laid role.Strtab (λ e. absurd (omega arith)) (text_is_short l laid) strings with_strings text_written at name h
 
     one : (k : ℕ) (n : SaidFields) → HasBeside (Tells (table_bytes l role.Strtab)) (all_entries l local) k n → HasSaid l table strings k n
     one k n b =
         let told = b.belongs in
-        let here = entry_stands stand l laid (table_role local) (has_place local) (all_entries l local) (entries_table l local) table found k b.item b.is in
+        let here = entry_stands stand l laid (table_role local) (has_place local) (all_entries l local) (entries_table l local) table found written k b.item b.is in
         record {
           at = told.at;
           entry = subst (λ (e : SymtabEntry). Stands (bytes l) (table.offset + 24 * k) (spell (symtab_entry_fields e))) told.is here;

@@ -108,7 +108,7 @@ some_bytes (d ∷ ds) h = (let own = some_with d.parent in omega arith)
 -- ---- the image
 
 pub definitions_stand : TablesStand → LengthsOfDefinitions → DefinitionsAreRead → DefinitionsAreNamed → DefinitionsStand
-definitions_stand stand lengths read names_stand l laid needs table strings found with_strings = by (last_stands l laid needs)
+definitions_stand stand lengths read names_stand l laid needs table strings found with_strings written text_written = by (last_stands l laid needs)
   where
     by : LastStands l (table_bytes l role.Dynstr) (string_start l) → DefinitionsAreThere l table strings
     by e =
@@ -121,7 +121,7 @@ definitions_stand stand lengths read names_stand l laid needs table strings foun
         let long = lengths names l.options.soname l.verdefs in
         let total = ap (λ (bs : List ℕ). length bs) given in
         let least = some_bytes l.verdefs some in
-        let there = stand l laid role.GnuVersionD (λ z. absurd (omega arith)) table found (omega arith) in
+        let there = stand l laid role.GnuVersionD (λ z. absurd (omega arith)) table found written (omega arith) in
         let here = subst (λ (bs : List ℕ). Stands (bytes l) table.offset bs) given there in
         record {
           names = names;
@@ -133,5 +133,5 @@ definitions_stand stand lengths read names_stand l laid needs table strings foun
               let low = slice_get_within l.verdefs k d h in
               let stands = names_stand l e.file (table_bytes l role.Dynstr) needs e.last (record { small = short; stand = e.stands }) k d low in
               let own = subst (λ (x : VersionDefinition). Stands (table_bytes l role.Dynstr) (name_at names k) (string (known_as l.options.soname k x.name))) (get_or_from_slice_get l.verdefs k d d h) stands in
-              named stand l laid role.Dynstr (λ z. absurd (omega arith)) short strings with_strings (name_at names k) (known_as l.options.soname k d.name) own;
+              named stand l laid role.Dynstr (λ z. absurd (omega arith)) short strings with_strings text_written (name_at names k) (known_as l.options.soname k d.name) own;
         }

@@ -101,7 +101,7 @@ some_bytes lengths (n ∷ ns) h =
 -- ---- the image
 
 pub needs_stand : TablesStand → LengthsOfNeeds → NeedsAreRead → NeedsAreNamed → NeedsStand
-needs_stand stand lengths read law l laid fit needs some table strings found with_strings =
+needs_stand stand lengths read law l laid fit needs some table strings found with_strings written text_written =
     let ns = all_records l in
     let all = records_belong law l laid needs in
     let count = belong-length (IsRecordOf (table_bytes l role.Dynstr)) ns (with_needs l) all in
@@ -110,7 +110,7 @@ needs_stand stand lengths read law l laid fit needs some table strings found wit
     let same = ap (λ (bs : List ℕ). length bs) given in
     let own = records_length lengths (table_bytes l role.Dynstr) ns (with_needs l) all in
     let least = some_bytes lengths ns (omega arith) in
-    let there = stand l laid role.GnuVersionR (λ z. absurd (omega arith)) table found (omega arith) in
+    let there = stand l laid role.GnuVersionR (λ z. absurd (omega arith)) table found written (omega arith) in
     let here = subst (λ (bs : List ℕ). Stands (bytes l) table.offset bs) (sym given) there in
     record {
       needs = ns;
@@ -121,7 +121,7 @@ needs_stand stand lengths read law l laid fit needs some table strings found wit
     }
   where
     is_named : (at : ℕ) (name : List ℕ) → Stands (table_bytes l role.Dynstr) at (string name) → IsNamed l strings at name
-    is_named = named stand l laid role.Dynstr (λ z. absurd (omega arith)) (strings_are_short l laid) strings with_strings
+    is_named = named stand l laid role.Dynstr (λ z. absurd (omega arith)) (strings_are_short l laid) strings with_strings text_written
 
     one : (k : ℕ) (w : LibraryNeeds) → HasBeside (IsRecordOf (table_bytes l role.Dynstr)) (all_records l) k w → HasNeeds l strings (all_records l) k w
     one k w b =

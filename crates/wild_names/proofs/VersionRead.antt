@@ -74,14 +74,14 @@ versions_beside l =
 -- ---- the image
 
 pub versions_stand : TablesStand → LengthsOfVersions → VersionsAreRead → VersionsStand
-versions_stand stand lengths read l laid fit needs asked table found =
+versions_stand stand lengths read l laid fit needs asked table found written =
     let vs = all_versions l in
     let given = version_table l laid needs asked in
     let size = ((laid.roles role.GnuVersion (λ e. absurd (omega arith))).there table found).size in
     let long = lengths vs in
     let total = ap (λ (bs : List ℕ). length bs) given in
     let beside = versions_beside l in
-    let there = stand l laid role.GnuVersion (λ e. absurd (omega arith)) table found (omega arith) in
+    let there = stand l laid role.GnuVersion (λ e. absurd (omega arith)) table found written (omega arith) in
     let here = subst (λ (bs : List ℕ). Stands (bytes l) table.offset bs) given there in
     let z : table.offset + 2 * 0 ≡ table.offset = omega arith in
     record {

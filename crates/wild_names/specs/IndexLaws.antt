@@ -14,6 +14,7 @@ use Rattle.wild_types.specs.declared.part.Role.TheVariants as role
 use Rattle.wild_types.specs.declared.file.Group.{Group}
 use Rattle.wild_types.specs.declared.layout.Layout.{Layout}
 use Rattle.wild_needs.specs.Needs.{long_index_size}
+use Rattle.wild_types.specs.Lookups.{is_hollow_at}
 use Rattle.wild_types.specs.Parts.{part_with}
 use Rattle.wild_symbols.specs.TableEntries.{NamedEntry, is_side, group_table}
 use Rattle.wild_layout.specs.Image.{bytes}
@@ -40,6 +41,6 @@ pub record IndexesAreThere (l : Layout) (local : Bool) (indexes : Part) : Type 0
   pub whole : indexes.size ≡ long_index_size * length (side_symbols l local)
   pub each : (k : ℕ) (n : NamedEntry) → slice_get (side_table l local) k ≡ Some n → HasIndex l local indexes k n
 
--- so it is in the image of a layout whose clauses and shares hold, where there is such a part
+-- so it is in the image of a layout whose clauses and shares hold, where there is such a part and it is written
 abbrev pub LongIndexesStand : Type 0
-LongIndexesStand = (l : Layout) → IsLaidOut l → (local : Bool) (indexes : Part) → part_with (index_role local) l.parts ≡ Some indexes → IndexesAreThere l local indexes
+LongIndexesStand = (l : Layout) → IsLaidOut l → (local : Bool) (indexes : Part) → part_with (index_role local) l.parts ≡ Some indexes → is_hollow_at l indexes.section ≡ false → IndexesAreThere l local indexes

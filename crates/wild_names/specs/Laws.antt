@@ -23,7 +23,7 @@ use Rattle.wild_types.specs.declared.layout.Layout.{Layout}
 use Rattle.wild_needs.specs.DynamicStrings.{undefined_symbols}
 use Rattle.wild_types.specs.FileRoles.{is_library}
 use Rattle.wild_types.specs.Kinds.{needs_dynsym, needs_dynamic}
-use Rattle.wild_types.specs.Lookups.{files_of, has_table}
+use Rattle.wild_types.specs.Lookups.{files_of, has_table, is_hollow_at}
 use Rattle.wild_types.specs.Parts.{part_with}
 use Rattle.wild_symbols.specs.declared.dynamic.SymbolFields.{SymbolFields}
 use Rattle.wild_symbols.specs.DynamicEntries.{NamedFields, undefined, listed, entry_at}
@@ -65,9 +65,9 @@ pub record SymbolsAreThere (l : Layout) (table strings : Part) : Type 0 where
   pub null : Stands (bytes l) table.offset (replicate symtab_entry_size 0)
   pub each : (k : ℕ) (n : NamedFields) → slice_get (table_symbols l) k ≡ Some n → HasEntry l table strings (k + 1) n
 
--- so it is in the image of a layout whose clauses and shares hold
+-- so it is in the image of a layout whose clauses and shares hold, where both are written
 abbrev pub SymbolsStand : Type 0
-SymbolsStand = (l : Layout) → IsLaidOut l → needs_dynsym l.kind ≡ true → (table strings : Part) → part_with role.Dynsym l.parts ≡ Some table → part_with role.Dynstr l.parts ≡ Some strings → SymbolsAreThere l table strings
+SymbolsStand = (l : Layout) → IsLaidOut l → needs_dynsym l.kind ≡ true → (table strings : Part) → part_with role.Dynsym l.parts ≡ Some table → part_with role.Dynstr l.parts ≡ Some strings → is_hollow_at l table.section ≡ false → is_hollow_at l strings.section ≡ false → SymbolsAreThere l table strings
 
 -- the part of the local symbols of the table of all symbols, and that of the others (gABI, "Symbol Table": local ones come first)
 abbrev pub table_role : Bool → Role
@@ -103,9 +103,9 @@ pub record TableIsThere (l : Layout) (local : Bool) (table strings : Part) : Typ
   pub null : local ≡ true → has_table l ≡ true → Stands (bytes l) table.offset (replicate symtab_entry_size 0)
   pub each : (k : ℕ) (n : SaidFields) → slice_get (side_symbols l local) k ≡ Some n → HasSaid l table strings k n
 
--- so it is in the image of a layout whose clauses and shares hold
+-- so it is in the image of a layout whose clauses and shares hold, where both are written
 abbrev pub TableSymbolsStand : Type 0
-TableSymbolsStand = (l : Layout) → IsLaidOut l → (local : Bool) (table strings : Part) → part_with (table_role local) l.parts ≡ Some table → part_with role.Strtab l.parts ≡ Some strings → TableIsThere l local table strings
+TableSymbolsStand = (l : Layout) → IsLaidOut l → (local : Bool) (table strings : Part) → part_with (table_role local) l.parts ≡ Some table → part_with role.Strtab l.parts ≡ Some strings → is_hollow_at l table.section ≡ false → is_hollow_at l strings.section ≡ false → TableIsThere l local table strings
 
 -- the entry of a library, number j of the dynamic section, tells where its name stands
 pub record HasLibrary (l : Layout) (section strings : Part) (j : ℕ) (f : File) : Type 0 where
@@ -117,6 +117,6 @@ pub record HasLibrary (l : Layout) (section strings : Part) (j : ℕ) (f : File)
 abbrev pub libraries : Layout → List File
 libraries l = filter (λ (f : File). is_library f.role) (files_of l.groups)
 
--- each library has its entry, those of all others behind them
+-- each library has its entry, those of all others behind them, where the section and the names are written
 abbrev pub LibrariesStand : Type 0
-LibrariesStand = (l : Layout) → IsLaidOut l → needs_dynamic l.kind ≡ true → (section strings : Part) → part_with role.Dynamic l.parts ≡ Some section → part_with role.Dynstr l.parts ≡ Some strings → (j : ℕ) (f : File) → slice_get (libraries l) j ≡ Some f → HasLibrary l section strings j f
+LibrariesStand = (l : Layout) → IsLaidOut l → needs_dynamic l.kind ≡ true → (section strings : Part) → part_with role.Dynamic l.parts ≡ Some section → part_with role.Dynstr l.parts ≡ Some strings → is_hollow_at l section.section ≡ false → is_hollow_at l strings.section ≡ false → (j : ℕ) (f : File) → slice_get (libraries l) j ≡ Some f → HasLibrary l section strings j f

@@ -1,6 +1,6 @@
 -- Names are found in the image of a layout without faults (gABI, "Hash Table"; GNU, "DT_GNU_HASH").
 --   found l name          the first of the listed symbols with that name, by its index in the dynamic symbol table
---   IsWritten l           an output with a dynamic section, without faults
+--   IsWritten l           an output with a dynamic section, which is written, without faults
 --   SysvLookUpsFind, GnuLookUpsFind   the look-up of any name in the image gives that symbol, and none where no symbol has the name
 --   LookUpsWithoutTable   without the part of a table, or with an empty one, the look-up in it gives none
 use Rattle.std.specs.Prelude.{◌≡◌, ℕ, true, [], List, Option, Some, None, Ok}
@@ -11,6 +11,7 @@ use Rattle.wild_types.specs.declared.layout.GnuHash.{GnuHash}
 use Rattle.wild_types.specs.declared.layout.Layout.{Layout}
 use Rattle.wild_needs.specs.DynamicPlaces.{filled_part}
 use Rattle.wild_needs.specs.DynamicSymbols.{first_listed}
+use Rattle.wild_types.specs.Hollow.{KeepsAll}
 use Rattle.wild_types.specs.Kinds.{needs_dynamic}
 use Rattle.wild_types.specs.Parts.{part_with}
 use Rattle.wild_hashes.specs.Image.{gnu_lookup_in, sysv_lookup_in}
@@ -23,11 +24,12 @@ use Rattle.wild_layout.specs.Numbers.{NumbersFit}
 abbrev pub found : Layout → List ℕ → Option ℕ
 found l name = first_named (first_listed l) (names_of l.dynsyms) name
 
--- an output with a dynamic section, without faults
+-- an output with a dynamic section, which is written, without faults
 pub record IsWritten (l : Layout) : Type 0 where
   pub dynamic : needs_dynamic l.kind ≡ true
   pub numbers : NumbersFit l
   pub none : errors l ≡ []
+  pub keeps : KeepsAll l
 
 -- in the image of one with a System V table the look-up of any name finds the first symbol of that name, or none
 abbrev pub SysvLookUpsFind : Type 0

@@ -3,12 +3,13 @@
 --   HoldsJust l r bs   the part of a role holds just these bytes
 --   NotesStand         the interpreter's path, the build id and the properties stand in their parts
 --   SearchTablesStand  so does the search table, of the frames of all files; how it is searched is a law of tables of frames
-use Rattle.std.specs.Prelude.{◌≡◌, ℕ, ◌≤◌, true, List, length, Some}
+use Rattle.std.specs.Prelude.{◌≡◌, ℕ, ◌≤◌, true, false, List, length, Some}
 use Rattle.wild_words.specs.Words.{Stands}
 use Rattle.wild_types.specs.declared.part.Part.{Part}
 use Rattle.wild_types.specs.declared.part.Role.{Role}
 use Rattle.wild_types.specs.declared.part.Role.TheVariants as role
 use Rattle.wild_types.specs.declared.layout.Layout.{Layout}
+use Rattle.wild_types.specs.Lookups.{is_hollow_at}
 use Rattle.wild_types.specs.Parts.{part_with}
 use Rattle.wild_frames.specs.Table.{table_of}
 use Rattle.wild_layout.specs.Image.{bytes}
@@ -16,9 +17,9 @@ use Rattle.wild_layout.specs.Notes.{build_id_note, property_note}
 use Rattle.wild_layout.specs.SearchTable.{address_of_role, layout_fdes}
 use Rattle.wild_layout.specs.Geometry.{IsLaidOut}
 
--- the part of a role, where there is one with bytes, holds just these
+-- the part of a role, where there is one with bytes that are written, holds just these
 abbrev pub HoldsJust : Layout → Role → List ℕ → Type 0
-HoldsJust l r bs = (p : Part) → part_with r l.parts ≡ Some p → 1 ≤ p.size → (length bs ≡ p.size) × Stands (bytes l) p.offset bs
+HoldsJust l r bs = (p : Part) → part_with r l.parts ≡ Some p → is_hollow_at l p.section ≡ false → 1 ≤ p.size → (length bs ≡ p.size) × Stands (bytes l) p.offset bs
 
 -- the path of the interpreter, the note of the build id, and that of the properties
 pub record NotesStand : Type 0 where

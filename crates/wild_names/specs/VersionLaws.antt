@@ -6,7 +6,7 @@
 --   DefinitionsStand       a reader finds just the versions that the output defines, and their names
 --   with_needs l           the libraries that versions are needed of, in order, each with these versions
 --   NeedsStand             a reader finds just these libraries and versions, and their names
-use Rattle.std.specs.Prelude.{◌≡◌, ℕ, ◌+◌, ◌*◌, ◌^◌, ◌<◌, ◌≤◌, true, List, [], ◌∷◌, ◌++◌, length, map, Option, Some, None, All, slice_get}
+use Rattle.std.specs.Prelude.{◌≡◌, ℕ, ◌+◌, ◌*◌, ◌^◌, ◌<◌, ◌≤◌, true, false, List, [], ◌∷◌, ◌++◌, length, map, Option, Some, None, All, slice_get}
 use Rattle.std.specs.List.{flat_map}
 use Rattle.wild_records.specs.Abi.Version.{ver_ndx_local}
 use Rattle.wild_records.specs.Versyms.{versym_size, versym_at}
@@ -23,7 +23,7 @@ use Rattle.wild_types.specs.declared.symbol.Symbol.{Symbol}
 use Rattle.wild_needs.specs.DynamicStrings.{undefined_symbols}
 use Rattle.wild_types.specs.Kinds.{needs_dynsym}
 use Rattle.wild_types.specs.Lists.{total}
-use Rattle.wild_types.specs.Lookups.{files_of}
+use Rattle.wild_types.specs.Lookups.{files_of, is_hollow_at}
 use Rattle.wild_types.specs.Parts.{part_with}
 use Rattle.wild_needs.specs.Versions.{definitions_size, need_size, needs_of}
 use Rattle.wild_versions.specs.Chain.{name_at}
@@ -60,9 +60,9 @@ pub record VersionsAreThere (l : Layout) (table : Part) : Type 0 where
   pub null : (versym_at (bytes l) table.offset).version ≡ ver_ndx_local
   pub each : (k v : ℕ) → slice_get (table_versions l) k ≡ Some v → (versym_at (bytes l) (table.offset + versym_size * (k + 1))).version ≡ v
 
--- so it is in the image of a layout whose clauses and shares hold, where the option asks for versions
+-- so it is in the image of a layout whose clauses and shares hold, where the option asks for versions and the table is written
 abbrev pub VersionsStand : Type 0
-VersionsStand = (l : Layout) → IsLaidOut l → VersionNumbersFit l → needs_dynsym l.kind ≡ true → l.options.versions ≡ true → (table : Part) → part_with role.GnuVersion l.parts ≡ Some table → VersionsAreThere l table
+VersionsStand = (l : Layout) → IsLaidOut l → VersionNumbersFit l → needs_dynsym l.kind ≡ true → l.options.versions ≡ true → (table : Part) → part_with role.GnuVersion l.parts ≡ Some table → is_hollow_at l table.section ≡ false → VersionsAreThere l table
 
 -- ---- the versions that the output defines
 
@@ -76,9 +76,9 @@ pub record DefinitionsAreThere (l : Layout) (table strings : Part) : Type 0 wher
   pub named : (k : ℕ) (d : VersionDefinition) → slice_get l.verdefs k ≡ Some d → IsNamed l strings (name_at names k) (known_as l.options.soname k d.name)
   pub parents : (k : ℕ) (d : VersionDefinition) (p : ℕ) → slice_get l.verdefs k ≡ Some d → d.parent ≡ Some p → p < k
 
--- so it is in the image of a layout whose clauses and shares hold
+-- so it is in the image of a layout whose clauses and shares hold, where both are written
 abbrev pub DefinitionsStand : Type 0
-DefinitionsStand = (l : Layout) → IsLaidOut l → needs_dynsym l.kind ≡ true → (table strings : Part) → part_with role.GnuVersionD l.parts ≡ Some table → part_with role.Dynstr l.parts ≡ Some strings → DefinitionsAreThere l table strings
+DefinitionsStand = (l : Layout) → IsLaidOut l → needs_dynsym l.kind ≡ true → (table strings : Part) → part_with role.GnuVersionD l.parts ≡ Some table → part_with role.Dynstr l.parts ≡ Some strings → is_hollow_at l table.section ≡ false → is_hollow_at l strings.section ≡ false → DefinitionsAreThere l table strings
 
 -- ---- the versions that are needed of libraries
 
@@ -116,6 +116,6 @@ pub record NeedsAreThere (l : Layout) (table strings : Part) : Type 0 where
   pub found : (n : ℕ) → length needs ≤ n → needs_from (bytes l) n table.offset ≡ map library_of needs
   pub each : (k : ℕ) (w : LibraryNeeds) → slice_get (with_needs l) k ≡ Some w → HasNeeds l strings needs k w
 
--- so it is in the image of a layout whose clauses and shares hold
+-- so it is in the image of a layout whose clauses and shares hold, where both are written
 abbrev pub NeedsStand : Type 0
-NeedsStand = (l : Layout) → IsLaidOut l → VersionNumbersFit l → needs_dynsym l.kind ≡ true → 1 ≤ length (with_needs l) → (table strings : Part) → part_with role.GnuVersionR l.parts ≡ Some table → part_with role.Dynstr l.parts ≡ Some strings → NeedsAreThere l table strings
+NeedsStand = (l : Layout) → IsLaidOut l → VersionNumbersFit l → needs_dynsym l.kind ≡ true → 1 ≤ length (with_needs l) → (table strings : Part) → part_with role.GnuVersionR l.parts ≡ Some table → part_with role.Dynstr l.parts ≡ Some strings → is_hollow_at l table.section ≡ false → is_hollow_at l strings.section ≡ false → NeedsAreThere l table strings

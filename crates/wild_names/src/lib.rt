@@ -25,8 +25,8 @@ mod numbers;
 
 pub use numbers::version_numbers_fit;
 
-/// The dynamic symbol table and its strings are there; each symbol has its entry, in order, and its name stands where the
-/// entry tells.
+/// The dynamic symbol table and its strings are there; where both are written each symbol has its entry, in order, and its name
+/// stands where the entry tells.
 pub fn dynamic_symbols_stand()
     ensures there { SymbolTablesAreThere }
     ensures stand { SymbolsStand }
@@ -35,7 +35,7 @@ pub fn dynamic_symbols_stand()
 }
 
 /// Each local symbol of the table of all symbols has its entry in one part, each other one in the other, in order, and its
-/// name stands where the entry tells.
+/// name stands where the entry tells, if these and their names are written.
 pub fn table_symbols_stand()
     ensures { TableSymbolsStand }
 {
@@ -43,7 +43,7 @@ pub fn table_symbols_stand()
     names_are_strings();
 }
 
-/// Where there is a part for them, each entry of the table of all symbols has its longer section index, in order; it is 0 where
+/// Where there is a part for them that is written, each entry of the table of all symbols has its longer section index, in order; it is 0 where
 /// the entry tells its section itself.
 pub fn long_indexes_stand()
     ensures { LongIndexesStand }
@@ -52,8 +52,8 @@ pub fn long_indexes_stand()
     entries_are_counted();
 }
 
-/// The path of the interpreter, the note of the build id and that of the properties stand in their parts, and so does the search table of
-/// the frames of all files.
+/// The path of the interpreter, the note of the build id and that of the properties stand in their parts where these are written, and so does
+/// the search table of the frames of all files.
 pub fn notes_stand()
     ensures notes { NotesStand }
     ensures search { SearchTablesStand }
@@ -61,7 +61,7 @@ pub fn notes_stand()
     tables_stand();
 }
 
-/// Each library has its entry in the dynamic section, and its name stands where the entry tells.
+/// Each library has its entry in the dynamic section, and its name stands where the entry tells, if both are written.
 pub fn libraries_stand()
     ensures { LibrariesStand }
 {
@@ -88,7 +88,7 @@ pub fn local_symbols_are_counted()
 }
 
 /// The version of each dynamic symbol is read beside it. A reader of versions finds just those that the output defines, and
-/// those that are needed of libraries, and each name stands where its record tells.
+/// those that are needed of libraries, and each name stands where its record tells, if these tables and their names are written.
 pub fn versions_stand()
     ensures versions { VersionsStand }
     ensures definitions { DefinitionsStand }
@@ -117,7 +117,7 @@ fn tables_are_read()
     dynamic_entry_is_read();
 }
 
-/// In an image with a System V table the look-up of any name finds the first symbol of that name, or none.
+/// In an image with a System V table, of which all is written, the look-up of any name finds the first symbol of that name, or none.
 pub fn sysv_names_are_found()
     ensures { SysvLookUpsFind }
 {
@@ -125,7 +125,7 @@ pub fn sysv_names_are_found()
     sysv_look_up_finds_the_first();
 }
 
-/// In an image with a GNU table the look-up of any name finds the first symbol of that name, or none.
+/// In an image with a GNU table, of which all is written, the look-up of any name finds the first symbol of that name, or none.
 pub fn gnu_names_are_found()
     ensures { GnuLookUpsFind }
 {

@@ -21,7 +21,10 @@ use Rattle.wild_types.specs.declared.input.InputSection.{InputSection}
 use Rattle.wild_types.specs.declared.file.File.{File}
 use Rattle.wild_types.specs.declared.file.Group.{Group}
 use Rattle.wild_types.specs.declared.layout.Layout.{Layout}
-use Rattle.wild_types.specs.Lookups.{is_filled}
+use Rattle.wild_types.specs.Hollow.{KeepsAll}
+use Rattle.wild_types.specs.Kinds.{is_partial_link}
+use Rattle.wild_types.specs.Lookups.{is_given, is_filled, is_hollow_part}
+use Rattle.wild_types.proofs.LookupLemmas.{not_hollow_part}
 use Rattle.wild_laid.specs.Turned.{turned, turned_offset, as_turned}
 use Rattle.wild_laid.specs.Laid.{base_of, counted_from, relocations_at, target_relocations, tabled, laid_by, laid_section, laid_sections, laid_file}
 use Rattle.wild_clauses.specs.WellFormed.{first_clause}
@@ -76,9 +79,16 @@ stood_so l f s t k is =
     let c = laid_section_of l f a.0 f.sections s k.listed in
     record { group = k.group; grouped = k.grouped; file = laid_file l a.0 f; filed = a.1; owner = laid_file l a.0 f; listed = Own refl (subst (λ (x : InputSection). Contains (laid_sections l f a.0 f.sections) x) (is c.0) c.1) }
 
-stood_stands : (l : Layout) (t : InputSection) (bs : List ℕ) → OwnersAreKnown → IsLaidOut l → IsLaid l t → is_filled l t ≡ true → ((o : File) → section_bytes l o t ≡ bs) → Stands (bytes l) (place_in l t) bs
-stood_stands l t bs law laid k filled is =
-    let piece = section_listed l t k filled in
+both_so : (a b : Bool) → a ≡ true → b ≡ false → (a && not b) ≡ true
+both_so a b p q = rw (p, q) refl
+
+-- of a relocatable object all is written
+given_filled : (l : Layout) (t : InputSection) → KeepsAll l → is_given l t ≡ true → is_filled l t ≡ true
+given_filled l t keeps given = both_so (is_given l t) (is_hollow_part l t.part) given (not_hollow_part l t.part keeps)
+
+stood_stands : (l : Layout) (t : InputSection) (bs : List ℕ) → OwnersAreKnown → is_partial_link l.kind ≡ true → IsLaidOut l → IsLaid l t → is_given l t ≡ true → ((o : File) → section_bytes l o t ≡ bs) → Stands (bytes l) (place_in l t) bs
+stood_stands l t bs law partial laid k given is =
+    let piece = section_listed l t k (given_filled l t (laid.kept partial) given) in
     subst (λ (xs : List ℕ). Stands (bytes l) (place_in l t) xs) (is k.owner) ((law l laid).owned (record { at = place_in l t; bytes = section_bytes l k.owner t }) piece)
 
 -- ---- tables of relocations
@@ -105,19 +115,19 @@ entry_listed l f s t k r target there =
     let moved : slice_get (target_relocations f s) k ≡ Some (counted_from (base_of t) r) = ap (λ (qs : List InputRelocation). slice_get qs k) rs ∙ slice_get-map (counted_from (base_of t)) (as_turned t).relocations k ∙ ap (option_map (counted_from (base_of t))) there in
     slice_get-map (rela_of l) (target_relocations f s) k ∙ ap (option_map (rela_of l)) moved
 
-entry_stands : (l : Layout) (f : File) (s t : InputSection) → OwnersAreKnown → IsLaidOut l → IsSectionOf l f s → s.slot ≡ slot.Rela → s.nobits ≡ false → slice_get f.sections s.target ≡ Some t → s.size ≡ rela_size * length t.relocations → (k : ℕ) (r : InputRelocation) → slice_get (as_turned t).relocations k ≡ Some r → Stands (bytes l) (place_in l s + rela_size * k) (spelled (entry_of l t r))
+entry_stands : (l : Layout) (f : File) (s t : InputSection) → OwnersAreKnown → is_partial_link l.kind ≡ true → IsLaidOut l → IsSectionOf l f s → s.slot ≡ slot.Rela → s.nobits ≡ false → slice_get f.sections s.target ≡ Some t → s.size ≡ rela_size * length t.relocations → (k : ℕ) (r : InputRelocation) → slice_get (as_turned t).relocations k ≡ Some r → Stands (bytes l) (place_in l s + rela_size * k) (spelled (entry_of l t r))
 unfolding rela_bytes_of
-entry_stands l f s t law laid k e bits target whole i r there =
+entry_stands l f s t law partial laid k e bits target whole i r there =
     let es = map (rela_of l) (target_relocations f s) in
     let within = slice_get_within (as_turned t).relocations i r there in
     let many = turned_count t in
     let some : (s.size == 0) ≡ false = ne_eqb s.size 0 (λ z. omega (arith, z, whole, many, within)) in
-    let filled : is_filled l (tabled f s) ≡ true = rw (bits, some) refl in
-    let all : Stands (bytes l) (place_in l s) (flat_map spelled es) = stood_stands l (tabled f s) (rela_bytes_of l (tabled f s)) law laid (stood_so l f s (tabled f s) k (λ at. laid_table l f at s e)) filled (λ o. section_bytes_rela l o (tabled f s) refl bits) in
+    let given : is_given l (tabled f s) ≡ true = rw (bits, some) refl in
+    let all : Stands (bytes l) (place_in l s) (flat_map spelled es) = stood_stands l (tabled f s) (rela_bytes_of l (tabled f s)) law partial laid (stood_so l f s (tabled f s) k (λ at. laid_table l f at s e)) given (λ o. section_bytes_rela l o (tabled f s) refl bits) in
     Stands-inner (bytes l) (flat_map spelled es) (spelled (entry_of l t r)) (place_in l s) (24 * i) all (Stands-record spelled 24 length-rela es i (entry_of l t r) (entry_listed l f s t i r target there))
 
-has_table : OwnersAreKnown → LayoutsAreLaidOut → (l : Layout) (f : File) (s : InputSection) → errors l ≡ [] → IsSectionOf l f s → s.slot ≡ slot.Rela → HasTable l f s
-has_table law out l f s none k e =
+has_table : OwnersAreKnown → LayoutsAreLaidOut → (l : Layout) (f : File) (s : InputSection) → is_partial_link l.kind ≡ true → errors l ≡ [] → IsSectionOf l f s → s.slot ≡ slot.Rela → HasTable l f s
+has_table law out l f s partial none k e =
     let h = clauses_hold l none in
     let fits : has_entries s.size (slice_get f.sections s.target) ≡ true = rw e at (table_tested l f s h.partial.tables k) in
     let filled : not s.nobits ≡ true = rw e at (tested l f s table_has_data h.partial.filled k) in
@@ -127,7 +137,7 @@ has_table law out l f s none k e =
     by bits None is h = cc
     by bits (Some t) is h =
         let whole = eqb-true s.size (rela_size * length t.relocations) h in
-        record { target = t; listed = is; whole = whole; each = λ i r there. entry_stands l f s t law (laid_out out l none) k e bits is whole i r there }
+        record { target = t; listed = is; whole = whole; each = λ i r there. entry_stands l f s t law partial (laid_out out l none) k e bits is whole i r there }
 
 -- ---- groups
 
@@ -135,15 +145,15 @@ laid_group : (l : Layout) (f : File) (at : ℕ) (s : InputSection) → s.slot �
 unfolding laid_section
 laid_group l f at s e = ap (λ (k : Slot). laid_by k l f at s) e
 
-group_stands : (l : Layout) (f : File) (s : InputSection) → OwnersAreKnown → IsLaidOut l → IsSectionOf l f s → s.slot ≡ slot.Group → s.nobits ≡ false → length s.bytes ≡ s.size → s.size ≡ 4 + 4 * length s.members → Stands (bytes l) (place_in l s) (take 4 s.bytes ++ flat_map (word 4) s.members)
+group_stands : (l : Layout) (f : File) (s : InputSection) → OwnersAreKnown → is_partial_link l.kind ≡ true → IsLaidOut l → IsSectionOf l f s → s.slot ≡ slot.Group → s.nobits ≡ false → length s.bytes ≡ s.size → s.size ≡ 4 + 4 * length s.members → Stands (bytes l) (place_in l s) (take 4 s.bytes ++ flat_map (word 4) s.members)
 unfolding group_words
-group_stands l f s law laid k e bits long whole =
+group_stands l f s law partial laid k e bits long whole =
     let some : (length s.bytes == 0) ≡ false = ne_eqb (length s.bytes) 0 (λ z. omega (arith, z, long, whole)) in
-    let filled : is_filled l s ≡ true = rw (e, bits, some) refl in
-    stood_stands l s (group_words s) law laid (stood_so l f s s k (λ at. laid_group l f at s e)) filled (λ o. section_bytes_group l o s e bits)
+    let given : is_given l s ≡ true = rw (e, bits, some) refl in
+    stood_stands l s (group_words s) law partial laid (stood_so l f s s k (λ at. laid_group l f at s e)) given (λ o. section_bytes_group l o s e bits)
 
-has_group : OwnersAreKnown → LayoutsAreLaidOut → (l : Layout) (f : File) (s : InputSection) → errors l ≡ [] → IsSectionOf l f s → s.slot ≡ slot.Group → HasGroup l s
-has_group law out l f s none k e =
+has_group : OwnersAreKnown → LayoutsAreLaidOut → (l : Layout) (f : File) (s : InputSection) → is_partial_link l.kind ≡ true → errors l ≡ [] → IsSectionOf l f s → s.slot ≡ slot.Group → HasGroup l s
+has_group law out l f s partial none k e =
     let h = clauses_hold l none in
     let laid = laid_out out l none in
     let fits : (s.size == 4 + 4 * length s.members) ≡ true = rw e at (tested l f s group_fits_members h.partial.members k) in
@@ -152,7 +162,7 @@ has_group law out l f s none k e =
     let bits = not-true s.nobits filled in
     let lengths : ((length s.bytes == s.size) || false) ≡ true = rw (e, bits) at (tested l f s length_fits h.inputs.lengths k) in
     let long : length s.bytes ≡ s.size = elim (or_cases (length s.bytes == s.size) false lengths) [ inl a ↦ eqb-true (length s.bytes) s.size a | inr b ↦ cc ] in
-    let all = group_stands l f s law laid k e bits long whole in
+    let all = group_stands l f s law partial laid k e bits long whole in
     let four : length (take 4 s.bytes) ≡ 4 = length-take-le 4 s.bytes (omega (arith, long, whole)) in
     let members = Stands-behind (bytes l) (take 4 s.bytes) (flat_map (word 4) s.members) (place_in l s) 4 four all in
     record {
@@ -163,6 +173,6 @@ has_group law out l f s none k e =
 
 pub object_tables_stand : OwnersAreKnown → LayoutsAreLaidOut → ObjectTablesStand
 object_tables_stand law out = record {
-  tables = λ l f s partial none k e. has_table law out l f s none k e;
-  groups = λ l f s partial none k e. has_group law out l f s none k e;
+  tables = λ l f s partial none k e. has_table law out l f s partial none k e;
+  groups = λ l f s partial none k e. has_group law out l f s partial none k e;
 }

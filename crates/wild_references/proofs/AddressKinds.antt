@@ -3,6 +3,7 @@ use Rattle.std.proofs.Common.{◌≡◌, ℕ, ◌+◌, ◌%◌, ◌^◌, Bool, t
 use Rattle.std.specs.Prelude.{◌&&◌, Ok, FitsSigned}
 use Rattle.wild_types.specs.declared.input.InputRelocation.{InputRelocation}
 use Rattle.wild_types.specs.declared.layout.Layout.{Layout}
+use Rattle.wild_types.specs.Hollow.{KeepsAll}
 use Rattle.wild_types.specs.Flags.{has_flag, absolute}
 use Rattle.wild_types.specs.Kinds.{is_position_independent}
 use Rattle.wild_slot.specs.Treatment.{flags_at, moves}
@@ -38,12 +39,12 @@ not_absolute l i h = by_tests (is_position_independent l.kind) (has_flag (flags_
 moved_here : (base a c x still_base : ℕ) → (a + c) % 2 ^ 64 ≡ x → still_base ≡ (base + a) % 2 ^ 64 → (x + base) % 2 ^ 64 ≡ (still_base + c) % 2 ^ 64
 moved_here base a c x still_base e f = omega (arith, e, f)
 
-pub gives_moved : StubLaws → (l : Layout) (w : World) (m : Memory) (s : Item) (r : InputRelocation) (x : ℕ) (packed : Bool) → IsPlaced l w m → FitsSigned w64 r.addend → decided l s r ≡ Ok (Moved x packed) → IsFollowed l r SymbolAddress → IsSum SymbolAddress l w m s r ((x + w.base) % 2 ^ 64)
-gives_moved law l w m s r x packed p fits made f = (let v = decided_moved l s r x packed made in by_for v (address_is_for l r v.address v.given))
+pub gives_moved : StubLaws → (l : Layout) (w : World) (m : Memory) (s : Item) (r : InputRelocation) (x : ℕ) (packed : Bool) → KeepsAll l → IsPlaced l w m → FitsSigned w64 r.addend → decided l s r ≡ Ok (Moved x packed) → IsFollowed l r SymbolAddress → IsSum SymbolAddress l w m s r ((x + w.base) % 2 ^ 64)
+gives_moved law l w m s r x packed all p fits made f = (let v = decided_moved l s r x packed made in by_for v (address_is_for l r v.address v.given))
   where
     by_for : (v : IsMoved l s r x packed) → IsFor l r v.address → IsSum SymbolAddress l w m s r ((x + w.base) % 2 ^ 64)
     by_for v (OfSymbol none given) =
-        let t = addressed law l w m r.symbol v.address p (follows l r SymbolAddress tt f) given in
+        let t = addressed law l w m r.symbol v.address p (λ i named. inl all) (follows l r SymbolAddress tt f) given in
         let still : t.still ≡ false = sym (t.flag v.by.number v.by.named) ∙ not_absolute l v.by.number v.by.moves in
         let target : moved t.still w.base v.address ≡ (w.base + v.address) % 2 ^ 64 = ap (λ (b : Bool). moved b w.base v.address) still in
         record { symbol = moved t.still w.base v.address; denoted = address_referent l w m s r (moved t.still w.base v.address) (names_none l r none) t.denoted; sum = moved_here w.base v.address (more r) x (moved t.still w.base v.address) v.value target }
@@ -53,10 +54,10 @@ gives_moved law l w m s r x packed p fits made f = (let v = decided_moved l s r 
         record { symbol = a; denoted = inl ((tt, string_named l w r a found), found); sum = moved_here w.base v.address (more r) x a v.value refl }
 
 -- the same with the own symbol
-pub links_moved : StubLaws → (l : Layout) (w : World) (m : Memory) (s : Item) (r : InputRelocation) (x i : ℕ) (packed : Bool) → IsPlaced l w m → decided l s r ≡ Ok (Moved x packed) → r.symbol ≡ Some i → IsReplaceable l i true → (IsStubbed l i → ⊥) → IsOwnSum SymbolAddress l w s r ((x + w.base) % 2 ^ 64)
-links_moved law l w m s r x i packed p made named whose alone =
+pub links_moved : (l : Layout) (w : World) (m : Memory) (s : Item) (r : InputRelocation) (x i : ℕ) (packed : Bool) → IsPlaced l w m → decided l s r ≡ Ok (Moved x packed) → r.symbol ≡ Some i → IsReplaceable l i true → (IsStubbed l i → ⊥) → IsOwnSum SymbolAddress l w s r ((x + w.base) % 2 ^ 64)
+links_moved l w m s r x i packed p made named whose alone =
     let v = decided_moved l s r x packed made in
-    let t = linked law l w m i v.address p alone (subst (λ (o : Option ℕ). address_of l o ≡ Ok v.address) named (sym (plain_address l r (replaceable_none l r i p.symbols.named named whose)) ∙ v.given)) in
+    let t = linked l w m i v.address p alone (subst (λ (o : Option ℕ). address_of l o ≡ Ok v.address) named (sym (plain_address l r (replaceable_none l r i p.symbols.named named whose)) ∙ v.given)) in
     let one : v.by.number ≡ i = (let e : Some v.by.number ≡ Some i = sym v.by.named ∙ named in cc) in
     let still : t.still ≡ false = sym t.flag ∙ not_absolute l i (subst (λ (k : ℕ). moves l k ≡ true) one v.by.moves) in
     let target : moved t.still w.base v.address ≡ (w.base + v.address) % 2 ^ 64 = ap (λ (b : Bool). moved b w.base v.address) still in

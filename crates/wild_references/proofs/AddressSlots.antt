@@ -7,6 +7,7 @@ use Rattle.wild_slot.specs.declared.slot.SlotItem.TheVariants.{Word}
 use Rattle.wild_slot.specs.declared.slot.SlotWord.TheVariants.{Number, Address, General}
 use Rattle.wild_types.specs.declared.symbol.Resolution.{Resolution}
 use Rattle.wild_types.specs.declared.layout.Layout.{Layout}
+use Rattle.wild_types.specs.Hollow.{KeepsAll}
 use Rattle.wild_types.specs.Flags.{has_flag, ifunc_got_for_address, canonical_plt_got_for_address}
 use Rattle.wild_types.specs.Kinds.{is_position_independent}
 use Rattle.wild_slot.specs.Slots.{setting_of, named, general, stub_items, stub_address, where_so, number, ifunc_address_items, canonical_address_items}
@@ -68,9 +69,9 @@ second_is w m place false stub x still low h = let z = still refl in omega (arit
 first_stands : (l : Layout) (w : World) (m : Memory) (i at : ℕ) (rest : List SlotItem) → HasFirst l w m i at rest → SlotStands AddressSlot l w m i at
 first_stands l w m i at rest h = record { holds = (h.value, h.there, inl h.is); below = word_below m (w.base + at) h.value h.there }
 
-second_stands : StubLaws → (l : Layout) (w : World) (m : Memory) (i at : ℕ) (r : Resolution) → IsPlaced l w m → IsResolvedBy l i r → HasSecond w m (is_position_independent l.kind) at r.plt_address → SlotStands AddressSlot l w m i at
-second_stands law l w m i at r p d h =
-    let stub = stub_from law l w m i h.stub r p d h.given in
+second_stands : StubLaws → (l : Layout) (w : World) (m : Memory) (i at : ℕ) (r : Resolution) → IsPlaced l w m → KeepsAll l → IsResolvedBy l i r → HasSecond w m (is_position_independent l.kind) at r.plt_address → SlotStands AddressSlot l w m i at
+second_stands law l w m i at r p all d h =
+    let stub = stub_from law l w m i h.stub r p all d h.given in
     let same = second_is w m (w.base + at) (is_position_independent l.kind) h.stub h.value p.still stub.below h.is in
     record {
       holds = (h.value, h.there, inr (subst (λ (a : ℕ). IsStub l w m i a) (sym same) (stub_is l w m i h.stub stub)));
@@ -97,27 +98,27 @@ canonical_stands l w m i at r p d plain asked h =
 
 -- ---- the one that references take
 
-second_by : StubLaws → (l : Layout) (w : World) (m : Memory) (i at : ℕ) (r : Resolution) → IsPlaced l w m → IsResolvedBy l i r → has_second_slot r.flags ≡ true → ItemsHold w m at (items_behind l r) → SlotStands AddressSlot l w m i at
-second_by law l w m i at r p d e h = by_flag (has_flag r.flags ifunc_got_for_address) refl e
+second_by : StubLaws → (l : Layout) (w : World) (m : Memory) (i at : ℕ) (r : Resolution) → IsPlaced l w m → KeepsAll l → IsResolvedBy l i r → has_second_slot r.flags ≡ true → ItemsHold w m at (items_behind l r) → SlotStands AddressSlot l w m i at
+second_by law l w m i at r p all d e h = by_flag (has_flag r.flags ifunc_got_for_address) refl e
   where
     by_flag : (b : Bool) → has_flag r.flags ifunc_got_for_address ≡ b → (b || has_flag r.flags canonical_plt_got_for_address) ≡ true → SlotStands AddressSlot l w m i at
-    by_flag true asked e = second_stands law l w m i at r p d (second_asked l w m at r asked h)
+    by_flag true asked e = second_stands law l w m i at r p all d (second_asked l w m at r asked h)
     by_flag false plain e = canonical_stands l w m i at r p d plain e h
 
-behind_by : StubLaws → (l : Layout) (w : World) (m : Memory) (i at : ℕ) (r : Resolution) (b : Bool) → IsPlaced l w m → IsResolvedBy l i r → has_second_slot r.flags ≡ b → HasFirst l w m i at (items_behind l r) → SlotStands AddressSlot l w m i (behind_word b at)
-behind_by law l w m i at r false p d e first = first_stands l w m i at (items_behind l r) first
-behind_by law l w m i at r true p d e first =
-    let there = second_by law l w m i (at + 8) r p d e first.behind in
+behind_by : StubLaws → (l : Layout) (w : World) (m : Memory) (i at : ℕ) (r : Resolution) (b : Bool) → IsPlaced l w m → KeepsAll l → IsResolvedBy l i r → has_second_slot r.flags ≡ b → HasFirst l w m i at (items_behind l r) → SlotStands AddressSlot l w m i (behind_word b at)
+behind_by law l w m i at r false p all d e first = first_stands l w m i at (items_behind l r) first
+behind_by law l w m i at r true p all d e first =
+    let there = second_by law l w m i (at + 8) r p all d e first.behind in
     let low = there.below in
     let same : (at + 8) % 2 ^ 64 ≡ at + 8 = omega (arith, low) in
     subst (λ (n : ℕ). SlotStands AddressSlot l w m i n) (sym same) there
 
--- where the writer knows of a slot for an address, memory has it
-pub slots_stand : StubLaws → (l : Layout) (w : World) (m : Memory) → IsPlaced l w m → SlotsStand sorts.Address l w m
-slots_stand law l w m p = λ i slot h. by_slot sorts.Address l i slot (λ (n : ℕ). SlotStands AddressSlot l w m i n) h (λ r at d e among. by_flag i slot r at d e (has_thread_slot r.flags) refl among)
+-- where the writer knows of a slot for an address and all is written, memory has it
+pub slots_stand : StubLaws → (l : Layout) (w : World) (m : Memory) → IsPlaced l w m → KeepsAll l → SlotsStand sorts.Address l w m
+slots_stand law l w m p all = λ i slot h. by_slot sorts.Address l i slot (λ (n : ℕ). SlotStands AddressSlot l w m i n) h (λ r at d e among. by_flag i slot r at d e (has_thread_slot r.flags) refl among)
   where
     by_flag : (i slot : ℕ) (r : Resolution) (at : ℕ) → IsResolvedBy l i r → r.got_address ≡ Some at → (thread : Bool) → has_thread_slot r.flags ≡ thread → (if thread then None else Some (behind_word (has_second_slot r.flags) at)) ≡ Some slot → SlotStands AddressSlot l w m i slot
     by_flag i slot r at d e true plain h = cc
     by_flag i slot r at d e false plain h =
         let same : behind_word (has_second_slot r.flags) at ≡ slot = cc in
-        subst (λ (n : ℕ). SlotStands AddressSlot l w m i n) same (behind_by law l w m i at r (has_second_slot r.flags) p d refl (first_held l w m i at r p d e plain))
+        subst (λ (n : ℕ). SlotStands AddressSlot l w m i n) same (behind_by law l w m i at r (has_second_slot r.flags) p all d refl (first_held l w m i at r p all d e plain))

@@ -68,11 +68,11 @@ left_asked l s row i room write width open_one =
     by_tests false b wide fixed e f g h = cc
 
 -- what one that is left says
-record IsOpen (l : Layout) (s : Item) (i : ℕ) : Type 0 where
+pub record IsOpen (l : Layout) (s : Item) (i : ℕ) : Type 0 where
   pub writable : writable s.flags ≡ true
   pub interposable : has_flag (flags_at l i) non_interposable ≡ false
 
-left_open : (l : Layout) (s : Item) (row : RelocationKindInfo) (i : ℕ) → is_left l s.flags row i ≡ true → IsOpen l s i
+pub left_open : (l : Layout) (s : Item) (row : RelocationKindInfo) (i : ℕ) → is_left l s.flags row i ≡ true → IsOpen l s i
 left_open l s row i h = by_tests (allocated s.flags) (writable s.flags) (field_width row == 8) (has_flag (flags_at l i) non_interposable) refl refl h
   where
     by_tests : (a b wide fixed : Bool) → writable s.flags ≡ b → has_flag (flags_at l i) non_interposable ≡ fixed → (a && b && wide && not fixed) ≡ true → IsOpen l s i

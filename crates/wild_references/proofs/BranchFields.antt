@@ -1,25 +1,34 @@
 -- The fields of AArch64's rows that keep the bytes around them: a branch, and the distance of a stub, goes to the symbol's stub, or of an own symbol
 -- to itself.
-use Rattle.std.proofs.Common.{◌≡◌, ℕ, ◌+◌, ◌-◌, ◌%◌, ◌^◌, ◌<◌, inl, inr, Bool, true, false, refl, sym, ap, ◌∙◌, arith, subst}
-use Rattle.std.specs.Prelude.{Option, Some, None, Ok, ◌&&◌, ◌||◌, not, is_none}
-use Rattle.std.proofs.lemmas.Bool.{cases_Bool, not-true, and_parts}
-use Rattle.wild_words.proofs.Basics.{implied}
+use Rattle.std.proofs.Common.{◌≡◌, ℕ, ◌+◌, ◌-◌, ◌%◌, ◌^◌, ◌<◌, ◌≤◌, ◌⊎◌, inl, inr, Bool, true, false, refl, sym, ap, ◌∙◌, arith, subst}
+use Rattle.std.specs.Prelude.{Option, Some, None, Ok, ◌&&◌, ◌||◌, not, is_none, nat_lt, nat_le, if◌then◌else◌, All, Contains, length}
+use Rattle.std.specs.List.{list_all}
+use Rattle.std.proofs.lemmas.Bool.{cases_Bool, not-true, and_parts, lt-ltb, le-leb}
+use Rattle.std.specs.Int.{w64, cast_unsigned}
+use Rattle.wild_words.proofs.Basics.{implied, listed_passes, slice_get_inside}
 use Rattle.wild_words.proofs.ListLemmas.{holds_at}
+use Rattle.wild_records.specs.Abi.Relocation.{r_aarch64_tstbr14, r_aarch64_condbr19, r_aarch64_jump26, r_aarch64_call26}
+use Rattle.wild_types.specs.declared.fault.Missing.TheVariants as missing
 use Rattle.wild_types.specs.declared.kind.Machine.{Machine}
 use Rattle.wild_types.specs.declared.kind.Machine.TheVariants as machine
 use Rattle.wild_types.specs.declared.input.InputRelocation.{InputRelocation}
 use Rattle.wild_types.specs.Item.{Item}
 use Rattle.wild_types.specs.declared.layout.Layout.{Layout}
-use Rattle.wild_types.specs.Flags.{has_flag, interposable, ifunc, undefined_weak}
+use Rattle.wild_types.specs.Flags.{has_flag, interposable, ifunc, undefined_weak, plt_stub}
+use Rattle.wild_types.specs.Hollow.{KeepsAll}
 use Rattle.wild_types.specs.Kinds.{is_position_independent}
 use Rattle.wild_types.specs.Lookups.{place_of, allocated, executable}
 use Rattle.wild_types.specs.Rows.{row_of}
 use Rattle.wild_slot.specs.declared.treatment.Treatment.TheVariants as treatments
 use Rattle.wild_slot.specs.Treatment.{flags_at, is_barred_type, is_elsewhere, is_barred, kind_treatment, suits}
 use Rattle.wild_reloc.specs.Expression.{expression_of}
-use Rattle.wild_reloc.specs.Field.{allows}
-use Rattle.wild_reloc.specs.Formula.{Value, Formula, StubDistance, Distance}
-use Rattle.wild_reloc.specs.TableAArch64.{static_row}
+use Rattle.wild_reloc.specs.Field.{allows, size_width}
+use Rattle.wild_reloc.specs.Formula.{Value, Formula, formula, StubDistance, Distance, Bits, Imm26Field, WithinPower}
+use Rattle.wild_reloc.specs.FormulaAArch64.{aarch64_formula}
+use Rattle.wild_reloc.specs.Range.{contains}
+use Rattle.wild_reloc.specs.TableAArch64.{static_row, signed}
+use Rattle.wild_reloc.specs.declared.expression.Taken.{Taken}
+use Rattle.wild_reloc.specs.declared.range.AllowedRange.{AllowedRange}
 use Rattle.wild_reloc.specs.declared.expression.Term.TheVariants as term
 use Rattle.wild_reloc.specs.declared.expression.Taken.TheVariants as taken
 use Rattle.wild_reloc.specs.declared.info.PageMask.{PageMask}
@@ -27,19 +36,24 @@ use Rattle.wild_reloc.specs.declared.info.RelocationKindInfo.{RelocationKindInfo
 use Rattle.wild_reloc.specs.declared.info.RelocationSize.{RelocationSize}
 use Rattle.wild_relax.specs.RowSymbols.{takes_symbol, takes_value}
 use Rattle.wild_relax.specs.RewriteX86_64.{distance_type, or_nothing, type_row, info_by}
+use Rattle.wild_relax.specs.RowsAArch64.{rows_aarch64}
+use Rattle.wild_relax.specs.declared.row.Row.{Row}
 use Rattle.wild_relax.specs.declared.row.Distance.{Distance as Branch}
 use Rattle.wild_relax.specs.declared.row.Distance.TheVariants as distances
 use Rattle.wild_relax.specs.declared.row.Goal.{Goal}
 use Rattle.wild_relax.specs.declared.row.Goal.TheVariants as goals
 use Rattle.wild_relax.specs.declared.row.SymbolTest.{SymbolTest}
+use Rattle.wild_relax.specs.declared.row.SymbolTest.TheVariants as symbol
 use Rattle.wild_relax.specs.declared.row.ValueTest.{ValueTest}
 use Rattle.wild_relax.specs.declared.row.Written.{Written}
 use Rattle.wild_relax.specs.declared.row.Written.TheVariants as written
 use Rattle.wild_relax.proofs.RoomLemmas.{IsApplied, applied}
 use Rattle.wild_layout.specs.Choice.{question_around}
-use Rattle.wild_layout.specs.Geometry.{NamesSymbol}
+use Rattle.wild_layout.specs.Geometry.{NamesSymbol, DefinitionNames}
+use Rattle.wild_layout.specs.Merged.{names_merged, address_for}
 use Rattle.wild_layout.specs.Sites.{field_site}
-use Rattle.wild_layout.specs.Values.{term_at, value_in}
+use Rattle.wild_layout.specs.SlotValues.{address_of, stub_of, stub_address}
+use Rattle.wild_layout.specs.Values.{value_less, is_absent, is_place, is_own_place, undefined_weak_target, term_at, value_in}
 use Rattle.wild_layout.proofs.ChoiceLemmas.{IsChosenAArch64}
 use Rattle.wild_layout.proofs.DecideLemmas.{HasField}
 use Rattle.wild_layout.proofs.ReachedLemmas.{IsCarried, ComesTo}
@@ -50,19 +64,29 @@ use Rattle.wild_loader.specs.Memory.{Holds}
 use Rattle.wild_meaning.specs.Formula.{IsSum, IsReferent, IsReferentOnAArch64, Gives, IsPlaceRelative}
 use Rattle.wild_meaning.specs.Field.{formula_of, FieldReads}
 use Rattle.wild_meaning.specs.Item.{place_at}
-use Rattle.wild_meaning.specs.Reference.{IsAsked}
+use Rattle.wild_meaning.specs.Section.{IsForDebuggers}
+use Rattle.wild_meaning.specs.Template.{CanHave}
+use Rattle.wild_meaning.specs.Value.{HasRaw, HasFlag}
+use Rattle.wild_meaning.specs.Reference.{IsAsked, TakesStub, GoesDirectly, IsLeftOut}
+use Rattle.wild_meaning.proofs.BitLemmas.{bit_code}
+use Rattle.wild_geometry.proofs.JudgedLemmas.{flag_is}
 use Rattle.wild_references.specs.Laws.{FieldHolds}
-use Rattle.wild_references.specs.Terms.{is_expressed, value_by_row, HasTerm, IsFollowed}
+use Rattle.wild_references.specs.Terms.{is_expressed, value_by_row, IsDirect, HasTerm, IsFollowed}
 use Rattle.wild_references.specs.Thunks.{EachThunkGoesOn, Carries}
 use Rattle.wild_references.proofs.Fields.{KindLaws, IsItemLoaded, old_field, old_long, field_within, place_is, place_ends, comes_low, row_reads, row_keeps}
 use Rattle.wild_references.proofs.KnownRows.{RowFits, row_fits}
+use Rattle.wild_references.proofs.LeftOut.{all_or_bare}
 use Rattle.wild_references.proofs.OwnSymbols.{own_symbol}
+use Rattle.wild_references.proofs.Referents.{not_own}
+use Rattle.wild_references.proofs.SymbolStubs.{stub_there}
+use Rattle.wild_references.proofs.Symbols.{flag_at}
+use Rattle.wild_references.proofs.ThunkKinds.{symbol_row, stub_row, not_far, from_place as from_there}
 use Rattle.wild_references.proofs.ValueKinds.{more}
-use Rattle.wild_references.proofs.Written.{IsBranchField}
+use Rattle.wild_references.proofs.Values.{has_raw}
+use Rattle.wild_references.proofs.Written.{IsBranchField, address_given, given_some}
 use Rattle.wild_meaning.proofs.StringLemmas.{referent_by}
 use Rattle.wild_meaning.specs.Strings.{NamesStrings}
-use Rattle.wild_references.proofs.MergedStrings.{names_none}
-use Rattle.wild_layout.specs.Merged.{names_merged}
+use Rattle.wild_references.proofs.MergedStrings.{names_none, plain_address}
 
 -- ---- the rows
 
@@ -200,12 +224,15 @@ goes_there l w m s r v on none g =
     let at = 2 ^ 64 - place_at w s r.offset in
     (sum.symbol, branched l w m s r sum.symbol on none sum.denoted, g.2 ∙ ap (λ (t : ℕ). (t + at) % 2 ^ 64) sum.sum ∙ flat sum.symbol (more r) at)
 
--- what a row of the table that keeps the bytes says: its goal is the symbol where that is the output's own, and not of a conditional branch
+-- what a row of the table that keeps the bytes says: its goal is the symbol where that is the output's own, and not of a conditional branch; a
+-- branch with the stub as its goal is to one that a resolver chooses
 pub record GoesWell (l : Layout) (s : Item) (r : InputRelocation) (d : Branch) (goal : Goal) : Type 0 where
   pub on : l.machine ≡ machine.AArch64
   pub symbol : ℕ
   pub named : r.symbol ≡ Some symbol
   pub own : goal ≡ goals.Symbol → (goes_far d ≡ true) × IsFollowed l r Distance
+  pub direct : goal ≡ goals.Symbol → has_flag (flags_at l symbol) ifunc ≡ false
+  pub chosen : goal ≡ goals.Stub → goes_far d ≡ true → has_flag (flags_at l symbol) ifunc ≡ true
   pub weak : goes_far d ≡ false → IsWeakBranch l s r symbol
   pub plain : names_merged l r.symbol ≡ false
 
@@ -226,9 +253,9 @@ gives_goal l w m s r d goals.Symbol v laws g there =
     subst (λ (q : Value). Gives q l w m s r v) (sym (far_value d (g.own refl).0)) (goes_there l w m s r v g.on (names_none l r g.plain) (subst (λ (q : Value). Gives q l w m s r v) (symbol_value d) (laws.symbol (new_row d goals.Symbol) refl refl l w m s r v there (followed_goal l s r d goals.Symbol g))))
 
 -- or the distance of a thunk
-carried_goal : (l : Layout) (w : World) (m : Memory) (s : Item) (r : InputRelocation) (d : Branch) (goal : Goal) (x v : ℕ) → KindLaws → EachThunkGoesOn l w m → GoesWell l s r d goal → HasTerm l w m s r (new_row d goal) x → IsCarried l s r (new_row d goal) x v → Gives (expressed_of d) l w m s r v
-carried_goal l w m s r d goal x v laws thunks g there t =
-    let gives = laws.thunk (new_row d goal) (carries_goal d goal t.thunkable) l w m s r x t.thunk g.on there thunks (λ k. g.plain) (followed_goal l s r d goal g) t.far t.found t.alone in
+carried_goal : (l : Layout) (w : World) (m : Memory) (s : Item) (r : InputRelocation) (d : Branch) (goal : Goal) (x v : ℕ) → KindLaws → KeepsAll l → EachThunkGoesOn l w m → GoesWell l s r d goal → HasTerm l w m s r (new_row d goal) x → IsCarried l s r (new_row d goal) x v → Gives (expressed_of d) l w m s r v
+carried_goal l w m s r d goal x v laws all thunks g there t =
+    let gives = laws.thunk (new_row d goal) (carries_goal d goal t.thunkable) l w m s r x t.thunk g.on all there thunks (λ k. g.plain) (followed_goal l s r d goal g) t.far t.found t.alone in
     subst (λ (q : Value). Gives q l w m s r v) (sym (far_value d far)) (subst (λ (n : ℕ). Gives StubDistance l w m s r n) t.distance gives)
   where
     far : goes_far d ≡ true
@@ -237,6 +264,188 @@ carried_goal l w m s r d goal x v laws thunks g there t =
           | inl e ↦ e
           | inr near ↦ (let none = near_alone d goal near in let some = t.thunkable in cc)
         ]
+
+-- ---- what is left out
+
+pub near_type : (d : Branch) → goes_far d ≡ false → (distance_type d ≡ r_aarch64_tstbr14) ⊎ (distance_type d ≡ r_aarch64_condbr19)
+near_type distances.TstBr14 h = inl refl
+near_type distances.CondBr19 h = inr refl
+near_type other h = cc
+
+-- what is known of the relocation beside its row
+record IsBranch (l : Layout) (s : Item) (r : InputRelocation) (d : Branch) : Type 0 where
+  names : NamesSymbol l r
+  symbols : All (DefinitionNames l) l.symbols
+  number : r.number ≡ distance_type d
+  formula : Formula
+  known : formula_of l.machine r.number ≡ Some formula
+  is : formula.value ≡ expressed_of d
+  low : s.address + r.offset ≤ 2 ^ 62
+
+flag_of : (l : Layout) (s : Item) (r : InputRelocation) (d : Branch) (flag k : ℕ) → IsBranch l s r d → r.symbol ≡ Some k → HasFlag l k flag (has_flag (flags_at l k) flag)
+flag_of l s r d flag k b named = (let z = slice_get_inside l.symbols k (b.names k named) in flag_at l k flag z.0 b.symbols z.1)
+
+both_weak : (weak stub : Bool) → weak ≡ true → (weak && not stub) ≡ false → stub ≡ true
+both_weak true true e h = refl
+both_weak true false e h = cc
+both_weak false stub e h = cc
+
+-- a branch with the stub as its goal goes by it, but to a symbol that is not there
+stub_left : (l : Layout) (s : Item) (r : InputRelocation) (d : Branch) (term : ℕ) → IsForDebuggers l → (IsLeftOut l s r → ⊥) → IsBranch l s r d → (g : GoesWell l s r d goals.Stub) → is_own_place l.machine l r (new_row d goals.Stub) ≡ false → stub_address l (Some g.symbol) ≡ Ok term → ⊥
+stub_left l s r d term bare present b g here given =
+    let there = stub_there l g.symbol term (given_some missing.Stub g.symbol (stub_of l g.symbol) term given) in
+    elim (cases_Bool (goes_far d)) [
+      | inl far ↦ present (
+        bare,
+        inr (inr (inl (record {
+          symbol = g.symbol;
+          named = g.named;
+          formula = b.formula;
+          known = b.known;
+          stub = inr (subst TakesStub (sym (b.is ∙ far_value d far)) tt, (λ direct. indirect far direct), (term, there));
+        }))),
+      )
+      | inr near ↦ present (
+        bare,
+        inr (inr (inr (inl (record {
+          on = g.on;
+          conditional = subst (λ (n : ℕ). (n ≡ r_aarch64_tstbr14) ⊎ (n ≡ r_aarch64_condbr19)) (sym b.number) (near_type d near);
+          code = bit_code s.flags (g.weak near).code;
+          symbol = g.symbol;
+          named = g.named;
+          weak = subst (HasFlag l g.symbol undefined_weak) (g.weak near).weak (flag_of l s r d undefined_weak g.symbol b g.named);
+          plain = subst (HasFlag l g.symbol ifunc) (g.weak near).plain (flag_of l s r d ifunc g.symbol b g.named);
+          stubbed = subst (HasFlag l g.symbol plt_stub) (stubbed near) (flag_of l s r d plt_stub g.symbol b g.named);
+        })))),
+      )
+    ]
+  where
+    indirect : goes_far d ≡ true → GoesDirectly l s r g.symbol → ⊥
+    indirect far direct = (let plain = flag_is l g.symbol ifunc false direct.plain in let both : true ≡ false = sym (g.chosen refl far) ∙ plain in cc)
+
+    present_one : is_absent l (Some g.symbol) ≡ false
+    present_one = subst (λ (o : Option ℕ). is_absent l o ≡ false) g.named (not_own l.machine l r (new_row d goals.Stub) here g.on refl (ap is_place (stub_row (new_row d goals.Stub) (no_mask d goals.Stub) refl).taken))
+
+    stubbed : goes_far d ≡ false → has_flag (flags_at l g.symbol) plt_stub ≡ true
+    stubbed near = both_weak (has_flag (flags_at l g.symbol) undefined_weak) (has_flag (flags_at l g.symbol) plt_stub) (g.weak near).weak present_one
+
+-- so that one that is not left out goes by none
+goes_direct : (l : Layout) (s : Item) (r : InputRelocation) (d : Branch) (goal : Goal) (term : ℕ) → IsForDebuggers l → (IsLeftOut l s r → ⊥) → IsBranch l s r d → GoesWell l s r d goal → term_at l r (new_row d goal) (place_of s.address r) ≡ Ok term → IsDirect l r (new_row d goal) (expression_of (new_row d goal).kind).term
+goes_direct l s r d goals.Symbol term bare present b g given = λ takes j named stubbed. present (
+  bare,
+  inr (inr (inl (record {
+    symbol = j;
+    named = named;
+    formula = b.formula;
+    known = b.known;
+    stub = inl (inr (subst TakesStub (sym (b.is ∙ far_value d (g.own refl).0)) tt), stubbed);
+  }))),
+)
+goes_direct l s r d goals.Stub term bare present b g given = by_place (is_own_place l.machine l r (new_row d goals.Stub)) refl given
+  where
+    by_place : (b : Bool) → is_own_place l.machine l r (new_row d goals.Stub) ≡ b → (if b then Ok (undefined_weak_target r.number (place_of s.address r)) else stub_address l r.symbol) ≡ Ok term → is_own_place l.machine l r (new_row d goals.Stub) ≡ true
+    by_place true e h = e
+    by_place false e h = absurd (stub_left l s r d term bare present b g e (subst (λ (o : Option ℕ). stub_address l o ≡ Ok term) g.named h))
+
+-- ---- thunks that are left out
+
+abbrev far_formula : Formula
+far_formula = formula StubDistance (Bits Imm26Field 27 2 (WithinPower 28) 4)
+
+-- what may go by a thunk
+record GoesFar (l : Layout) (r : InputRelocation) (d : Branch) (goal : Goal) : Type 0 where
+  branch : (distance_type d ≡ r_aarch64_jump26) ⊎ (distance_type d ≡ r_aarch64_call26)
+  range : (new_row d goal).range ≡ signed 28
+  formula : aarch64_formula (distance_type d) ≡ Some far_formula
+
+goes_by_thunk : (l : Layout) (r : InputRelocation) (d : Branch) (goal : Goal) → (new_row d goal).thunkable ≡ true → GoesFar l r d goal
+unfolding static_row aarch64_formula
+goes_by_thunk l r distances.Jump26 goals.Symbol h = record { branch = inl refl; range = refl; formula = refl }
+goes_by_thunk l r distances.Jump26 goals.Stub h = record { branch = inl refl; range = refl; formula = refl }
+goes_by_thunk l r distances.Call26 goals.Symbol h = record { branch = inr refl; range = refl; formula = refl }
+goes_by_thunk l r distances.Call26 goals.Stub h = record { branch = inr refl; range = refl; formula = refl }
+goes_by_thunk l r other goal h = cc
+
+-- what is out of range the field cannot have
+cannot_have : (x : ℕ) → contains (signed 28) x ≡ false → CanHave far_formula.form x → ⊥
+cannot_have x out can = by (nat_lt x (2 ^ 27)) (nat_le (2 ^ 64 - 2 ^ 27) x) (λ low. lt-ltb x (2 ^ 27) low) (λ high. le-leb (2 ^ 64 - 2 ^ 27) x high) out can.0
+  where
+    by : (a b : Bool) → (x < 2 ^ 27 → a ≡ true) → (2 ^ 64 - 2 ^ 27 ≤ x → b ≡ true) → (a || b) ≡ false → (x < 2 ^ 27) ⊎ (2 ^ 64 - 2 ^ 27 ≤ x) → ⊥
+    by true b low high h c = cc
+    by false true low high h c = cc
+    by false false low high h (inl c) = (let e : false ≡ true = low c in cc)
+    by false false low high h (inr c) = (let e : false ≡ true = high c in cc)
+
+distance_same : (t c a o : ℕ) → a + o ≤ 2 ^ 62 → ((t + c) % 2 ^ 64 + (2 ^ 64 - (a + o) % 2 ^ 64)) % 2 ^ 64 ≡ (t + c + (2 ^ 64 - (a + o))) % 2 ^ 64
+distance_same t c a o low = omega (arith, low)
+
+-- the symbol is too far for the branch
+symbol_far : (l : Layout) (w : World) (m : Memory) (s : Item) (r : InputRelocation) (d : Branch) (x v : ℕ) → IsForDebuggers l → (IsLeftOut l s r → ⊥) → IsBranch l s r d → GoesWell l s r d goals.Symbol → (h : HasTerm l w m s r (new_row d goals.Symbol) x) → IsCarried l s r (new_row d goals.Symbol) x v → address_of l r.symbol ≡ Ok h.term → ⊥
+symbol_far l w m s r d x v bare present b g h t given =
+    let k = g.symbol in
+    let far = goes_by_thunk l r d goals.Symbol t.thunkable in
+    let plain = g.direct refl in
+    let raw : address_of l (Some k) ≡ Ok h.term = subst (λ (o : Option ℕ). address_of l o ≡ Ok h.term) g.named given in
+    let there : HasRaw l k h.term = has_raw l k h.term (address_given l (Some k) h.term (rw plain at raw)) in
+    let less = (symbol_row (new_row d goals.Symbol) (no_mask d goals.Symbol) refl).taken in
+    let value : ((h.term + cast_unsigned w64 r.addend) % 2 ^ 64 + (2 ^ 64 - (s.address + r.offset) % 2 ^ 64)) % 2 ^ 64 ≡ x = subst (λ (u : Taken). value_less l u h.term r.addend (place_of s.address r) ≡ x) less h.value in
+    let same : b.formula ≡ far_formula =
+    (let e : Some b.formula ≡ Some far_formula = sym b.known ∙ (ap (λ (j : Machine). formula_of j r.number) g.on ∙ (ap aarch64_formula b.number ∙ far.formula)) in cc) in
+    let at : x ≡ (h.term + cast_unsigned w64 r.addend + (2 ^ 64 - (s.address + r.offset))) % 2 ^ 64 = sym value ∙ distance_same h.term (cast_unsigned w64 r.addend) s.address r.offset b.low in
+    let out : contains (signed 28) x ≡ false = subst (λ (a : AllowedRange). contains a x ≡ false) far.range t.far in
+    let none : CanHave b.formula.form x → ⊥ = subst (λ (f : Formula). CanHave f.form x → ⊥) (sym same) (cannot_have x out) in
+    present (
+      bare,
+      inr (inr (inr (inr (record {
+        on = g.on;
+        branch = subst (λ (n : ℕ). (n ≡ r_aarch64_jump26) ⊎ (n ≡ r_aarch64_call26)) (sym b.number) far.branch;
+        symbol = k;
+        named = g.named;
+        formula = b.formula;
+        known = b.known;
+        raw = h.term;
+        given = there;
+        far = subst (λ (n : ℕ). CanHave b.formula.form n → ⊥) at none;
+      })))),
+    )
+
+-- the next instruction is no far target
+own_far : (l : Layout) (w : World) (m : Memory) (s : Item) (r : InputRelocation) (d : Branch) (goal : Goal) (x v : ℕ) → (h : HasTerm l w m s r (new_row d goal) x) → IsCarried l s r (new_row d goal) x v → undefined_weak_target r.number (place_of s.address r) ≡ h.term → ⊥
+own_far l w m s r d goal x v h t term = (let c = carries_goal d goal t.thunkable in not_far l w m s r (new_row d goal) x h c (from_there (new_row d goal) c) t.alone term t.far)
+
+-- a branch that is not left out goes by no thunk
+no_thunk : (l : Layout) (w : World) (m : Memory) (s : Item) (r : InputRelocation) (d : Branch) (goal : Goal) (x v : ℕ) → IsForDebuggers l → (IsLeftOut l s r → ⊥) → IsBranch l s r d → GoesWell l s r d goal → HasTerm l w m s r (new_row d goal) x → IsCarried l s r (new_row d goal) x v → ⊥
+no_thunk l w m s r d goals.Symbol x v bare present b g h t = by_place (is_own_place l.machine l r (new_row d goals.Symbol)) refl h.given
+  where
+    by_place : (b : Bool) → is_own_place l.machine l r (new_row d goals.Symbol) ≡ b → (if b then Ok (undefined_weak_target r.number (place_of s.address r)) else address_for l r) ≡ Ok h.term → ⊥
+    by_place true e given = own_far l w m s r d goals.Symbol x v h t (let same : undefined_weak_target r.number (place_of s.address r) ≡ h.term = cc in same)
+    by_place false e given = symbol_far l w m s r d x v bare present b g h t (sym (plain_address l r g.plain) ∙ given)
+no_thunk l w m s r d goals.Stub x v bare present b g h t = by_place (is_own_place l.machine l r (new_row d goals.Stub)) refl h.given
+  where
+    by_place : (b : Bool) → is_own_place l.machine l r (new_row d goals.Stub) ≡ b → (if b then Ok (undefined_weak_target r.number (place_of s.address r)) else stub_address l r.symbol) ≡ Ok h.term → ⊥
+    by_place true e given = own_far l w m s r d goals.Stub x v h t (let same : undefined_weak_target r.number (place_of s.address r) ≡ h.term = cc in same)
+    by_place false e given = stub_left l s r d h.term bare present b g e (subst (λ (o : Option ℕ). stub_address l o ≡ Ok h.term) g.named given)
+
+-- ---- a row with a stub as its goal
+
+abbrev is_resolved : SymbolTest → Bool
+is_resolved symbol.Ifunc = true
+is_resolved other = false
+
+abbrev goes_to_resolver : Written → SymbolTest → Bool
+goes_to_resolver (written.Code d goals.Stub) t = not (goes_far d) || is_resolved t
+goes_to_resolver other t = true
+
+each_resolver : list_all (λ (row : Row). goes_to_resolver row.written row.symbol) rows_aarch64 ≡ true
+unfolding rows_aarch64
+each_resolver = refl
+
+resolved_row : (row : Row) (d : Branch) (goal : Goal) → Contains rows_aarch64 row → row.written ≡ written.Code d goal → goal ≡ goals.Stub → goes_far d ≡ true → row.symbol ≡ symbol.Ifunc
+resolved_row row d goal listed is to far = by row.symbol (subst (λ (b : Bool). (not b || is_resolved row.symbol) ≡ true) far (subst (λ (w : Written). goes_to_resolver w row.symbol ≡ true) (is ∙ ap (λ (x : Goal). written.Code d x) to) (listed_passes (λ (x : Row). goes_to_resolver x.written x.symbol) rows_aarch64 row each_resolver listed)))
+  where
+    by : (t : SymbolTest) → is_resolved t ≡ true → t ≡ symbol.Ifunc
+    by symbol.Ifunc h = refl
+    by other h = cc
 
 -- ---- the field
 
@@ -253,13 +462,14 @@ pub record BranchReads (l : Layout) (w : World) (m : Memory) (s : Item) (r : Inp
   pub there : HasTerm l w m s r (new_row distance goal) term
   pub value : ℕ
   pub comes : ComesTo l s r (new_row distance goal) term value
+  pub thunked : IsCarried l s r (new_row distance goal) term value → KeepsAll l
   pub field : FieldReads w m s r formula.form value
 
-pub branch_reads : (l : Layout) (w : World) (m : Memory) (s : Item) (i : ℕ) (r : InputRelocation) → (h : IsItemLoaded l w m s) → IsAsked l w s r → IsBranchField l s i r → BranchReads l w m s r
-branch_reads l w m s i r h asked f = record {
+pub branch_reads : (l : Layout) (w : World) (m : Memory) (s : Item) (i : ℕ) (r : InputRelocation) → (h : IsItemLoaded l w m s) → (IsLeftOut l s r → ⊥) → IsAsked l w s r → IsBranchField l s i r → BranchReads l w m s r
+branch_reads l w m s i r h present asked f = record {
   distance = d;
   goal = goal;
-  goes = record { on = c.machine; symbol = c.symbol; named = c.named; own = own; weak = weak; plain = c.plain };
+  goes = well;
   number = c.number ∙ goes.number;
   formula = fits.formula;
   known = fits.known;
@@ -268,6 +478,7 @@ branch_reads l w m s i r h asked f = record {
   there = there;
   value = v;
   comes = comes;
+  thunked = λ t. elim (all_or_bare l) [ inl all ↦ all | inr bare ↦ absurd (no_thunk l w m s r d goal x v bare present branch well there t) ];
   field = row_reads l w m s i r old fits.formula.form v v h f.has.listed field
       (record {
         width = fits.width;
@@ -349,9 +560,25 @@ branch_reads l w m s i r h asked f = record {
         let flags = and_parts _ _ (subst (λ (t : SymbolTest). takes_symbol t (question_around l s i r c.symbol) ≡ true) test.0 takes.symbol) in
         record { code = implied k.row.in_code _ takes.section test.1; plain = not-true _ flags.0; weak = flags.1 }
 
+    direct : goal ≡ goals.Symbol → has_flag (flags_at l c.symbol) ifunc ≡ false
+    direct to = not-true _ (subst (λ (t : SymbolTest). takes_symbol t (question_around l s i r c.symbol) ≡ true) (goes.own to).2 takes.symbol)
+
+    resolved : goal ≡ goals.Stub → goes_far d ≡ true → has_flag (flags_at l c.symbol) ifunc ≡ true
+    resolved to far = subst (λ (t : SymbolTest). takes_symbol t (question_around l s i r c.symbol) ≡ true) (resolved_row k.row d goal c.listed goes.written to far) takes.symbol
+
+    well : GoesWell l s r d goal
+    well = record { on = c.machine; symbol = c.symbol; named = c.named; own = own; direct = direct; chosen = resolved; weak = weak; plain = c.plain }
+
+    inside : r.offset + size_width old.size ≤ length s.bytes
+    inside = field_within l w m s i r old.size h f.has.listed field
+
+    branch : IsBranch l s r d
+    branch = record { names = names; symbols = h.placed.symbols.named; number = c.number ∙ goes.number; formula = fits.formula; known = fits.known; is = is; low = (let low = h.low in omega (arith, inside, low)) }
+
     there : HasTerm l w m s r (new_row d goal) x
     there = record {
       placed = h.placed;
+      present = elim (all_or_bare l) [ inl all ↦ inl all | inr bare ↦ inr (goes_direct l s r d goal k.written.term bare present branch well given) ];
       room = h.room;
       listed = names;
       number = 0;
@@ -375,7 +602,7 @@ branch_reads l w m s i r h asked f = record {
     }
 
 -- so it reads as its formula
-pub branch_holds : (l : Layout) (w : World) (m : Memory) (s : Item) (r : InputRelocation) → KindLaws → EachThunkGoesOn l w m → BranchReads l w m s r → FieldHolds l w m s r
+pub branch_holds : (l : Layout) (w : World) (m : Memory) (s : Item) (r : InputRelocation) → KindLaws → (KeepsAll l → EachThunkGoesOn l w m) → BranchReads l w m s r → FieldHolds l w m s r
 branch_holds l w m s r laws thunks b = record {
   formula = b.formula;
   known = b.known;
@@ -386,4 +613,4 @@ branch_holds l w m s r laws thunks b = record {
   where
     by : ComesTo l s r (new_row b.distance b.goal) b.term b.value → Gives (expressed_of b.distance) l w m s r b.value
     by (inl same) = gives_goal l w m s r b.distance b.goal b.value laws b.goes (subst (λ (n : ℕ). HasTerm l w m s r (new_row b.distance b.goal) n) same b.there)
-    by (inr t) = carried_goal l w m s r b.distance b.goal b.term b.value laws thunks b.goes b.there t
+    by (inr t) = (let all = b.thunked t in carried_goal l w m s r b.distance b.goal b.term b.value laws all (thunks all) b.goes b.there t)

@@ -20,12 +20,10 @@ use Rattle.wild_relax.specs.declared.reference.RelocationInfo.{RelocationInfo}
 use Rattle.wild_relax.specs.declared.reference.UnknownSequence.{UnknownSequence}
 use Rattle.wild_relax.specs.declared.row.Row.{Row}
 use Rattle.wild_relax.specs.declared.row.Distance.{Distance as Branch}
-use Rattle.wild_relax.specs.declared.row.Distance.TheVariants as distances
 use Rattle.wild_relax.specs.declared.row.Goal.{Goal}
 use Rattle.wild_relax.specs.declared.row.Goal.TheVariants as goals
 use Rattle.wild_relax.specs.Question.{relocation_of}
 use Rattle.wild_relax.specs.Relaxation.{chosen_of}
-use Rattle.wild_relax.specs.RewriteX86_64.{distance_type}
 use Rattle.wild_relax.proofs.TogetherLemmas.{conditional_chosen}
 use Rattle.wild_layout.specs.declared.decision.Decision.{Decision}
 use Rattle.wild_layout.specs.Choice.{nameless, question_around, choice_on, choice}
@@ -44,7 +42,7 @@ use Rattle.wild_geometry.proofs.JudgedLemmas.{flag_is}
 use Rattle.wild_references.specs.Laws.{FieldIsLinked}
 use Rattle.wild_references.specs.Terms.{SymbolsFit, HasTerm}
 use Rattle.wild_references.proofs.Alone.{taken, takes_none}
-use Rattle.wild_references.proofs.BranchFields.{new_row, far_value, near_value, symbol_value, no_mask, near_alone, suits_goal, expressed_goal, treated_goal, BranchReads}
+use Rattle.wild_references.proofs.BranchFields.{near_type, new_row, far_value, near_value, symbol_value, no_mask, near_alone, suits_goal, expressed_goal, treated_goal, BranchReads}
 use Rattle.wild_references.proofs.Fields.{LinkedLaws}
 use Rattle.wild_references.proofs.OwnSymbols.{own_symbol}
 use Rattle.wild_references.proofs.Symbols.{replaceable_is, flag_at}
@@ -86,11 +84,6 @@ own_goes l s i r d k own listed room fit inside named whose g =
 
 -- ---- a branch to a weak symbol that no module has
 
-near_type : (d : Branch) → goes_far d ≡ false → (distance_type d ≡ r_aarch64_tstbr14) ⊎ (distance_type d ≡ r_aarch64_condbr19)
-near_type distances.TstBr14 h = inl refl
-near_type distances.CondBr19 h = inr refl
-near_type other h = cc
-
 -- the place itself stands for it, whatever the row goes to
 own_term : (l : Layout) (r : InputRelocation) (d : Branch) (goal : Goal) (p : ℕ) → l.machine ≡ machine.AArch64 → is_absent l r.symbol ≡ true → term_at l r (new_row d goal) p ≡ Ok (undefined_weak_target r.number p)
 own_term l r d goals.Symbol p on none =
@@ -107,12 +100,13 @@ value_place l r d goals.Stub t p =
     ∙ sym (ap (λ (o : Option PageMask). value_less l (taken_of kinds.Relative o) t r.addend p) (no_mask d goals.Symbol))
 
 -- what the row writes is what that of the symbol itself would
-as_symbol : (l : Layout) (w : World) (m : Memory) (s : Item) (r : InputRelocation) → (b : BranchReads l w m s r) → is_absent l r.symbol ≡ true → w.base ≡ 0 → HasTerm l w m s r (new_row b.distance goals.Symbol) b.term
-as_symbol l w m s r b none zero =
+as_symbol : (l : Layout) (w : World) (m : Memory) (s : Item) (r : InputRelocation) → (b : BranchReads l w m s r) → is_absent l r.symbol ≡ true → ((i : ℕ) → r.symbol ≡ Some i → IsStubbed l i → ⊥) → w.base ≡ 0 → HasTerm l w m s r (new_row b.distance goals.Symbol) b.term
+as_symbol l w m s r b none bare zero =
     let t = b.there in
     let g = b.goes in
     record {
       placed = t.placed;
+      present = inr (λ takes. bare);
       room = t.room;
       listed = t.listed;
       number = 0;
@@ -132,9 +126,10 @@ as_symbol l w m s r b none zero =
 near_links : (l : Layout) (w : World) (m : Memory) (s : Item) (r : InputRelocation) → LinkedLaws → (b : BranchReads l w m s r) → (a : IsLinkedAlone l s r) → w.base ≡ 0 → goes_far b.distance ≡ false → is_absent l r.symbol ≡ true → FieldIsLinked l w m s r
 near_links l w m s r laws b a zero near none =
     let same = comes_alone l s r (new_row b.distance b.goal) b.term b.value (near_alone b.distance b.goal near) b.comes in
-    let there = subst (λ (n : ℕ). HasTerm l w m s r (new_row b.distance goals.Symbol) n) same (as_symbol l w m s r b none zero) in
     let is : b.formula.value ≡ Distance = b.is ∙ near_value b.distance near in
     let bare : IsStubbed l a.symbol → ⊥ = by (subst (λ (v : Value). TakesItself l s a.symbol (record { value = v; form = b.formula.form })) is (taken l s r b.formula b.known a)) in
+    let free : (i : ℕ) → r.symbol ≡ Some i → IsStubbed l i → ⊥ = λ i named. (let one : a.symbol ≡ i = (let e : Some a.symbol ≡ Some i = sym a.named ∙ named in cc) in subst (λ (k : ℕ). IsStubbed l k → ⊥) one bare) in
+    let there = subst (λ (n : ℕ). HasTerm l w m s r (new_row b.distance goals.Symbol) n) same (as_symbol l w m s r b none free zero) in
     let linked = laws.symbol (new_row b.distance goals.Symbol) refl refl l w m s r b.value a.symbol there zero a.named a.replaceable (inl bare) in
     record {
       formula = b.formula;

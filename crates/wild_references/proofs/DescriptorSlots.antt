@@ -10,6 +10,7 @@ use Rattle.wild_slot.specs.declared.slot.SlotItem.TheVariants.{Word, Stub, Fault
 use Rattle.wild_types.specs.declared.symbol.Resolution.{Resolution}
 use Rattle.wild_types.specs.declared.symbol.ValueFlags.{ValueFlags}
 use Rattle.wild_types.specs.declared.layout.Layout.{Layout}
+use Rattle.wild_types.specs.Hollow.{KeepsAll}
 use Rattle.wild_types.specs.Flags.{has_flag, interposable, dynamic, copy_relocation, export_dynamic, got_tls_offset, got_tls_module, got_tls_descriptor}
 use Rattle.wild_types.specs.Kinds.{is_executable, is_static_executable}
 use Rattle.wild_slot.specs.declared.slot.Setting.{Setting}
@@ -157,20 +158,20 @@ thread_of f h = last_of (has_flag f got_tls_offset) (has_flag f got_tls_module) 
     last_of false true c h = refl
     last_of false false c h = h
 
-descriptor_stands : (l : Layout) (w : World) (m : Memory) (i at : ℕ) (r : Resolution) → IsPlaced l w m → IsResolvedBy l i r → r.got_address ≡ Some at → has_flag r.flags got_tls_descriptor ≡ true → SlotStands Descriptor l w m i (behind_pair (has_flag r.flags got_tls_module) (behind_word (has_flag r.flags got_tls_offset) at))
-descriptor_stands l w m i at r p d e asked =
+descriptor_stands : (l : Layout) (w : World) (m : Memory) (i at : ℕ) (r : Resolution) → IsPlaced l w m → KeepsAll l → IsResolvedBy l i r → r.got_address ≡ Some at → has_flag r.flags got_tls_descriptor ≡ true → SlotStands Descriptor l w m i (behind_pair (has_flag r.flags got_tls_module) (behind_word (has_flag r.flags got_tls_offset) at))
+descriptor_stands l w m i at r p all d e asked =
     let offset = has_flag r.flags got_tls_offset in
     let pair = has_flag r.flags got_tls_module in
-    let second = behind_offset l w m i at r offset p d refl (thread_held l w m i at r p d e (thread_of r.flags asked)) in
+    let second = behind_offset l w m i at r offset p d refl (thread_held l w m i at r p all d e (thread_of r.flags asked)) in
     let last = behind_module l w m (if offset then at + 8 else at) r pair refl second in
     let there = if pair then (if offset then at + 8 else at) + 16 else (if offset then at + 8 else at) in
     descriptor_at l w m i there (behind_pair pair (behind_word offset at)) (described_at l w m i there r p d asked last) (λ low. place_same w.base at offset pair low)
 
-pub descriptors_stand : (l : Layout) (w : World) (m : Memory) → IsPlaced l w m → SlotsStand sorts.Descriptor l w m
-descriptors_stand l w m p = λ i slot h. by_slot sorts.Descriptor l i slot (λ (n : ℕ). SlotStands Descriptor l w m i n) h (λ r at d e among. by_flag i slot r at d e (has_flag r.flags got_tls_descriptor) refl among)
+pub descriptors_stand : (l : Layout) (w : World) (m : Memory) → IsPlaced l w m → KeepsAll l → SlotsStand sorts.Descriptor l w m
+descriptors_stand l w m p all = λ i slot h. by_slot sorts.Descriptor l i slot (λ (n : ℕ). SlotStands Descriptor l w m i n) h (λ r at d e among. by_flag i slot r at d e (has_flag r.flags got_tls_descriptor) refl among)
   where
     by_flag : (i slot : ℕ) (r : Resolution) (at : ℕ) → IsResolvedBy l i r → r.got_address ≡ Some at → (b : Bool) → has_flag r.flags got_tls_descriptor ≡ b → (if b then Some (behind_pair (has_flag r.flags got_tls_module) (behind_word (has_flag r.flags got_tls_offset) at)) else None) ≡ Some slot → SlotStands Descriptor l w m i slot
     by_flag i slot r at d e true asked h =
         let same : behind_pair (has_flag r.flags got_tls_module) (behind_word (has_flag r.flags got_tls_offset) at) ≡ slot = cc in
-        subst (λ (n : ℕ). SlotStands Descriptor l w m i n) same (descriptor_stands l w m i at r p d e asked)
+        subst (λ (n : ℕ). SlotStands Descriptor l w m i n) same (descriptor_stands l w m i at r p all d e asked)
     by_flag i slot r at d e false asked h = cc

@@ -26,7 +26,7 @@ use Rattle.wild_meaning.specs.Field.{formula_of, form_width, FieldReads, IsInput
 use Rattle.wild_meaning.specs.Formula.{Gives, HasOffsetMode}
 use Rattle.wild_meaning.specs.Template.{IsInstruction, reads, Demands, old_bytes}
 use Rattle.wild_meaning.proofs.PairLemmas.{are_several}
-use Rattle.wild_references.specs.Filled.{IsFilled}
+use Rattle.wild_references.specs.FilledX86_64.{IsFilled}
 use Rattle.wild_references.proofs.Fills.{Each, each_at}
 
 -- ---- what memory has

@@ -455,6 +455,6 @@ left_given agrees l w m s r z number symbol addend bs p listed fits made reads =
     by_treatment other left is h = cc
 
 pub entries_give : RowsAreRead → EntriesGive
-entries_give agrees = λ l w m s r z number symbol addend bs p listed fits made reads.
+entries_give agrees = λ l w m s r z number symbol addend bs all p listed fits made reads.
     let h = left_given agrees l w m s r z number symbol addend bs p listed fits made reads in
     (h.formula, h.known, h.given.value, h.given.gives, h.given.reads, h.given.keeps)

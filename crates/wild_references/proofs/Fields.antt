@@ -12,6 +12,7 @@ use Rattle.wild_types.specs.declared.kind.Machine.{Machine}
 use Rattle.wild_types.specs.declared.kind.Machine.TheVariants as machine
 use Rattle.wild_types.specs.declared.input.InputRelocation.{InputRelocation}
 use Rattle.wild_types.specs.declared.layout.Layout.{Layout}
+use Rattle.wild_types.specs.Hollow.{KeepsAll}
 use Rattle.wild_types.specs.Lookups.{place_of, allocated}
 use Rattle.wild_reloc.specs.Field.{field_width, size_width, written}
 use Rattle.wild_reloc.specs.Formula.{Formula, Form, formula_at, NoField, Plain, Full, Bits, Keeps, Reads}
@@ -38,7 +39,7 @@ use Rattle.wild_loader.specs.declared.world.World.{World}
 use Rattle.wild_loader.specs.declared.memory.Memory.{Memory}
 use Rattle.wild_loader.specs.Memory.{Holds}
 use Rattle.wild_geometry.specs.MachineFacts.{RowsAreRead}
-use Rattle.wild_geometry.specs.Loaded.{InMemory, ReadsLeft, HasItem}
+use Rattle.wild_geometry.specs.Loaded.{Stage, InMemory, ReadsLeft, HasItem}
 use Rattle.wild_references.specs.Terms.{IsPlaced}
 use Rattle.wild_references.specs.Laws.{TermGives, TermGivesLinked, StubsStand, SlotsGive, PartsGive, PartsGiveLinked, HasBytes, AddressesGive, AddressesGiveLinked, EntriesGive}
 use Rattle.wild_references.specs.Thunks.{EachThunkGoesOn, ThunksGive}
@@ -49,32 +50,32 @@ use Rattle.wild_meaning.specs.Linked.{processor_of}
 
 -- ---- fields of whole bytes
 
-abbrev pub KeepsAll : Form → Type 0
-KeepsAll form = (old new : List ℕ) → Keeps form old new
+abbrev pub KeepsOthers : Form → Type 0
+KeepsOthers form = (old new : List ℕ) → Keeps form old new
 
 -- the field is whole bytes, without other bits
 abbrev is_whole : Form → Bool
 is_whole (Bits field high low check unit) = false
 is_whole other = true
 
-whole_keeps : (form : Form) → is_whole form ≡ true → KeepsAll form
+whole_keeps : (form : Form) → is_whole form ≡ true → KeepsOthers form
 whole_keeps (Bits field high low check unit) h = cc
 whole_keeps NoField h = λ old new. tt
 whole_keeps (Plain bits reading) h = λ old new. tt
 whole_keeps Full h = λ old new. tt
 
-keeps_at : (es : List (ℕ × Formula)) (n : ℕ) (f : Formula) → list_all (λ (e : ℕ × Formula). is_whole e.1.form) es ≡ true → formula_at es n ≡ Some f → KeepsAll f.form
+keeps_at : (es : List (ℕ × Formula)) (n : ℕ) (f : Formula) → list_all (λ (e : ℕ × Formula). is_whole e.1.form) es ≡ true → formula_at es n ≡ Some f → KeepsOthers f.form
 keeps_at [] n f h known = cc
 keeps_at (e ∷ es) n f h known =
     let both = and_parts (is_whole e.1.form) (list_all (λ (e : ℕ × Formula). is_whole e.1.form) es) h in
     by_test e es n f both.0 (n == e.0) known (keeps_at es n f both.1)
   where
-    by_test : (e : ℕ × Formula) (es : List (ℕ × Formula)) (n : ℕ) (f : Formula) → is_whole e.1.form ≡ true → (b : Bool) → (if b then Some e.1 else formula_at es n) ≡ Some f → (formula_at es n ≡ Some f → KeepsAll f.form) → KeepsAll f.form
-    by_test e es n f h true known again = (let same : e.1 ≡ f = cc in subst (λ (g : Formula). KeepsAll g.form) same (whole_keeps e.1.form h))
+    by_test : (e : ℕ × Formula) (es : List (ℕ × Formula)) (n : ℕ) (f : Formula) → is_whole e.1.form ≡ true → (b : Bool) → (if b then Some e.1 else formula_at es n) ≡ Some f → (formula_at es n ≡ Some f → KeepsOthers f.form) → KeepsOthers f.form
+    by_test e es n f h true known again = (let same : e.1 ≡ f = cc in subst (λ (g : Formula). KeepsOthers g.form) same (whole_keeps e.1.form h))
     by_test e es n f h false known again = again known
 
 -- the fields of x86-64 are
-pub whole_bytes : (n : ℕ) (f : Formula) → x86_64_formula n ≡ Some f → KeepsAll f.form
+pub whole_bytes : (n : ℕ) (f : Formula) → x86_64_formula n ≡ Some f → KeepsOthers f.form
 unfolding x86_64_formula
 whole_bytes n f known = keeps_at x86_64_formulas n f refl known
 
@@ -108,20 +109,25 @@ pub record LinkedLaws : Type 0 where
   pub own : TermGivesLinked term.ModuleOffset
   pub address : AddressesGiveLinked
 
--- a kept item in a legal world, which memory has as it was decided
+-- a kept item in a legal world, which memory has as it was decided; where all is written, behind its entries
 pub record IsItemLoaded (l : Layout) (w : World) (m : Memory) (s : Item) : Type 0 where
   pub tables : Tables
   pub kinds : KindLaws
   pub linked : LinkedLaws
   pub placed : IsPlaced l w m
-  pub thunks : EachThunkGoesOn l w m
+  pub thunks : KeepsAll l → EachThunkGoesOn l w m
   pub room : allocated s.flags ≡ true
   pub symbols : All (NamesSymbol l) s.relocations
   pub addends : All AddendFits s.relocations
   pub bytes : HasBytes l.machine s
   pub low : s.address + length s.bytes ≤ 2 ^ 62
   pub lies : All (FieldLies l.machine (length s.bytes)) s.relocations
-  pub item : HasItem l w m s InMemory
+  pub stage : Stage
+  pub moved : KeepsAll l → stage ≡ InMemory
+  pub item : HasItem l w m s stage
+
+pub moved_item : (l : Layout) (w : World) (m : Memory) (s : Item) → IsItemLoaded l w m s → KeepsAll l → HasItem l w m s InMemory
+moved_item l w m s h all = subst (λ (t : Stage). HasItem l w m s t) (h.moved all) h.item
 
 -- the field lies in the item
 pub field_within : (l : Layout) (w : World) (m : Memory) (s : Item) (i : ℕ) (r : InputRelocation) (z : RelocationSize) → IsItemLoaded l w m s → slice_get s.relocations i ≡ Some r → HasField l r z → r.offset + size_width z ≤ length s.bytes
@@ -226,27 +232,27 @@ value_reads l w m s i r x h v seen =
     (subst (λ (z : RelocationSize). Holds m (place_at w s r.offset) (field_site s r.offset z v.value).bytes) (sym f.size) held)
 
 -- an address that moves is more by the base, in all its eight bytes
-pub address_reads : (l : Layout) (w : World) (m : Memory) (s : Item) (i : ℕ) (r : InputRelocation) → (h : IsItemLoaded l w m s) → (a : IsAddress l s i r) → FieldReads w m s r a.fits.formula.form ((a.value + w.base) % 2 ^ 64)
-address_reads l w m s i r h a =
+pub address_reads : (l : Layout) (w : World) (m : Memory) (s : Item) (i : ℕ) (r : InputRelocation) → (h : IsItemLoaded l w m s) → KeepsAll l → (a : IsAddress l s i r) → FieldReads w m s r a.fits.formula.form ((a.value + w.base) % 2 ^ 64)
+address_reads l w m s i r h all a =
     let x = (a.value + w.base) % 2 ^ 64 in
     let full = (a.fits.full a.moved.by.kind a.moved.by.width).1 in
     let low : x < 2 ^ 64 = omega arith in
     record {
       bytes = word 8 x;
       wide = length-word 8 x ∙ sym (ap form_width full);
-      held = h.item.addresses i r a.value a.packed a.plain.has;
+      held = (moved_item l w m s h all).addresses i r a.value a.packed a.plain.has;
       reads = subst (λ (f : Form). Reads f (word 8 x) x) (sym full) (number-word 8 x low);
       keeps = subst (λ (f : Form). Keeps f (slice_range s.bytes r.offset (r.offset + form_width a.fits.formula.form)) (word 8 x)) (sym full) tt;
     }
 
 -- the bytes of a field that is left to an entry
-pub left_bytes : (l : Layout) (w : World) (m : Memory) (s : Item) (i : ℕ) (r : InputRelocation) → IsItemLoaded l w m s → (f : IsLeftField l s i r) → (bs : List ℕ) × Holds m (place_at w s r.offset) bs × ReadsLeft (processor_of l.machine) InMemory w f.size f.number f.symbol f.addend bs
-left_bytes l w m s i r h f = h.item.left i r f.size f.number f.symbol f.addend f.plain.has
+pub left_bytes : (l : Layout) (w : World) (m : Memory) (s : Item) (i : ℕ) (r : InputRelocation) → IsItemLoaded l w m s → KeepsAll l → (f : IsLeftField l s i r) → (bs : List ℕ) × Holds m (place_at w s r.offset) bs × ReadsLeft (processor_of l.machine) InMemory w f.size f.number f.symbol f.addend bs
+left_bytes l w m s i r h all f = (moved_item l w m s h all).left i r f.size f.number f.symbol f.addend f.plain.has
 
 -- what an entry stores fills the field
-pub left_reads : (l : Layout) (w : World) (m : Memory) (s : Item) (i : ℕ) (r : InputRelocation) (x : ℕ) → (h : IsItemLoaded l w m s) → (f : IsLeftField l s i r) → (form : Form) → form ≡ f.fits.formula.form → Reads form (left_bytes l w m s i r h f).0 x → ((old : List ℕ) → Keeps form old (left_bytes l w m s i r h f).0) → FieldReads w m s r form x
-left_reads l w m s i r x h f form same reads keeps =
-    let b = left_bytes l w m s i r h f in
+pub left_reads : (l : Layout) (w : World) (m : Memory) (s : Item) (i : ℕ) (r : InputRelocation) (x : ℕ) → (h : IsItemLoaded l w m s) → (all : KeepsAll l) → (f : IsLeftField l s i r) → (form : Form) → form ≡ f.fits.formula.form → Reads form (left_bytes l w m s i r h all f).0 x → ((old : List ℕ) → Keeps form old (left_bytes l w m s i r h all f).0) → FieldReads w m s r form x
+left_reads l w m s i r x h all f form same reads keeps =
+    let b = left_bytes l w m s i r h all f in
     let size : size_width f.size ≡ field_width f.left.field.row = sym (ap size_width f.left.field.size) in
     record {
       bytes = b.0;

@@ -16,7 +16,7 @@ use Rattle.wild_loader.specs.ThreadCodeX86_64.{general_call, general_slot_call, 
 use Rattle.wild_loader.specs.InstructionX86_64.{descriptor_call}
 use Rattle.wild_records.specs.Abi.Relocation.{r_x86_64_pc32, r_x86_64_plt32, r_x86_64_gotpcrel, r_x86_64_gotpcrelx, r_x86_64_rex_gotpcrelx, r_x86_64_code_4_gotpcrelx, r_x86_64_gottpoff, r_x86_64_code_4_gottpoff, r_x86_64_gotpc32_tlsdesc, r_x86_64_code_4_gotpc32_tlsdesc, r_x86_64_tlsdesc_call, r_x86_64_tlsgd, r_x86_64_tlsld}
 use Rattle.wild_meaning.specs.Sequence.{any_words, Target, TargetInSlot, AddressInSlot, OffsetInSlot, SymbolPair, OwnPair, Described, DescribedCall, Instruction, Partner, size_of, IsBesidePartners, IsOwnByte, of_field, of_sequence, of_output, of_symbol, by_call, by_slot, by_distance, instructions_of}
-use Rattle.wild_references.specs.Filled.{IsFilled, HasEffect, FilledInstructionsDo}
+use Rattle.wild_references.specs.FilledX86_64.{IsFilled, HasEffect, FilledInstructionsDo}
 use Rattle.wild_references.proofs.Acts as acts
 use Rattle.wild_references.proofs.Acts.{IsMeant}
 

@@ -15,6 +15,7 @@ use Rattle.wild_types.specs.declared.symbol.Symbol.{Symbol}
 use Rattle.wild_types.specs.declared.symbol.ValueFlags.{ValueFlags}
 use Rattle.wild_types.specs.declared.layout.Layout.{Layout}
 use Rattle.wild_types.specs.Flags.{has_flag, interposable, has_link_time_address, absolute, dynamic, ifunc, non_interposable, copy_relocation, export_dynamic, canonical_plt}
+use Rattle.wild_types.specs.Hollow.{KeepsAll}
 use Rattle.wild_types.specs.Kinds.{is_position_independent}
 use Rattle.wild_types.specs.Lookups.{canonical}
 use Rattle.wild_slot.specs.Slots.{setting_of, named, general, plt, number, plain_item, stub_items, ifunc_address_items, canonical_address_items, slot_items, items_at, thread_items, address_items, slot}
@@ -34,7 +35,7 @@ use Rattle.wild_references.proofs.SlotFlags.{symbol_fits}
 use Rattle.wild_references.proofs.SlotContents.{ItemsHold, items_hold}
 use Rattle.wild_geometry.specs.EntryKinds.{loaded_kind, address_kind}
 
--- ---- the slots of a symbol in memory
+-- ---- the slots of a symbol in memory, where all is written
 
 -- its words, item by item
 pub symbol_held : (l : Layout) (w : World) (m : Memory) (at : ℕ) (s : Symbol) (r : Resolution) → HasSymbolSlots l w m s at → s.resolution ≡ Some r → ItemsHold w m at (slot_items (setting_of l) (far_of l r) r)
@@ -43,8 +44,8 @@ symbol_held l w m at s r h e =
     let same : slots_of l s ≡ slot (setting_of l) (far_of l r) r = ap (resolved_slots l) e in
     items_hold w m at (slot_items (setting_of l) (far_of l r) r) (sym (ap (λ c. c.fault) same) ∙ h.whole) (subst (λ c. HasWords w m at c.words) same h.words)
 
-pub slots_held : (l : Layout) (w : World) (m : Memory) (i at : ℕ) (r : Resolution) → IsPlaced l w m → IsResolvedBy l i r → r.got_address ≡ Some at → ItemsHold w m at (slot_items (setting_of l) (far_of l r) r)
-slots_held l w m i at r p d e = symbol_held l w m at d.symbol r (p.slots.symbols (canonical l i) at d.symbol d.listed (ap resolved_got d.decided ∙ e)) d.decided
+pub slots_held : (l : Layout) (w : World) (m : Memory) (i at : ℕ) (r : Resolution) → IsPlaced l w m → KeepsAll l → IsResolvedBy l i r → r.got_address ≡ Some at → ItemsHold w m at (slot_items (setting_of l) (far_of l r) r)
+slots_held l w m i at r p all d e = symbol_held l w m at d.symbol r ((p.slots all).symbols (canonical l i) at d.symbol d.listed (ap resolved_got d.decided ∙ e)) d.decided
 
 -- those of a thread-local symbol, or of an address
 items_by : (w : World) (m : Memory) (at : ℕ) (xs ys : List SlotItem) (thread b : Bool) → thread ≡ b → ItemsHold w m at (if thread then xs else ys) → ItemsHold w m at (if b then xs else ys)
@@ -56,13 +57,13 @@ as_address l w m at r e plain held =
     let h = subst (λ (o : Option ℕ). ItemsHold w m at (items_at (setting_of l) far r o)) e held in
     items_by w m at (thread_items (setting_of l) r) (address_items (setting_of l) far r) (has_thread_slot r.flags) false plain h
 
-pub address_held : (l : Layout) (w : World) (m : Memory) (i at : ℕ) (r : Resolution) → IsPlaced l w m → IsResolvedBy l i r → r.got_address ≡ Some at → has_thread_slot r.flags ≡ false → ItemsHold w m at (address_items (setting_of l) (far_of l r) r)
-address_held l w m i at r p d e plain = as_address l w m at r e plain (slots_held l w m i at r p d e)
+pub address_held : (l : Layout) (w : World) (m : Memory) (i at : ℕ) (r : Resolution) → IsPlaced l w m → KeepsAll l → IsResolvedBy l i r → r.got_address ≡ Some at → has_thread_slot r.flags ≡ false → ItemsHold w m at (address_items (setting_of l) (far_of l r) r)
+address_held l w m i at r p all d e plain = as_address l w m at r e plain (slots_held l w m i at r p all d e)
 
-pub thread_held : (l : Layout) (w : World) (m : Memory) (i at : ℕ) (r : Resolution) → IsPlaced l w m → IsResolvedBy l i r → r.got_address ≡ Some at → has_thread_slot r.flags ≡ true → ItemsHold w m at (thread_items (setting_of l) r)
-thread_held l w m i at r p d e thread =
+pub thread_held : (l : Layout) (w : World) (m : Memory) (i at : ℕ) (r : Resolution) → IsPlaced l w m → KeepsAll l → IsResolvedBy l i r → r.got_address ≡ Some at → has_thread_slot r.flags ≡ true → ItemsHold w m at (thread_items (setting_of l) r)
+thread_held l w m i at r p all d e thread =
     let far = far_of l r in
-    let h = subst (λ (o : Option ℕ). ItemsHold w m at (items_at (setting_of l) far r o)) e (slots_held l w m i at r p d e) in
+    let h = subst (λ (o : Option ℕ). ItemsHold w m at (items_at (setting_of l) far r o)) e (slots_held l w m i at r p all d e) in
     items_by w m at (thread_items (setting_of l) r) (address_items (setting_of l) far r) (has_thread_slot r.flags) true thread h
 
 -- ---- the word of an address
@@ -204,5 +205,5 @@ first_is l w m i at r rest p d h = by_tests (has_flag r.flags canonical_plt) (ha
     by_tests false true e h = named_held l w m i at r rest GotEntry (λ e. General e) p d refl (λ e x f. f) h
     by_tests false false e h = own_held l w m i at r rest p d e h
 
-pub first_held : (l : Layout) (w : World) (m : Memory) (i at : ℕ) (r : Resolution) → IsPlaced l w m → IsResolvedBy l i r → r.got_address ≡ Some at → has_thread_slot r.flags ≡ false → HasFirst l w m i at (items_behind l r)
-first_held l w m i at r p d e plain = first_is l w m i at r (items_behind l r) p d (address_held l w m i at r p d e plain)
+pub first_held : (l : Layout) (w : World) (m : Memory) (i at : ℕ) (r : Resolution) → IsPlaced l w m → KeepsAll l → IsResolvedBy l i r → r.got_address ≡ Some at → has_thread_slot r.flags ≡ false → HasFirst l w m i at (items_behind l r)
+first_held l w m i at r p all d e plain = first_is l w m i at r (items_behind l r) p d (address_held l w m i at r p all d e plain)

@@ -16,6 +16,7 @@ use Rattle.wild_types.specs.declared.kind.Machine.{Machine}
 use Rattle.wild_types.specs.declared.kind.Machine.TheVariants as machine
 use Rattle.wild_types.specs.declared.input.InputRelocation.{InputRelocation}
 use Rattle.wild_types.specs.declared.layout.Layout.{Layout}
+use Rattle.wild_types.specs.Hollow.{KeepsAll}
 use Rattle.wild_reloc.specs.Field.{size_width}
 use Rattle.wild_reloc.specs.Formula.{Formula}
 use Rattle.wild_reloc.specs.FormulaX86_64.{x86_64_formula}
@@ -42,7 +43,7 @@ use Rattle.wild_layout.proofs.SiteLemmas.{All-one, window_in, length-template_si
 use Rattle.wild_loader.specs.Memory.{Holds}
 use Rattle.wild_loader.specs.declared.memory.Memory.{Memory}
 use Rattle.wild_loader.specs.declared.world.World.{World}
-use Rattle.wild_geometry.specs.Loaded.{IsDecided, InNoSite, InMemory, number_at, HasDecision}
+use Rattle.wild_geometry.specs.Loaded.{IsDecided, InNoSite, Stage, InMemory, number_at, HasDecision, HasItem}
 use Rattle.wild_references.specs.Laws.{KeepsInstruction, IsKeptReference, IsLoadedItem}
 use Rattle.wild_references.proofs.KnownRows.{formula_there}
 use Rattle.wild_references.proofs.SequenceParts.{in_sequence}
@@ -354,19 +355,23 @@ instructions_are_kept stand together machine.AArch64 l w m s h i r d has keeps s
 
 -- ---- sequences
 
--- memory has bytes at a field that is kept
-pub bytes_there : (l : Layout) (w : World) (m : Memory) (s : Item) (i : ℕ) (r : InputRelocation) (d : Decision) → IsLoadedItem machine.X86_64 l w m s → HasDecision l s i r d → KeepsInstruction d → (bs : List ℕ) × (length bs ≡ width_of r.number) × Holds m (w.base + s.address + r.offset) bs
-bytes_there l w m s i r Nothing h has k = ([], sym (kept_width l s i r Nothing h.on has tt), λ n lt. absurd (omega (arith, lt)))
-bytes_there l w m s i r (Field z v) h has k =
+-- behind its entries
+moved_item : (l : Layout) (w : World) (m : Memory) (s : Item) → IsLoadedItem machine.X86_64 l w m s → KeepsAll l → HasItem l w m s InMemory
+moved_item l w m s h all = subst (λ (t : Stage). HasItem l w m s t) (h.moved all) h.item
+
+-- memory has bytes at a field that is kept, where all is written
+pub bytes_there : (l : Layout) (w : World) (m : Memory) (s : Item) (i : ℕ) (r : InputRelocation) (d : Decision) → IsLoadedItem machine.X86_64 l w m s → KeepsAll l → HasDecision l s i r d → KeepsInstruction d → (bs : List ℕ) × (length bs ≡ width_of r.number) × Holds m (w.base + s.address + r.offset) bs
+bytes_there l w m s i r Nothing h all has k = ([], sym (kept_width l s i r Nothing h.on has tt), λ n lt. absurd (omega (arith, lt)))
+bytes_there l w m s i r (Field z v) h all has k =
     let bs = (field_site s r.offset z v).bytes in
     (bs, length-size_written z v (slice_range s.bytes r.offset (r.offset + size_width z)) ∙ sym (kept_width l s i r (Field z v) h.on has tt), h.item.values i r z v has)
-bytes_there l w m s i r (Moved v packed) h has k =
-    (word 8 (number_at InMemory w v packed), length-word 8 (number_at InMemory w v packed) ∙ sym (kept_width l s i r (Moved v packed) h.on has tt), h.item.addresses i r v packed has)
-bytes_there l w m s i r (Left z n symbol addend) h has k =
-    let left = h.item.left i r z n symbol addend has in
+bytes_there l w m s i r (Moved v packed) h all has k =
+    (word 8 (number_at InMemory w v packed), length-word 8 (number_at InMemory w v packed) ∙ sym (kept_width l s i r (Moved v packed) h.on has tt), (moved_item l w m s h all).addresses i r v packed has)
+bytes_there l w m s i r (Left z n symbol addend) h all has k =
+    let left = (moved_item l w m s h all).left i r z n symbol addend has in
     (left.0, left.2.3 ∙ sym (kept_width l s i r (Left z n symbol addend) h.on has tt), left.1)
-bytes_there l w m s i r (Rewritten row v) h has k = absurd k
-bytes_there l w m s i r Partner h has k = absurd k
+bytes_there l w m s i r (Rewritten row v) h all has k = absurd k
+bytes_there l w m s i r Partner h all has k = absurd k
 
 sequences_kept : (l : Layout) (w : World) (m : Memory) (s : Item) → IsLoadedItem machine.X86_64 l w m s → (i : ℕ) (r : InputRelocation) → IsKeptReference l s i r → (start : ℕ) (o : Instruction) (first : InputRelocation) → (t : IsOfSequence l s r start o first) → (p : InputRelocation) → Contains (first ∷ t.rest) p → IsKeptAt l s p
 sequences_kept l w m s h i r k start o first t p c = by (one_of_two first pair.second p (subst (λ (rs : List InputRelocation). Contains (first ∷ rs) p) pair.is c))

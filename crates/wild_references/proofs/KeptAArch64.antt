@@ -2,7 +2,7 @@
 --   same_kept       one of two relocations that are the same is not rewritten where the other keeps its instruction
 --   run_is_kept     where one relocation of a run is kept, each is
 --   call_is_kept    no word that is rewritten has a byte of the call of a run that is kept
-use Rattle.std.proofs.Common.{◌≡◌, ℕ, zero, suc, ◌+◌, ◌*◌, ◌<◌, ◌≤◌, ◌⊎◌, inl, inr, true, false, List, [], ◌∷◌, length, get_or, refl, sym, ap, ◌∙◌, subst, arith, eqb-true, eq-eqb}
+use Rattle.std.proofs.Common.{◌≡◌, ℕ, zero, suc, ◌+◌, ◌*◌, ◌<◌, ◌≤◌, ◌⊎◌, inl, inr, true, false, List, [], ◌∷◌, length, get_or, refl, sym, ap, ◌∙◌, subst, arith, eq-eqb}
 use Rattle.std.specs.Prelude.{⊤, ◌==◌, slice_get, Option, Some, None, Ok, Contains}
 use Rattle.std.specs.List.{filter}
 use Rattle.std.proofs.lemmas.Bool.{and_from, cases_eq, cases_lt}

@@ -1,5 +1,5 @@
 -- An instruction whose references keep it does what it demands.
-use Rattle.std.proofs.Common.{◌≡◌, ℕ, ◌⊎◌, inl, inr, ◌∷◌, refl, sym, ap, ◌∙◌, subst, arith}
+use Rattle.std.proofs.Common.{◌≡◌, ℕ, ◌⊎◌, inl, inr, true, false, ◌∷◌, refl, sym, ap, ◌∙◌, subst, arith}
 use Rattle.std.specs.Prelude.{⊤, List, Some, Contains}
 use Rattle.wild_types.specs.declared.kind.Machine.{Machine}
 use Rattle.wild_types.specs.declared.kind.Machine.TheVariants as machine
@@ -17,8 +17,10 @@ use Rattle.wild_meaning.specs.Field.{formula_of}
 use Rattle.wild_meaning.specs.Formula.{IsPlaceRelative, TakesAddress, TakesOffset}
 use Rattle.wild_meaning.specs.Template.{IsSingle, IsTemplate, reads, DoesDemanded, IsOfSequence}
 use Rattle.wild_meaning.proofs.PairLemmas.{IsGetterCall, as_pair, as_double, counts_by_slot}
-use Rattle.wild_meaning.specs.Reference.{IsAsked, IsLinkedAlone, HasPlace, GoesByPlace, TakesItself}
+use Rattle.wild_meaning.specs.Reference.{IsAsked, IsLinkedAlone, IsLeftOut, HasPlace, GoesByPlace, TakesItself, IsSlotValue, HasSlotFormula}
 use Rattle.wild_references.specs.EffectLaws.{SequencesAreKept, InstructionsAreKept, KeptInstructionsDo}
+use Rattle.wild_references.proofs.LeftOut.{keeps_all}
+use Rattle.wild_references.proofs.LeftAlong.{left_along}
 use Rattle.wild_references.proofs.Does.{HasField, PartnersThere, FormulaIs, displaced, formula_is, pair_of, known_formula}
 use Rattle.wild_references.proofs.Right.{does_demanded}
 use Rattle.wild_references.proofs.KeptTables.{partner_width}
@@ -45,6 +47,10 @@ has_pair l item first second start o x q =
 no_place : (f : Formula) → (f ≡ displaced (SlotDistance ModulePair)) ⊎ (f ≡ displaced (SlotDistance OwnModulePair)) → IsPlaceRelative f.value → ⊥
 no_place f (inl e) h = subst (λ (g : Formula). IsPlaceRelative g.value) e h
 no_place f (inr e) h = subst (λ (g : Formula). IsPlaceRelative g.value) e h
+
+pair_slot : (f : Formula) → (f ≡ displaced (SlotDistance ModulePair)) ⊎ (f ≡ displaced (SlotDistance OwnModulePair)) → IsSlotValue f.value
+pair_slot f (inl e) = subst (λ (g : Formula). IsSlotValue g.value) (sym e) tt
+pair_slot f (inr e) = subst (λ (g : Formula). IsSlotValue g.value) (sym e) tt
 
 no_offset : (f : Formula) → (f ≡ displaced (SlotDistance ModulePair)) ⊎ (f ≡ displaced (SlotDistance OwnModulePair)) → TakesOffset f.value → ⊥
 no_offset f (inl e) h = subst (λ (g : Formula). TakesOffset g.value) e h
@@ -115,30 +121,32 @@ first_not_alone l item r p a = by a.takes
 as_field : (l : Layout) (w : World) (m : Memory) (item : Item) (r : InputRelocation) → FieldHolds l w m item r → HasField l w m item r
 as_field l w m item r f = record { formula = f.formula; known = f.known; value = f.value; gives = f.gives; field = f.field }
 
-single_does : InstructionsAreKept → (l : Layout) (w : World) (m : Memory) (s : Item) → IsLoadedItem machine.X86_64 l w m s → FieldsHold l w m s → (i : ℕ) (r : InputRelocation) → IsKeptReference l s i r → IsAsked l w s r → (IsLinkedAlone l s r → ⊥)
+single_does : InstructionsAreKept → (l : Layout) (w : World) (m : Memory) (s : Item) → IsLoadedItem machine.X86_64 l w m s → FieldsHold l w m s → (i : ℕ) (r : InputRelocation) → IsKeptReference l s i r → (IsLeftOut l s r → ⊥) → IsAsked l w s r → (IsLinkedAlone l s r → ⊥)
     → (start : ℕ) (o : Instruction) → IsSingle l s r start o → DoesDemanded (reads w m) l w m s r start o
-single_does kept l w m s g f i r k asked alone start o t =
+single_does kept l w m s g f i r k present asked alone start o t =
     does_demanded l w m s r start o (record {
       x86 = g.on;
       stands = t.stands;
-      field = as_field l w m s r (f.references i r k asked alone);
+      field = as_field l w m s r (f.references i r k present asked alone);
       own = kept machine.X86_64 l w m s g i r k.decision k.has k.keeps start o r (inl (t, refl));
       partners = subst (λ (ps : List Partner). PartnersThere w m s start ps) (sym t.single) tt;
     })
 
-double_does : SequencesAreKept → InstructionsAreKept → (l : Layout) (w : World) (m : Memory) (s : Item) → IsLoadedItem machine.X86_64 l w m s → FieldsHold l w m s → (i : ℕ) (r : InputRelocation) → IsKeptReference l s i r
+double_does : SequencesAreKept → InstructionsAreKept → (l : Layout) (w : World) (m : Memory) (s : Item) → IsLoadedItem machine.X86_64 l w m s → FieldsHold l w m s → (i : ℕ) (r : InputRelocation) → IsKeptReference l s i r → (IsLeftOut l s r → ⊥)
     → (start : ℕ) (o : Instruction) (first : InputRelocation) → IsOfSequence l s r start o first → DoesDemanded (reads w m) l w m s first start o
-double_does sequences kept l w m s g f i r k start o first part =
+double_does sequences kept l w m s g f i r k present start o first part =
     let pair = as_pair l s first part.rest start o g.on part.sequence in
     let t = pair.pair in
     let p = has_pair l s first pair.second start o g.on t in
     let here = sequences machine.X86_64 l w m s g i r k start o first part first (0, omega arith, refl) in
     let call = sequences machine.X86_64 l w m s g i r k start o first part pair.second (subst (λ (rs : List InputRelocation). Contains (first ∷ rs) pair.second) (sym pair.is) (1, omega arith, refl)) in
-    let bytes = bytes_there l w m s call.index pair.second call.kept.decision g call.kept.has call.kept.keeps in
+    let formula = first_known l w m s first start o pair.second g.on t in
+    let slot : HasSlotFormula l first = record { formula = formula.0; known = formula.1; slot = pair_slot formula.0 (p.each formula.0 formula.1) } in
+    let all = keeps_all l (λ bare. present (bare, inr (inl (inr (record { start = start; instruction = o; first = first; of = part; other = first; one = (0, omega arith, refl); slot = slot }))))) in
+    let bytes = bytes_there l w m s call.index pair.second call.kept.decision g all call.kept.has call.kept.keeps in
     let wide = bytes.1 ∙ partner_width o t.partner pair.second.number (known_filled l s first start o g.on t.stands) t.calls t.has.number in
     let held = subst (λ (n : ℕ). Holds m (place_at w s n) bytes.0) t.has.field bytes.2 in
-    let formula = first_known l w m s first start o pair.second g.on t in
-    let field = f.references here.index first here.kept (first_asked l w s first formula.0 g.on formula.1 p) (first_not_alone l s first p) in
+    let field = f.references here.index first here.kept (λ left. (let off = all in let on = left.0 in let both : true ≡ false = sym on ∙ off in cc)) (first_asked l w s first formula.0 g.on formula.1 p) (first_not_alone l s first p) in
     does_demanded l w m s first start o (record {
       x86 = g.on;
       stands = t.stands;
@@ -148,23 +156,23 @@ double_does sequences kept l w m s g f i r k start o first part =
     })
 
 -- words of AArch64, alone and in runs
-run_kept : SequencesAreKept → InstructionsAreKept → (l : Layout) (w : World) (m : Memory) (s : Item) → IsLoadedItem machine.AArch64 l w m s → FieldsHold l w m s → (i : ℕ) (r : InputRelocation) → IsKeptReference l s i r → IsAsked l w s r → (IsLinkedAlone l s r → ⊥)
+run_kept : SequencesAreKept → InstructionsAreKept → (l : Layout) (w : World) (m : Memory) (s : Item) → IsLoadedItem machine.AArch64 l w m s → FieldsHold l w m s → (i : ℕ) (r : InputRelocation) → IsKeptReference l s i r → (IsLeftOut l s r → ⊥) → IsAsked l w s r → (IsLinkedAlone l s r → ⊥)
     → (start : ℕ) (o : Instruction) (first : InputRelocation) → IsOfSequence l s r start o first → IsKeptRun l w m s r start o first
-run_kept sequences kept l w m s g f i r k asked alone start o first t = record {
+run_kept sequences kept l w m s g f i r k present asked alone start o first t = record {
   on = g.on;
   rest = t.rest;
   sequence = t.sequence;
   one = t.one;
-  each = λ q c a n. (let h = sequences machine.AArch64 l w m s g i r k start o first t q c in f.references h.index q h.kept a n);
+  each = λ q c a n. (let h = sequences machine.AArch64 l w m s g i r k start o first t q c in f.references h.index q h.kept (λ left. present (left_along l s r q start o first g.on t c left)) a n);
   asked = asked;
   alone = alone;
   own = kept machine.AArch64 l w m s g i r k.decision k.has k.keeps start o first (inr t);
 }
 
 pub kept_do : SequencesAreKept → InstructionsAreKept → KeptInstructionsDo
-kept_do sequences kept machine.X86_64 l w m s g f i r k asked alone start o first (inl t) =
-    subst (λ (x : InputRelocation). DoesDemanded (reads w m) l w m s x start o) (sym t.1) (single_does kept l w m s g f i r k asked alone start o t.0)
-kept_do sequences kept machine.X86_64 l w m s g f i r k asked alone start o first (inr t) = double_does sequences kept l w m s g f i r k start o first t
-kept_do sequences kept machine.AArch64 l w m s g f i r k asked alone start o first (inl t) =
-    subst (λ (x : InputRelocation). DoesDemanded (reads w m) l w m s x start o) (sym t.1) (lone_word_does l w m s r start o g.on t.0.stands t.0.single (f.references i r k asked alone))
-kept_do sequences kept machine.AArch64 l w m s g f i r k asked alone start o first (inr t) = run_does l w m s r start o first (run_kept sequences kept l w m s g f i r k asked alone start o first t)
+kept_do sequences kept machine.X86_64 l w m s g f i r k present asked alone start o first (inl t) =
+    subst (λ (x : InputRelocation). DoesDemanded (reads w m) l w m s x start o) (sym t.1) (single_does kept l w m s g f i r k present asked alone start o t.0)
+kept_do sequences kept machine.X86_64 l w m s g f i r k present asked alone start o first (inr t) = double_does sequences kept l w m s g f i r k present start o first t
+kept_do sequences kept machine.AArch64 l w m s g f i r k present asked alone start o first (inl t) =
+    subst (λ (x : InputRelocation). DoesDemanded (reads w m) l w m s x start o) (sym t.1) (lone_word_does l w m s r start o g.on t.0.stands t.0.single (f.references i r k present asked alone))
+kept_do sequences kept machine.AArch64 l w m s g f i r k present asked alone start o first (inr t) = run_does l w m s r start o first (run_kept sequences kept l w m s g f i r k present asked alone start o first t)

@@ -2,9 +2,9 @@
 use Rattle.wild_meaning.specs.World.{IsLoadable}
 use Rattle.wild_geometry.proofs.ReadLemmas.{read_fields, read_written}
 use Rattle.wild_meaning.proofs.OutputLemmas.{not_partial}
-use Rattle.std.proofs.Common.{◌≡◌, ℕ, zero, suc, ◌+◌, ◌-◌, ◌/◌, ◌%◌, ◌^◌, ◌<◌, ◌≤◌, inl, inr, List, [], ◌++◌, length, map, take, drop, get_or, slice_range, true, sym, ap, ◌∙◌, subst, arith, ◌*◌}
-use Rattle.std.specs.Prelude.{All, ◌==◌, ◌&&◌, nat_le, nat_lt, if◌then◌else◌, slice_index}
-use Rattle.std.specs.List.{flat_map, range_with_len}
+use Rattle.std.proofs.Common.{◌≡◌, ℕ, zero, suc, ◌+◌, ◌-◌, ◌/◌, ◌%◌, ◌^◌, ◌<◌, ◌≤◌, inl, inr, List, [], ◌++◌, length, map, take, drop, get_or, slice_range, true, sym, subst, arith, ◌*◌}
+use Rattle.std.specs.Prelude.{All, ◌==◌, ◌&&◌, nat_le, nat_lt, slice_index}
+use Rattle.std.specs.List.{range_with_len}
 use Rattle.std.specs.Int.RustNames.{bit_and}
 use Rattle.std.proofs.lemmas.Bool.{eqb-true, cases_lt}
 use Rattle.std.proofs.lemmas.Nat.Bits.{and_pow}
@@ -24,7 +24,7 @@ use Rattle.wild_types.specs.Lookups.{allocated}
 use Rattle.wild_frames.specs.declared.entry.Found.{Found}
 use Rattle.wild_frames.specs.declared.entry.Found.TheVariants as finds
 use Rattle.wild_frames.specs.declared.entry.KeptEntry.{KeptEntry}
-use Rattle.wild_frames.specs.Frames.{Frames, entry_bytes, tail_of, found_bytes, found_in, kept_in, frame_bytes}
+use Rattle.wild_frames.specs.Frames.{Frames, entry_bytes, tail_of, found_bytes, found_in, kept_in}
 use Rattle.wild_layout.specs.Geometry.{IsLaidOut, NamesSymbol}
 use Rattle.wild_layout.specs.Numbers.{AddendFits, InputNumbers, InputsFit, NumbersFit}
 use Rattle.wild_layout.specs.SectionPlaces.{FieldLies, SectionLies}

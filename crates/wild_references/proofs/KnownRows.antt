@@ -3,7 +3,7 @@ use Rattle.std.proofs.Common.{◌≡◌, ℕ, ◌^◌, ◌<◌, ◌⊎◌, inl, 
 use Rattle.std.specs.Prelude.{◌==◌, ◌&&◌, ◌||◌, if◌then◌else◌, Option, Some, None, is_none, All}
 use Rattle.std.specs.List.{list_all}
 use Rattle.std.proofs.lemmas.Bool.{eqb-true, and_parts, or_cases}
-use Rattle.wild_records.specs.Abi.Relocation.{r_x86_64_none, r_x86_64_gotpc32_tlsdesc, r_x86_64_code_4_gotpc32_tlsdesc, r_x86_64_tlsdesc_call}
+use Rattle.wild_records.specs.Abi.Relocation.{r_x86_64_none, r_x86_64_plt32, r_x86_64_pltoff64, r_x86_64_gotpc32_tlsdesc, r_x86_64_code_4_gotpc32_tlsdesc, r_x86_64_tlsdesc_call, r_aarch64_plt32, r_aarch64_jump26, r_aarch64_call26}
 use Rattle.wild_types.specs.declared.kind.Machine.{Machine}
 use Rattle.wild_types.specs.declared.kind.Machine.TheVariants as machine
 use Rattle.wild_reloc.specs.TableX86_64.{x86_64_rows, x86_64_row}
@@ -86,12 +86,17 @@ abbrev of_formula : (Formula → Bool) → Option Formula → Bool
 of_formula test None = false
 of_formula test (Some f) = test f
 
--- the types of the kinds that few types have: for nothing, and on x86-64 a descriptor, and the call through one; AArch64 has none of a size
+-- the types of the kinds that few types have: for nothing, a stub's distance and offset, and on x86-64 a descriptor, and the call through one;
+-- AArch64 has none of a size, and none less the table
 abbrev few_numbers : Machine → RelocationKind → ℕ → Bool
 few_numbers m kinds.None n = n == r_x86_64_none
 few_numbers machine.X86_64 kinds.TlsDesc n = n == r_x86_64_gotpc32_tlsdesc || n == r_x86_64_code_4_gotpc32_tlsdesc
 few_numbers machine.X86_64 kinds.TlsDescCall n = n == r_x86_64_tlsdesc_call
+few_numbers machine.X86_64 kinds.PltRelative n = n == r_x86_64_plt32
+few_numbers machine.X86_64 kinds.PltRelGotBase n = n == r_x86_64_pltoff64
 few_numbers machine.AArch64 kinds.SymbolSize n = false
+few_numbers machine.AArch64 kinds.PltRelative n = n == r_aarch64_plt32 || (n == r_aarch64_jump26 || n == r_aarch64_call26)
+few_numbers machine.AArch64 kinds.PltRelGotBase n = false
 few_numbers m other n = true
 
 -- the call through a descriptor has no value and no field
@@ -255,6 +260,28 @@ none_is machine.AArch64 n row is kind = eqb-true _ _ (few_at machine.AArch64 n r
 pub size_machine : (m : Machine) (n : ℕ) (row : RelocationKindInfo) → row_of m n ≡ Some row → row.kind ≡ kinds.SymbolSize → m ≡ machine.X86_64
 size_machine machine.X86_64 n row is kind = refl
 size_machine machine.AArch64 n row is kind = (let none = few_at machine.AArch64 n row kinds.SymbolSize is kind in cc)
+
+-- the types of the distance of a stub, and of its offset from the table
+abbrev pub IsStubType : Machine → ℕ → Type 0
+IsStubType machine.X86_64 n = (n ≡ r_x86_64_plt32) ⊎ (n ≡ r_x86_64_pltoff64)
+IsStubType machine.AArch64 n = (n ≡ r_aarch64_plt32) ⊎ ((n ≡ r_aarch64_jump26) ⊎ (n ≡ r_aarch64_call26))
+
+-- the distance has these types
+pub distance_types : (m : Machine) (n : ℕ) (row : RelocationKindInfo) → row_of m n ≡ Some row → row.kind ≡ kinds.PltRelative → IsStubType m n
+distance_types machine.X86_64 n row is kind = inl (eqb-true _ _ (few_at machine.X86_64 n row kinds.PltRelative is kind))
+distance_types machine.AArch64 n row is kind =
+    elim (or_cases _ _ (few_at machine.AArch64 n row kinds.PltRelative is kind)) [
+      | inl a ↦ inl (eqb-true _ _ a)
+      | inr b ↦ elim (or_cases _ _ b) [
+        | inl c ↦ inr (inl (eqb-true _ _ c))
+        | inr d ↦ inr (inr (eqb-true _ _ d))
+      ]
+    ]
+
+-- its offset from the table is x86-64's
+pub offset_type : (m : Machine) (n : ℕ) (row : RelocationKindInfo) → row_of m n ≡ Some row → row.kind ≡ kinds.PltRelGotBase → IsStubType m n
+offset_type machine.X86_64 n row is kind = inr (eqb-true _ _ (few_at machine.X86_64 n row kinds.PltRelGotBase is kind))
+offset_type machine.AArch64 n row is kind = (let none = few_at machine.AArch64 n row kinds.PltRelGotBase is kind in cc)
 
 -- or the call through a descriptor
 pub call_is : (n : ℕ) (row : RelocationKindInfo) → row_of machine.X86_64 n ≡ Some row → row.kind ≡ kinds.TlsDescCall → n ≡ r_x86_64_tlsdesc_call

@@ -38,6 +38,8 @@ mod ThunkKinds
 pub mod OwnSymbols
 mod Descriptors
 mod RowFields
+mod Directly
+mod LeftOut
 mod BranchFields
 mod ConditionFields
 mod AddressKinds
@@ -92,6 +94,7 @@ mod RunsAArch64
 mod WordsAArch64
 mod RunWords
 mod SequencesAArch64
+mod LeftAlong
 mod RewrittenRuns
 mod RewrittenSequences
 mod RewrittenCode

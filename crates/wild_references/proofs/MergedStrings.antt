@@ -1,12 +1,11 @@
 -- References to strings that were merged: what the writer takes for S makes their place with A, and no other symbol's.
 use Rattle.std.proofs.Common.{◌≡◌, ℕ, ◌+◌, ◌-◌, ◌%◌, ◌^◌, ◌<◌, ◌≤◌, Bool, true, false, List, [], ◌∷◌, ◌++◌, Option, Some, None, refl, sym, ap, ◌∙◌, arith, subst, ℤ}
-use Rattle.std.specs.Prelude.{Ok, not, ◌==◌, ◌&&◌, ◌||◌, if◌then◌else◌, nat_le, All, Result, option_and_then, option_map, slice_get, is_some}
+use Rattle.std.specs.Prelude.{Ok, not, ◌&&◌, ◌||◌, if◌then◌else◌, nat_le, All, option_and_then, option_map, slice_get, is_some}
 use Rattle.std.specs.Option.{option_or}
 use Rattle.std.specs.Int.{w64, cast_unsigned}
-use Rattle.std.proofs.lemmas.Bool.{cases_Bool, and_parts, not-true, eqb-true, leb-true, leb-false, lt-leb, le-leb}
+use Rattle.std.proofs.lemmas.Bool.{and_parts, not-true, eqb-true, leb-true, leb-false, lt-leb, le-leb}
 use Rattle.std.proofs.lemmas.List.Elements.{All-nil, All-cons, All-head, All-tail}
 use Rattle.wild_records.specs.Abi.Symbol.{stt_section}
-use Rattle.wild_types.specs.declared.fault.Fault.{Fault}
 use Rattle.wild_types.specs.declared.fault.Missing.TheVariants as missing
 use Rattle.wild_types.specs.declared.symbol.Place.{Place}
 use Rattle.wild_types.specs.declared.symbol.Place.TheVariants as at
@@ -28,7 +27,7 @@ use Rattle.wild_layout.specs.SlotValues.{address_of}
 use Rattle.wild_layout.specs.Merged.{is_section_symbol, strings_by, strings_of, strings_at, strings_in, strings_told, is_plain_own, merged_strings, names_merged, string_before, string_place, symbol_value, merged_byte, without_addend, address_by, address_named, address_for}
 use Rattle.wild_loader.specs.declared.world.World.{World}
 use Rattle.wild_types.specs.declared.kind.OutputKind.{OutputKind}
-use Rattle.wild_meaning.specs.Value.{IsSymbol, IsOwnFile, HasFlag, IsReplaceable, is_library, may_be_replaced}
+use Rattle.wild_meaning.specs.Value.{IsSymbol, HasFlag, IsReplaceable, is_library, may_be_replaced}
 use Rattle.wild_meaning.specs.ReferentAArch64.{IsAbsent}
 use Rattle.wild_meaning.specs.Strings.{IsPlainOwn, HasStrings, NamesStrings, IsStringAt, byte_named, IsString}
 use Rattle.wild_geometry.proofs.JudgedLemmas.{flag_is}

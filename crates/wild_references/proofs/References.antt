@@ -1,6 +1,6 @@
 -- The references of a kept section that keep their instructions hold in memory.
-use Rattle.std.proofs.Common.{◌≡◌, ℕ, ◌+◌, ◌%◌, ◌^◌, ◌≤◌, ◌⊎◌, inl, inr, Bool, true, false, [], Some, None, refl, sym, ap, ◌∙◌, arith, subst}
-use Rattle.std.specs.Prelude.{Ok, length, slice_get}
+use Rattle.std.proofs.Common.{◌≡◌, ℕ, ◌+◌, ◌%◌, ◌^◌, ◌≤◌, ◌⊎◌, inl, inr, Bool, true, false, [], Some, refl, sym, ap, ◌∙◌, arith, subst}
+use Rattle.std.specs.Prelude.{Ok, if◌then◌else◌, length, slice_get}
 use Rattle.wild_words.proofs.ListLemmas.{holds_at}
 use Rattle.wild_types.specs.declared.kind.Machine.{Machine}
 use Rattle.wild_types.specs.declared.kind.Machine.TheVariants as machine
@@ -9,6 +9,7 @@ use Rattle.wild_types.specs.declared.kind.OutputKind.TheVariants as output
 use Rattle.wild_types.specs.Lookups.{place_of}
 use Rattle.wild_types.specs.declared.input.InputRelocation.{InputRelocation}
 use Rattle.wild_types.specs.declared.layout.Layout.{Layout}
+use Rattle.wild_types.specs.Hollow.{KeepsAll}
 use Rattle.wild_slot.specs.declared.treatment.Treatment.TheVariants as treatments
 use Rattle.wild_slot.specs.Treatment.{kind_treatment}
 use Rattle.wild_reloc.specs.Agreement.{sized}
@@ -28,24 +29,25 @@ use Rattle.wild_reloc.specs.declared.info.RelocationKind.{RelocationKind}
 use Rattle.wild_reloc.specs.declared.info.RelocationKind.TheVariants as kinds
 use Rattle.wild_layout.specs.Geometry.{NamesSymbol}
 use Rattle.wild_layout.specs.Numbers.{AddendFits}
-use Rattle.wild_layout.specs.Values.{term_of, value_in, is_symbol}
+use Rattle.wild_layout.specs.Values.{term_of, value_in, is_symbol, is_own_place, undefined_weak_target, term_by}
 use Rattle.wild_layout.proofs.DecideLemmas.{HasField, field_has, moved_has}
 use Rattle.wild_layout.proofs.ReachedLemmas.{IsCarried, ComesTo}
 use Rattle.wild_layout.proofs.DecisionLemmas.{own_choice}
 use Rattle.wild_loader.specs.declared.world.World.{World}
 use Rattle.wild_loader.specs.declared.memory.Memory.{Memory}
-use Rattle.wild_meaning.specs.Field.{formula_of, FieldReads}
+use Rattle.wild_meaning.specs.Field.{FieldReads}
 use Rattle.wild_types.specs.Item.{Item}
 use Rattle.wild_meaning.specs.Formula.{KnowsOffsets, HasOffsetMode, Gives, GivesLinked, IsPlaceRelative, TakesAddress, TakesOffset}
-use Rattle.wild_meaning.specs.Reference.{IsAsked, IsStubbed, TakesItself, IsLinkedAlone}
+use Rattle.wild_meaning.specs.Reference.{IsAsked, IsStubbed, TakesItself, IsLinkedAlone, IsLeftOut}
 use Rattle.wild_references.specs.Laws.{FieldHolds, FieldIsLinked, IsKeptReference}
-use Rattle.wild_references.specs.Terms.{value_by_row, HasTerm, IsFollowed}
+use Rattle.wild_references.specs.Terms.{value_by_row, IsDirect, HasTerm, IsFollowed}
 use Rattle.wild_references.proofs.Alone.{not_left, followed, taken, takes_none, left_follows}
 use Rattle.wild_references.proofs.Descriptors.{descriptor_kept, call_kept}
 use Rattle.wild_references.proofs.Fields.{KindLaws, LinkedLaws, IsItemLoaded, field_within, place_is, place_ends, value_reads, address_reads, left_bytes, left_reads, SeenAs}
 use Rattle.wild_references.proofs.KnownRows.{IsSeen, branch_is, descriptor_is}
+use Rattle.wild_references.proofs.LeftOut.{keeps_all, moved_taken, left_taken, value_direct}
 use Rattle.wild_references.proofs.Referents.{is_address, sized_is}
-use Rattle.wild_references.proofs.ThunkKinds.{stub_row}
+use Rattle.wild_references.proofs.ThunkKinds.{stub_row, not_far, from_place}
 use Rattle.wild_references.proofs.ValueKinds.{plain_given}
 use Rattle.wild_references.proofs.RowFields.{row_holds}
 use Rattle.wild_references.proofs.BranchFields.{branch_reads, branch_holds}
@@ -95,11 +97,12 @@ gives_by l w m s r info x laws v h f none = by_term (expression_of info.kind).te
     by_term term.Nothing e = absurd (let both : true ≡ false = no_term info.kind e v in cc)
 
 -- what the writer computes for it, where an excepted one is asked
-term_is : (l : Layout) (w : World) (m : Memory) (s : Item) (i : ℕ) (r : InputRelocation) (x : ℕ) → IsItemLoaded l w m s → IsAsked l w s r → (v : IsValue l s i r) → value_in l v.field.row v.field.term r.addend (place_of s.address r) ≡ x → HasTerm l w m s r v.field.row x
-term_is l w m s i r x h asked v is =
+term_is : (l : Layout) (w : World) (m : Memory) (s : Item) (i : ℕ) (r : InputRelocation) (x : ℕ) → IsItemLoaded l w m s → (IsLeftOut l s r → ⊥) → IsAsked l w s r → (v : IsValue l s i r) → value_in l v.field.row v.field.term r.addend (place_of s.address r) ≡ x → HasTerm l w m s r v.field.row x
+term_is l w m s i r x h present asked v is =
     let field = field_has l s r v.size v.value v.field in
     record {
       placed = h.placed;
+      present = value_direct l w m s i r h v present;
       room = h.room;
       listed = holds_at (NamesSymbol l) s.relocations i r v.plain.has.listed h.symbols;
       row = v.field.row;
@@ -164,17 +167,33 @@ carried_value l s i r v t =
     let b = branch_is l.machine r.number v.field.row v.field.known t in
     sym v.fits.value ∙ (stub_row v.field.row b.carries.whole b.kind).value
 
+-- which is written: a branch that goes by no stub is to a symbol that is not there, and near
+carried_all : (l : Layout) (w : World) (m : Memory) (s : Item) (i : ℕ) (r : InputRelocation) (x : ℕ) → (v : IsValue l s i r) → v.field.row.thunkable ≡ true → (there : HasTerm l w m s r v.field.row x) → IsCarried l s r v.field.row x v.value → KeepsAll l
+carried_all l w m s i r x v t there c = elim there.present [ inl all ↦ all | inr direct ↦ absurd (by_place direct) ]
+  where
+    by_own : is_own_place l.machine l r v.field.row ≡ true → (b : Bool) → is_own_place l.machine l r v.field.row ≡ b → (if b then Ok (undefined_weak_target r.number (place_of s.address r)) else term_by l r (expression_of v.field.row.kind).term) ≡ Ok there.term → undefined_weak_target r.number (place_of s.address r) ≡ there.term
+    by_own own true e g = cc
+    by_own own false e g = (let both : true ≡ false = sym own ∙ e in cc)
+
+    by_place : IsDirect l r v.field.row (expression_of v.field.row.kind).term → ⊥
+    by_place direct =
+        let b = branch_is l.machine r.number v.field.row v.field.known t in
+        let stub : (expression_of v.field.row.kind).term ≡ term.Stub = ap (λ (k : RelocationKind). (expression_of k).term) b.kind in
+        let own : is_own_place l.machine l r v.field.row ≡ true = subst (λ (y : Term). IsDirect l r v.field.row y) stub direct in
+        not_far l w m s r v.field.row x there b.carries (from_place v.field.row b.carries) c.alone (by_own own (is_own_place l.machine l r v.field.row) refl there.given) c.far
+
 other_kind : {P : Type 0} (k : RelocationKind) → k ≡ kinds.Relative → k ≡ kinds.PltRelative → P
 other_kind k a b = (let both : kinds.Relative ≡ kinds.PltRelative = sym a ∙ b in cc)
 
 gives_carried : (l : Layout) (w : World) (m : Memory) (s : Item) (i : ℕ) (r : InputRelocation) (x : ℕ) → IsItemLoaded l w m s → (v : IsValue l s i r) → IsFollowed l r (value_by_row v.field.row) → HasTerm l w m s r v.field.row x → IsCarried l s r v.field.row x v.value → IsSeenValue l w m s i r v
 gives_carried l w m s i r x h v follow there c =
     let b = branch_is l.machine r.number v.field.row v.field.known c.thunkable in
-    let g = subst (λ (n : ℕ). Gives StubDistance l w m s r n) c.distance (h.kinds.thunk v.field.row b.carries l w m s r x c.thunk b.on there h.thunks (λ k. other_kind v.field.row.kind k b.kind) follow c.far c.found c.alone) in
+    let all = carried_all l w m s i r x v c.thunkable there c in
+    let g = subst (λ (n : ℕ). Gives StubDistance l w m s r n) c.distance (h.kinds.thunk v.field.row b.carries l w m s r x c.thunk b.on all there (h.thunks all) (λ k. other_kind v.field.row.kind k b.kind) follow c.far c.found c.alone) in
     record { value = v.value; gives = subst (λ (q : Value). Gives q l w m s r v.value) (sym (carried_value l s i r v c.thunkable)) g; seen = inl refl }
 
-gives_value : (l : Layout) (w : World) (m : Memory) (s : Item) (i : ℕ) (r : InputRelocation) → IsItemLoaded l w m s → IsAsked l w s r → (v : IsValue l s i r) → (IsLinkedAlone l s r → ⊥) → IsSeenValue l w m s i r v
-gives_value l w m s i r h asked v alone = by_what v.field.comes
+gives_value : (l : Layout) (w : World) (m : Memory) (s : Item) (i : ℕ) (r : InputRelocation) → IsItemLoaded l w m s → (IsLeftOut l s r → ⊥) → IsAsked l w s r → (v : IsValue l s i r) → (IsLinkedAlone l s r → ⊥) → IsSeenValue l w m s i r v
+gives_value l w m s i r h present asked v alone = by_what v.field.comes
   where
     x : ℕ
     x = value_in l v.field.row v.field.term r.addend (place_of s.address r)
@@ -183,38 +202,45 @@ gives_value l w m s i r h asked v alone = by_what v.field.comes
     follow = value_followed l w m s i r h v alone
 
     by_what : ComesTo l s r v.field.row x v.value → IsSeenValue l w m s i r v
-    by_what (inl same) = gives_own l w m s i r h v follow (term_is l w m s i r v.value h asked v same)
-    by_what (inr c) = gives_carried l w m s i r x h v follow (term_is l w m s i r x h asked v refl) c
+    by_what (inl same) = gives_own l w m s i r h v follow (term_is l w m s i r v.value h present asked v same)
+    by_what (inr c) = gives_carried l w m s i r x h v follow (term_is l w m s i r x h present asked v refl) c
 
-gives_address : (l : Layout) (w : World) (m : Memory) (s : Item) (i : ℕ) (r : InputRelocation) → IsItemLoaded l w m s → (a : IsAddress l s i r) → (IsLinkedAlone l s r → ⊥) → Gives a.fits.formula.value l w m s r ((a.value + w.base) % 2 ^ 64)
-gives_address l w m s i r h a alone =
+gives_address : (l : Layout) (w : World) (m : Memory) (s : Item) (i : ℕ) (r : InputRelocation) → IsItemLoaded l w m s → KeepsAll l → (a : IsAddress l s i r) → (IsLinkedAlone l s r → ⊥) → Gives a.fits.formula.value l w m s r ((a.value + w.base) % 2 ^ 64)
+gives_address l w m s i r h all a alone =
     let listed = holds_at (NamesSymbol l) s.relocations i r a.plain.has.listed h.symbols in
     let value : SymbolAddress ≡ a.fits.formula.value = sym (a.fits.full a.moved.by.kind a.moved.by.width).0 in
     let f = followed l w m s r a.fits.formula h.placed listed a.fits.known (λ k named left. not_left l s r a.moved.row k treatments.BaseRelative a.fits h.room a.moved.treated (λ e. cc) (λ e. cc) (λ e. cc) a.moved.known named left) (λ k named whose. own_goes l s i r _ k a.plain.own a.plain.has.listed (within l w m s i r (ByteSize Eight) h a.plain.has.listed (moved_has l s r a.value a.packed a.moved)) h.placed.symbols (listed k named) named whose) alone in
-    subst (λ (q : Value). Gives q l w m s r ((a.value + w.base) % 2 ^ 64)) value (h.kinds.address l w m s r a.value a.packed h.placed listed (holds_at AddendFits s.relocations i r a.plain.has.listed h.addends) a.plain.own.made (subst (λ (q : Value). IsFollowed l r q) (sym value) f))
+    subst (λ (q : Value). Gives q l w m s r ((a.value + w.base) % 2 ^ 64)) value (h.kinds.address l w m s r a.value a.packed all h.placed listed (holds_at AddendFits s.relocations i r a.plain.has.listed h.addends) a.plain.own.made (subst (λ (q : Value). IsFollowed l r q) (sym value) f))
 
 -- ---- the reference
 
-value_holds : (l : Layout) (w : World) (m : Memory) (s : Item) (i : ℕ) (r : InputRelocation) → IsItemLoaded l w m s → IsAsked l w s r → (IsLinkedAlone l s r → ⊥) → IsValue l s i r → FieldHolds l w m s r
-value_holds l w m s i r h asked alone v =
-    let x = gives_value l w m s i r h asked v alone in
+value_holds : (l : Layout) (w : World) (m : Memory) (s : Item) (i : ℕ) (r : InputRelocation) → IsItemLoaded l w m s → (IsLeftOut l s r → ⊥) → IsAsked l w s r → (IsLinkedAlone l s r → ⊥) → IsValue l s i r → FieldHolds l w m s r
+value_holds l w m s i r h present asked alone v =
+    let x = gives_value l w m s i r h present asked v alone in
     record { formula = v.fits.formula; known = v.fits.known; value = x.value; gives = x.gives; field = value_reads l w m s i r x.value h v x.seen }
 
-address_holds : (l : Layout) (w : World) (m : Memory) (s : Item) (i : ℕ) (r : InputRelocation) → IsItemLoaded l w m s → (IsLinkedAlone l s r → ⊥) → IsAddress l s i r → FieldHolds l w m s r
-address_holds l w m s i r h alone a = record {
+-- a field that a loader fills is written, or its reference is left out
+address_written : (l : Layout) (w : World) (m : Memory) (s : Item) (i : ℕ) (r : InputRelocation) → IsItemLoaded l w m s → (IsLeftOut l s r → ⊥) → IsAddress l s i r → KeepsAll l
+address_written l w m s i r h present a = keeps_all l (λ bare. present (bare, inl (moved_taken l w m s i r h a)))
+
+left_written : (l : Layout) (w : World) (m : Memory) (s : Item) (i : ℕ) (r : InputRelocation) → IsItemLoaded l w m s → (IsLeftOut l s r → ⊥) → IsLeftField l s i r → KeepsAll l
+left_written l w m s i r h present f = keeps_all l (λ bare. present (bare, inl (left_taken l w m s i r h f)))
+
+address_holds : (l : Layout) (w : World) (m : Memory) (s : Item) (i : ℕ) (r : InputRelocation) → IsItemLoaded l w m s → KeepsAll l → (IsLinkedAlone l s r → ⊥) → IsAddress l s i r → FieldHolds l w m s r
+address_holds l w m s i r h all alone a = record {
   formula = a.fits.formula;
   known = a.fits.known;
   value = (a.value + w.base) % 2 ^ 64;
-  gives = gives_address l w m s i r h a alone;
-  field = address_reads l w m s i r h a;
+  gives = gives_address l w m s i r h all a alone;
+  field = address_reads l w m s i r h all a;
 }
 
-left_holds : (l : Layout) (w : World) (m : Memory) (s : Item) (i : ℕ) (r : InputRelocation) → IsItemLoaded l w m s → IsLeftField l s i r → FieldHolds l w m s r
-left_holds l w m s i r h f =
+left_holds : (l : Layout) (w : World) (m : Memory) (s : Item) (i : ℕ) (r : InputRelocation) → IsItemLoaded l w m s → KeepsAll l → IsLeftField l s i r → FieldHolds l w m s r
+left_holds l w m s i r h all f =
     let listed = holds_at (NamesSymbol l) s.relocations i r f.plain.has.listed h.symbols in
     let fits = holds_at AddendFits s.relocations i r f.plain.has.listed h.addends in
-    let b = left_bytes l w m s i r h f in
-    let g = h.kinds.entry l w m s r f.size f.number f.symbol f.addend b.0 h.placed listed fits f.plain.own.made b.2 in
+    let b = left_bytes l w m s i r h all f in
+    let g = h.kinds.entry l w m s r f.size f.number f.symbol f.addend b.0 all h.placed listed fits f.plain.own.made b.2 in
     let known = f.fits.known in
     let same : g.0 ≡ f.fits.formula = (let e : Some g.0 ≡ Some f.fits.formula = sym g.1 ∙ known in cc) in
     record {
@@ -222,7 +248,7 @@ left_holds l w m s i r h f =
       known = g.1;
       value = g.2;
       gives = g.3;
-      field = left_reads l w m s i r g.2 h f g.0.form (ap (λ (x : Formula). x.form) same) g.4 g.5;
+      field = left_reads l w m s i r g.2 h all f g.0.form (ap (λ (x : Formula). x.form) same) g.4 g.5;
     }
 
 -- a field without bytes
@@ -239,16 +265,16 @@ call_holds l w m s i r h c = record {
   field = no_bytes w m s r;
 }
 
-written_holds : (l : Layout) (w : World) (m : Memory) (s : Item) (i : ℕ) (r : InputRelocation) → IsItemLoaded l w m s → IsAsked l w s r → (IsLinkedAlone l s r → ⊥) → Writes l s i r → FieldHolds l w m s r
-written_holds l w m s i r h asked alone (inl v) = value_holds l w m s i r h asked alone v
-written_holds l w m s i r h asked alone (inr (inl a)) = address_holds l w m s i r h alone a
-written_holds l w m s i r h asked alone (inr (inr (inl f))) = left_holds l w m s i r h f
-written_holds l w m s i r h asked alone (inr (inr (inr (inl c)))) = call_holds l w m s i r h c
-written_holds l w m s i r h asked alone (inr (inr (inr (inr (inl f))))) = (row_holds l w m s i r h asked f).holds
-written_holds l w m s i r h asked alone (inr (inr (inr (inr (inr f))))) = branch_holds l w m s r h.kinds h.thunks (branch_reads l w m s i r h asked f)
+written_holds : (l : Layout) (w : World) (m : Memory) (s : Item) (i : ℕ) (r : InputRelocation) → IsItemLoaded l w m s → (IsLeftOut l s r → ⊥) → IsAsked l w s r → (IsLinkedAlone l s r → ⊥) → Writes l s i r → FieldHolds l w m s r
+written_holds l w m s i r h present asked alone (inl v) = value_holds l w m s i r h present asked alone v
+written_holds l w m s i r h present asked alone (inr (inl a)) = address_holds l w m s i r h (address_written l w m s i r h present a) alone a
+written_holds l w m s i r h present asked alone (inr (inr (inl f))) = left_holds l w m s i r h (left_written l w m s i r h present f) f
+written_holds l w m s i r h present asked alone (inr (inr (inr (inl c)))) = call_holds l w m s i r h c
+written_holds l w m s i r h present asked alone (inr (inr (inr (inr (inl f))))) = (row_holds l w m s i r h asked f).holds
+written_holds l w m s i r h present asked alone (inr (inr (inr (inr (inr f))))) = branch_holds l w m s r h.kinds h.thunks (branch_reads l w m s i r h present asked f)
 
-pub field_holds : (l : Layout) (w : World) (m : Memory) (s : Item) (i : ℕ) (r : InputRelocation) → IsItemLoaded l w m s → IsKeptReference l s i r → IsAsked l w s r → (IsLinkedAlone l s r → ⊥) → FieldHolds l w m s r
-field_holds l w m s i r h k asked alone = written_holds l w m s i r h asked alone (relocation_written l s i r k.decision h.tables.agree k.has k.keeps k.refers)
+pub field_holds : (l : Layout) (w : World) (m : Memory) (s : Item) (i : ℕ) (r : InputRelocation) → IsItemLoaded l w m s → IsKeptReference l s i r → (IsLeftOut l s r → ⊥) → IsAsked l w s r → (IsLinkedAlone l s r → ⊥) → FieldHolds l w m s r
+field_holds l w m s i r h k present asked alone = written_holds l w m s i r h present asked alone (relocation_written l s i r k.decision h.tables.agree k.has k.keeps k.refers)
 
 -- ---- with the output's own symbol, at base 0
 
@@ -324,8 +350,8 @@ takes_by : (l : Layout) (s : Item) (i : ℕ) (f : Formula) (v : Value) → v ≡
 takes_by l s i f v e (inl offset) = inl (subst TakesOffset (sym e) offset)
 takes_by l s i f v e (inr t) = inr (subst TakesAddress (sym e) t.0)
 
-value_links : (l : Layout) (w : World) (m : Memory) (s : Item) (i : ℕ) (r : InputRelocation) → IsItemLoaded l w m s → (a : IsLinkedAlone l s r) → w.base ≡ 0 → IsValue l s i r → FieldIsLinked l w m s r
-value_links l w m s i r h a zero v = by_what v.field.comes
+value_links : (l : Layout) (w : World) (m : Memory) (s : Item) (i : ℕ) (r : InputRelocation) → IsItemLoaded l w m s → (IsLeftOut l s r → ⊥) → (a : IsLinkedAlone l s r) → w.base ≡ 0 → IsValue l s i r → FieldIsLinked l w m s r
+value_links l w m s i r h present a zero v = by_what v.field.comes
   where
     t : TakesItself l s a.symbol v.fits.formula
     t = taken l s r v.fits.formula v.fits.known a
@@ -345,7 +371,7 @@ value_links l w m s i r h a zero v = by_what v.field.comes
       formula = v.fits.formula;
       known = v.fits.known;
       value = v.value;
-      gives = subst (λ (q : Value). GivesLinked q l w s r v.value) v.fits.value (by_seen (term_is l w m s i r v.value h (λ e. zero) v same) v.fits.seen);
+      gives = subst (λ (q : Value). GivesLinked q l w s r v.value) v.fits.value (by_seen (term_is l w m s i r v.value h present (λ e. zero) v same) v.fits.seen);
       field = value_reads l w m s i r v.value h v (inl refl);
     }
     by_what (inr c) =
@@ -357,8 +383,8 @@ bare_by : (l : Layout) (s : Item) (i : ℕ) (f : Formula) → SymbolAddress ≡ 
 bare_by l s i f e (inl offset) = absurd (subst TakesOffset (sym e) offset)
 bare_by l s i f e (inr t) = t.2
 
-address_links : (l : Layout) (w : World) (m : Memory) (s : Item) (i : ℕ) (r : InputRelocation) → IsItemLoaded l w m s → (a : IsLinkedAlone l s r) → w.base ≡ 0 → IsAddress l s i r → FieldIsLinked l w m s r
-address_links l w m s i r h a zero v =
+address_links : (l : Layout) (w : World) (m : Memory) (s : Item) (i : ℕ) (r : InputRelocation) → IsItemLoaded l w m s → KeepsAll l → (a : IsLinkedAlone l s r) → w.base ≡ 0 → IsAddress l s i r → FieldIsLinked l w m s r
+address_links l w m s i r h all a zero v =
     let known = v.fits.known in
     let value : SymbolAddress ≡ v.fits.formula.value = sym (v.fits.full v.moved.by.kind v.moved.by.width).0 in
     let bare = bare_by l s a.symbol v.fits.formula value (taken l s r v.fits.formula known a) in
@@ -368,17 +394,17 @@ address_links l w m s i r h a zero v =
       formula = v.fits.formula;
       known = known;
       value = x;
-      gives = subst (λ (q : Value). GivesLinked q l w s r x) value (h.linked.address l w m s r v.value a.symbol v.packed h.placed listed v.plain.own.made zero a.named a.replaceable bare);
-      field = address_reads l w m s i r h v;
+      gives = subst (λ (q : Value). GivesLinked q l w s r x) value (h.linked.address l w m s r v.value a.symbol v.packed all h.placed listed v.plain.own.made zero a.named a.replaceable bare);
+      field = address_reads l w m s i r h all v;
     }
 
-written_links : (l : Layout) (w : World) (m : Memory) (s : Item) (i : ℕ) (r : InputRelocation) → IsItemLoaded l w m s → (a : IsLinkedAlone l s r) → w.base ≡ 0 → Writes l s i r → FieldIsLinked l w m s r
-written_links l w m s i r h a zero (inl v) = value_links l w m s i r h a zero v
-written_links l w m s i r h a zero (inr (inl v)) = address_links l w m s i r h a zero v
-written_links l w m s i r h a zero (inr (inr (inl f))) = absurd (left_follows l w m s i r h.placed (holds_at (NamesSymbol l) s.relocations i r f.plain.has.listed h.symbols) f f.fits.known a)
-written_links l w m s i r h a zero (inr (inr (inr (inl c)))) = absurd (takes_none l s r (formula NoValue NoField) c.known (λ o. o) (λ o. o) a)
-written_links l w m s i r h a zero (inr (inr (inr (inr (inl f))))) = (let held = row_holds l w m s i r h (λ e. zero) f in absurd (takes_none l s r held.holds.formula held.holds.known held.offset held.address a))
-written_links l w m s i r h a zero (inr (inr (inr (inr (inr f))))) = branch_links l w m s r h.linked (branch_reads l w m s i r h (λ e. zero) f) a zero
+written_links : (l : Layout) (w : World) (m : Memory) (s : Item) (i : ℕ) (r : InputRelocation) → IsItemLoaded l w m s → (IsLeftOut l s r → ⊥) → (a : IsLinkedAlone l s r) → w.base ≡ 0 → Writes l s i r → FieldIsLinked l w m s r
+written_links l w m s i r h present a zero (inl v) = value_links l w m s i r h present a zero v
+written_links l w m s i r h present a zero (inr (inl v)) = address_links l w m s i r h (address_written l w m s i r h present v) a zero v
+written_links l w m s i r h present a zero (inr (inr (inl f))) = absurd (left_follows l w m s i r h.placed (holds_at (NamesSymbol l) s.relocations i r f.plain.has.listed h.symbols) f f.fits.known a)
+written_links l w m s i r h present a zero (inr (inr (inr (inl c)))) = absurd (takes_none l s r (formula NoValue NoField) c.known (λ o. o) (λ o. o) a)
+written_links l w m s i r h present a zero (inr (inr (inr (inr (inl f))))) = (let held = row_holds l w m s i r h (λ e. zero) f in absurd (takes_none l s r held.holds.formula held.holds.known held.offset held.address a))
+written_links l w m s i r h present a zero (inr (inr (inr (inr (inr f))))) = branch_links l w m s r h.linked (branch_reads l w m s i r h present (λ e. zero) f) a zero
 
-pub field_links : (l : Layout) (w : World) (m : Memory) (s : Item) (i : ℕ) (r : InputRelocation) → IsItemLoaded l w m s → IsKeptReference l s i r → IsLinkedAlone l s r → w.base ≡ 0 → FieldIsLinked l w m s r
-field_links l w m s i r h k a zero = written_links l w m s i r h a zero (relocation_written l s i r k.decision h.tables.agree k.has k.keeps k.refers)
+pub field_links : (l : Layout) (w : World) (m : Memory) (s : Item) (i : ℕ) (r : InputRelocation) → IsItemLoaded l w m s → IsKeptReference l s i r → (IsLeftOut l s r → ⊥) → IsLinkedAlone l s r → w.base ≡ 0 → FieldIsLinked l w m s r
+field_links l w m s i r h k present a zero = written_links l w m s i r h present a zero (relocation_written l s i r k.decision h.tables.agree k.has k.keeps k.refers)

@@ -25,7 +25,7 @@ use Rattle.wild_reloc.specs.declared.info.RelocationSize.TheVariants.{ByteSize, 
 use Rattle.wild_reloc.specs.declared.info.RelocationKindInfo.{RelocationKindInfo}
 use Rattle.wild_layout.specs.Geometry.{NamesSymbol, DefinitionNames}
 use Rattle.wild_layout.specs.SlotValues.{address_of}
-use Rattle.wild_layout.specs.Values.{term_value, term_of, is_absent, is_place, is_symbol, is_own_place, undefined_weak_target, term_by}
+use Rattle.wild_layout.specs.Values.{is_absent, is_place, is_symbol, is_own_place, undefined_weak_target, term_by}
 use Rattle.wild_loader.specs.declared.world.World.{World}
 use Rattle.wild_loader.specs.declared.memory.Memory.{Memory}
 use Rattle.wild_types.specs.Item.{Item}
@@ -36,10 +36,10 @@ use Rattle.wild_meaning.specs.ReferentAArch64.{IsAbsent, own_place, IsOneAddress
 use Rattle.wild_meaning.specs.Formula.{IsTarget, IsPlaceRelative, TakesOwnPlace, IsReferentOnAArch64, IsReferent, IsOwnTarget, IsOwnReferentOnAArch64, IsOwnReferent, TakesAddress, TakesOffset, TakesString}
 use Rattle.wild_meaning.specs.Reference.{IsStubbed}
 use Rattle.wild_geometry.proofs.JudgedLemmas.{flag_is}
-use Rattle.wild_references.specs.Terms.{IsPlaced, page_mask, is_mask, is_table, is_expressed, value_by_row, HasTerm, IsFollowed}
+use Rattle.wild_references.specs.Terms.{IsPlaced, page_mask, is_mask, is_table, is_expressed, value_by_row, IsDirect, HasTerm, IsFollowed}
 use Rattle.wild_references.proofs.StubCode.{StubLaws}
 use Rattle.wild_references.proofs.Symbols.{flag_at}
-use Rattle.wild_references.proofs.Targets.{Follows, addressed, one_addressed, linked}
+use Rattle.wild_references.proofs.Targets.{Follows, Stands, addressed, one_addressed, linked}
 use Rattle.wild_references.proofs.MergedStrings.{names_none, plain_address, string_found, string_named, strings_move, absent_none, replaceable_none, IsFor, OfStrings, OfSymbol, address_is_for}
 use Rattle.wild_layout.specs.Merged.{merged_strings, address_for}
 use Rattle.wild_meaning.specs.Strings.{NamesStrings}
@@ -262,13 +262,16 @@ refers law l w m s r info x h symbol takes f = by_own (is_own_place l.machine l 
     v : Value
     v = value_by_row info
 
+    stands : (i : ℕ) → r.symbol ≡ Some i → Stands l i
+    stands i named = elim h.present [ inl all ↦ inl all | inr direct ↦ inr (subst (λ (t : Term). IsDirect l r info t) symbol direct takes i named) ]
+
     by_for : is_own_place l.machine l r info ≡ false → address_for l r ≡ Ok h.term → IsFor l r h.term → Refers v l w m s r h.term
     by_for e there (OfStrings i strings named is some) = string_refers v l w m s r i h.term strings h.placed.symbols.named takes named is (h.addend some) there
     by_for e there (OfSymbol none given) =
-        let t = addressed law l w m r.symbol h.term h.placed (follows l r v takes f) given in
+        let t = addressed law l w m r.symbol h.term h.placed stands (follows l r v takes f) given in
         let target = moved t.still w.base h.term in
         let one : (i : ℕ) → r.symbol ≡ Some i → IsOneAddress l w m i target = λ i named.
-        one_addressed law l w m i h.term t.still h.placed (follows l r v takes f i named) (subst (λ (o : Option ℕ). address_of l o ≡ Ok h.term) named given) (t.flag i named) (subst (λ (o : Option ℕ). IsTarget l w m o target) named t.denoted) in
+        one_addressed l w m i h.term t.still h.placed (follows l r v takes f i named) (subst (λ (o : Option ℕ). address_of l o ≡ Ok h.term) named given) (t.flag i named) (subst (λ (o : Option ℕ). IsTarget l w m o target) named t.denoted) in
         record {
           still = t.still;
           referent = referent v l w m s r target (λ t. names_none l r none t.1) t.denoted (λ i named on. (no_own_place l w m s r info x i h symbol named e on, stands_as v l w m r i target takes (one i named)));
@@ -293,8 +296,8 @@ refers law l w m s r info x h symbol takes f = by_own (is_own_place l.machine l 
     by_own false e g = (let given : address_for l r ≡ Ok h.term = sym (symbol_term l r info symbol) ∙ g in by_for e given (address_is_for l r h.term given))
 
 -- with the output's own symbol
-pub own_refers : StubLaws → (l : Layout) (w : World) (m : Memory) (s : Item) (r : InputRelocation) (info : RelocationKindInfo) (x i : ℕ) → (h : HasTerm l w m s r info x) → (expression_of info.kind).term ≡ term.Symbol → r.symbol ≡ Some i → IsReplaceable l i true → (IsStubbed l i → ⊥) → OwnRefers (value_by_row info) l w s r h.term
-own_refers law l w m s r info x i h symbol named whose alone = by_own (is_own_place l.machine l r info) refl h.given
+pub own_refers : (l : Layout) (w : World) (m : Memory) (s : Item) (r : InputRelocation) (info : RelocationKindInfo) (x i : ℕ) → (h : HasTerm l w m s r info x) → (expression_of info.kind).term ≡ term.Symbol → r.symbol ≡ Some i → IsReplaceable l i true → (IsStubbed l i → ⊥) → OwnRefers (value_by_row info) l w s r h.term
+own_refers l w m s r info x i h symbol named whose alone = by_own (is_own_place l.machine l r info) refl h.given
   where
     v : Value
     v = value_by_row info
@@ -310,7 +313,7 @@ own_refers law l w m s r info x i h symbol named whose alone = by_own (is_own_pl
         record { still = false; referent = subst (λ (n : ℕ). IsOwnReferent l.machine v l w s r n) at (own_place_referent v l w s r n.0 o.on n.1 (relative, a)) }
     by_own false e g =
         let given : address_of l (Some i) ≡ Ok h.term = subst (λ (o : Option ℕ). address_of l o ≡ Ok h.term) named (sym (plain_address l r (replaceable_none l r i h.placed.symbols.named named whose)) ∙ (sym (symbol_term l r info symbol) ∙ g)) in
-        let t = linked law l w m i h.term h.placed alone given in
+        let t = linked l w m i h.term h.placed alone given in
         record { still = t.still; referent = own_symbol_referent v l w s r i (moved t.still w.base h.term) named (no_own_place l w m s r info x i h symbol named e) t.value }
 
 -- of an expression that is S + A itself no place is taken

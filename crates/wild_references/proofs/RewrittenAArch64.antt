@@ -2,11 +2,14 @@
 --   LawsOfWords               the laws below, as they are called
 --   IsRunOf .., run_of_word   the run of a word that is rewritten, as the reader has it
 --   word_stands, word_holds   the reader knows it, and the loaded code does what it demands
-use Rattle.std.proofs.Common.{◌≡◌, ℕ, inr, refl, arith}
+use Rattle.std.proofs.Common.{◌≡◌, ℕ, inl, inr, refl, sym, subst, arith}
+use Rattle.std.specs.Prelude.{Some}
 use Rattle.wild_reloc.specs.declared.expression.Term.TheVariants as term
+use Rattle.wild_types.specs.declared.kind.Machine.{Machine}
 use Rattle.wild_types.specs.declared.kind.Machine.TheVariants as machine
 use Rattle.wild_types.specs.declared.input.InputRelocation.{InputRelocation}
 use Rattle.wild_types.specs.declared.layout.Layout.{Layout}
+use Rattle.wild_types.specs.Hollow.{KeepsAll}
 use Rattle.wild_types.specs.Item.{Item}
 use Rattle.wild_relax.specs.declared.pattern.Sequence.{Sequence}
 use Rattle.wild_relax.specs.declared.pattern.Sequence.TheVariants.{DescriptorCall, OffsetSlot, Address}
@@ -19,9 +22,15 @@ use Rattle.wild_layout.specs.Sites.{template_start}
 use Rattle.wild_geometry.specs.Loaded.{IsDecided, HasDecision}
 use Rattle.wild_loader.specs.declared.memory.Memory.{Memory}
 use Rattle.wild_loader.specs.declared.world.World.{World}
-use Rattle.wild_meaning.specs.Reference.{HoldsRewritten}
+use Rattle.wild_meaning.specs.Field.{formula_of}
+use Rattle.wild_meaning.specs.Reference.{HoldsRewritten, IsLeftOut}
+use Rattle.wild_meaning.specs.Sequence.{descriptor_call_words}
 use Rattle.wild_references.specs.Laws.{IsLoadedItem, TermGives}
 use Rattle.wild_references.specs.EffectLaws.{StandsAt}
+use Rattle.wild_references.proofs.LeftAlong.{beside_slot}
+use Rattle.wild_references.proofs.LeftOut.{all_or_bare, keeps_all}
+use Rattle.wild_references.proofs.SequencesAArch64.{part_of}
+use Rattle.wild_references.proofs.Targets.{Stands}
 use Rattle.wild_references.proofs.WordWindows.{word_here}
 use Rattle.wild_references.proofs.RewrittenRuns.{run_of, IsRewrittenWord, IsRunThere, run_there}
 use Rattle.wild_references.proofs.RewrittenSequences.{StandsAlone, run_size, IsJudgedRun, of_run, judged_run}
@@ -66,13 +75,35 @@ word_stands alone l s i r row v on decided has =
     let size = run_size q in
     record { from = c.start; instruction = run_of q; first = t.judged.first; template = inr (of_run l s r q c.start c.index t.judged); before = omega (arith, start, place); behind = omega (arith, start, long, place, few, size) }
 
-pub word_holds : LawsOfWords → (l : Layout) (w : World) (m : Memory) (s : Item) → IsLoadedItem machine.AArch64 l w m s → (i : ℕ) (r : InputRelocation) (row : Row) (v : ℕ) → HasDecision l s i r (Rewritten row v) → HoldsRewritten l w m s r
-word_holds laws l w m s g i r row v has = by t.word.sequence refl t.there t.judged
+pub word_holds : LawsOfWords → (l : Layout) (w : World) (m : Memory) (s : Item) → IsLoadedItem machine.AArch64 l w m s → (i : ℕ) (r : InputRelocation) (row : Row) (v : ℕ) → HasDecision l s i r (Rewritten row v) → (IsLeftOut l s r → ⊥) → HoldsRewritten l w m s r
+word_holds laws l w m s g i r row v has present = by t.word.sequence refl t.there t.judged
   where
     t : IsRunOf l s i r row
     t = run_of_word laws.alone l s i r row v g.on g.decided has
 
+    -- a run by a slot is written, or left out
+    all : (c : IsRunThere l s i r row DescriptorCall t.word.word) → IsJudgedRun l s r DescriptorCall c.start c.index → KeepsAll l
+    all c j = keeps_all l (λ bare. present (bare, inr (inl (inr (beside_slot l s r c.start descriptor_call_words j.first g.on (of_run l s r DescriptorCall c.start c.index j) (inl refl))))))
+
+    -- and so is an address that is a stub's
+    stands : (c : IsRunThere l s i r row Address t.word.word) → IsJudgedRun l s r Address c.start c.index → Stands l t.word.symbol
+    stands c j =
+        let part = part_of l s r c.start j.first (of_run l s r Address c.start c.index j) in
+        elim (all_or_bare l) [
+          | inl all ↦ inl all
+          | inr bare ↦ inr (λ stubbed. present (
+            bare,
+            inr (inr (inl (record {
+              symbol = t.word.symbol;
+              named = t.word.named;
+              formula = part.formula;
+              known = subst (λ (k : Machine). formula_of k r.number ≡ Some part.formula) (sym g.on) part.is.known;
+              stub = inl (inl part.is.takes, stubbed);
+            }))),
+          ))
+        ]
+
     by : (q : Sequence) → t.word.sequence ≡ q → (c : IsRunThere l s i r row q t.word.word) → IsJudgedRun l s r q c.start c.index → HoldsRewritten l w m s r
-    by DescriptorCall e c j = call_holds laws.together laws.keeps laws.pointer l w m s i r row g t.word e c j (words_are_written l s t.word.symbol g.on t.word.plain g.decided)
+    by DescriptorCall e c j = call_holds laws.together laws.keeps laws.pointer l w m s i r row g t.word (all c j) e c j (words_are_written l s t.word.symbol g.on t.word.plain g.decided)
     by OffsetSlot e c j = slot_holds laws.together laws.keeps laws.pointer l w m s i r row g t.word e c j (words_are_written l s t.word.symbol g.on t.word.plain g.decided)
-    by Address e c j = near_holds laws.stubs laws.together laws.keeps l w m s i r row g t.word e c j (words_are_written l s t.word.symbol g.on t.word.plain g.decided)
+    by Address e c j = near_holds laws.stubs laws.together laws.keeps l w m s i r row g t.word (stands c j) e c j (words_are_written l s t.word.symbol g.on t.word.plain g.decided)

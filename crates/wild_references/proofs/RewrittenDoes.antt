@@ -8,6 +8,7 @@ use Rattle.wild_records.specs.Abi.Relocation.{r_x86_64_none, r_x86_64_pc32, r_x8
 use Rattle.wild_types.specs.declared.kind.Machine.TheVariants as machine
 use Rattle.wild_types.specs.declared.input.InputRelocation.{InputRelocation}
 use Rattle.wild_types.specs.declared.layout.Layout.{Layout}
+use Rattle.wild_types.specs.Hollow.{KeepsAll}
 use Rattle.wild_types.specs.Flags.{has_flag, interposable, has_link_time_address, absolute, ifunc}
 use Rattle.wild_types.specs.Kinds.{is_executable, is_static_executable, has_fixed_load_address}
 use Rattle.wild_slot.specs.Treatment.{flags_at}
@@ -27,7 +28,7 @@ use Rattle.wild_relax.specs.Rewrite.{is_skip}
 use Rattle.wild_relax.specs.RewriteX86_64.{change_of, addend_by, number_written, rewrite_of}
 use Rattle.wild_relax.proofs.RewriteLemmas.{code_high}
 use Rattle.wild_relax.specs.Linked.{keeps_bytes, field_in, template_of}
-use Rattle.wild_relax.specs.Keep.{distance, Lands, demanded}
+use Rattle.wild_relax.specs.KeepX86_64.{distance, Lands, demanded}
 use Rattle.wild_layout.specs.Sites.{template_start}
 use Rattle.wild_loader.specs.declared.memory.Memory.{Memory}
 use Rattle.wild_loader.specs.declared.world.World.{World}
@@ -63,38 +64,38 @@ DoesRow l w m s r row = DoesDemanded (reads_alone w m) l w m s r (template_start
 -- ---- addresses
 
 -- of an own symbol that may move
-lea_far : LawsBelow → (l : Layout) (w : World) (m : Memory) (s : Item) (i : ℕ) (r : InputRelocation) (row : Row) (v : ℕ) → IsLoadedItem machine.X86_64 l w m s → (p : IsPlacedRow l s i r row v) → (rewrite_of row).number ≡ 2 → (rewrite_of row).addend r.addend ≡ r.addend → minus_four r.addend ≡ true → not (has_flag (flags_at l p.chosen.symbol) ifunc) ≡ true
+lea_far : LawsBelow → (l : Layout) (w : World) (m : Memory) (s : Item) (i : ℕ) (r : InputRelocation) (row : Row) (v : ℕ) → IsLoadedItem machine.X86_64 l w m s → KeepsAll l → (p : IsPlacedRow l s i r row v) → (rewrite_of row).number ≡ 2 → (rewrite_of row).addend r.addend ≡ r.addend → minus_four r.addend ≡ true → not (has_flag (flags_at l p.chosen.symbol) ifunc) ≡ true
     → (not (interposable (flags_at l p.chosen.symbol)) && not (has_flag (flags_at l p.chosen.symbol) absolute || has_link_time_address (flags_at l p.chosen.symbol) && has_fixed_load_address l.kind)) ≡ true → LandsFar l w m s r row v
-lea_far laws l w m s i r row v h p number same ends plain value =
+lea_far laws l w m s i r row v h all p number same ends plain value =
     let k = p.chosen.symbol in
     let t = and_parts (not (interposable (flags_at l k))) _ value in
-    lands_far laws l w m s i r row v h p number same ends (not-true _ t.0) (not-true _ plain) (λ movable abs. absurd (not_absolute l k t.1 abs))
+    lands_far laws l w m s i r row v h all p number same ends (not-true _ t.0) (not-true _ plain) (λ movable abs. absurd (not_absolute l k t.1 abs))
 
-pub plain_far : LawsBelow → (l : Layout) (w : World) (m : Memory) (s : Item) (i : ℕ) (r : InputRelocation) (row : Row) (v : ℕ) → IsLoadedItem machine.X86_64 l w m s → (p : IsPlacedRow l s i r row v) → (rewrite_of row).number ≡ 2 → (rewrite_of row).addend r.addend ≡ r.addend → minus_four r.addend ≡ true → not (has_flag (flags_at l p.chosen.symbol) ifunc) ≡ true
+pub plain_far : LawsBelow → (l : Layout) (w : World) (m : Memory) (s : Item) (i : ℕ) (r : InputRelocation) (row : Row) (v : ℕ) → IsLoadedItem machine.X86_64 l w m s → KeepsAll l → (p : IsPlacedRow l s i r row v) → (rewrite_of row).number ≡ 2 → (rewrite_of row).addend r.addend ≡ r.addend → minus_four r.addend ≡ true → not (has_flag (flags_at l p.chosen.symbol) ifunc) ≡ true
     → (not (interposable (flags_at l p.chosen.symbol)) && (has_link_time_address (flags_at l p.chosen.symbol) || has_fixed_load_address l.kind)) ≡ true → LandsFar l w m s r row v
-plain_far laws l w m s i r row v h p number same ends plain value =
+plain_far laws l w m s i r row v h all p number same ends plain value =
     let k = p.chosen.symbol in
     let t = and_parts (not (interposable (flags_at l k))) _ value in
-    lands_far laws l w m s i r row v h p number same ends (not-true _ t.0) (not-true _ plain) (λ movable abs. absurd (not_moved l k t.1 movable abs))
+    lands_far laws l w m s i r row v h all p number same ends (not-true _ t.0) (not-true _ plain) (λ movable abs. absurd (not_moved l k t.1 movable abs))
 
 -- of one whose value is known
-number_itself : LawsBelow → (l : Layout) (w : World) (m : Memory) (s : Item) (i : ℕ) (r : InputRelocation) (row : Row) (v : ℕ) (held : Bool) → IsLoadedItem machine.X86_64 l w m s → (p : IsPlacedRow l s i r row v) → ((rewrite_of row).number ≡ 11) ⊎ ((rewrite_of row).number ≡ 10) → (rewrite_of row).addend r.addend ≡ pos 0 → not (has_flag (flags_at l p.chosen.symbol) ifunc) ≡ true
+number_itself : LawsBelow → (l : Layout) (w : World) (m : Memory) (s : Item) (i : ℕ) (r : InputRelocation) (row : Row) (v : ℕ) (held : Bool) → IsLoadedItem machine.X86_64 l w m s → KeepsAll l → (p : IsPlacedRow l s i r row v) → ((rewrite_of row).number ≡ 11) ⊎ ((rewrite_of row).number ≡ 10) → (rewrite_of row).addend r.addend ≡ pos 0 → not (has_flag (flags_at l p.chosen.symbol) ifunc) ≡ true
     → (not (interposable (flags_at l p.chosen.symbol)) && ((has_flag (flags_at l p.chosen.symbol) absolute || has_link_time_address (flags_at l p.chosen.symbol) && has_fixed_load_address l.kind) && held)) ≡ true → LandsItself l w m r v
-number_itself laws l w m s i r row v held h p number none plain value =
+number_itself laws l w m s i r row v held h all p number none plain value =
     let k = p.chosen.symbol in
     let t = and_parts (not (interposable (flags_at l k))) _ value in
     let still = known_still l k (and_parts _ held t.1).0 in
     let known = info_is l w m s i r row v h p in
     elim number [
-      | inl e ↦ lands_itself laws l w m s i r row v Signed h p (signed_32s p.made.written.info (sym (subst (λ (n : ℕ). x86_64_row n ≡ Some p.made.written.info) e known))) none (not-true _ t.0) (not-true _ plain) still
-      | inr e ↦ lands_itself laws l w m s i r row v Unsigned h p (unsigned_32 p.made.written.info (sym (subst (λ (n : ℕ). x86_64_row n ≡ Some p.made.written.info) e known))) none (not-true _ t.0) (not-true _ plain) still
+      | inl e ↦ lands_itself laws l w m s i r row v Signed h all p (signed_32s p.made.written.info (sym (subst (λ (n : ℕ). x86_64_row n ≡ Some p.made.written.info) e known))) none (not-true _ t.0) (not-true _ plain) still
+      | inr e ↦ lands_itself laws l w m s i r row v Unsigned h all p (unsigned_32 p.made.written.info (sym (subst (λ (n : ℕ). x86_64_row n ≡ Some p.made.written.info) e known))) none (not-true _ t.0) (not-true _ plain) still
     ]
 
 -- ---- offsets from the thread pointer
 
 -- an own symbol's offset, in a program
-own_offset : LawsBelow → (l : Layout) (w : World) (m : Memory) (s : Item) (i : ℕ) (r : InputRelocation) (row : Row) (v : ℕ) → IsLoadedItem machine.X86_64 l w m s → (p : IsPlacedRow l s i r row v) → (rewrite_of row).number ≡ 23 → (rewrite_of row).addend r.addend ≡ pos 0 → is_executable l.kind ≡ true → not (interposable (flags_at l p.chosen.symbol)) ≡ true → LandsOffset l w r v
-own_offset laws l w m s i r row v h p number none program own = lands_offset laws l w m s i r row v h p number none program (not-true _ own)
+own_offset : LawsBelow → (l : Layout) (w : World) (m : Memory) (s : Item) (i : ℕ) (r : InputRelocation) (row : Row) (v : ℕ) → IsLoadedItem machine.X86_64 l w m s → KeepsAll l → (p : IsPlacedRow l s i r row v) → (rewrite_of row).number ≡ 23 → (rewrite_of row).addend r.addend ≡ pos 0 → is_executable l.kind ≡ true → not (interposable (flags_at l p.chosen.symbol)) ≡ true → LandsOffset l w r v
+own_offset laws l w m s i r row v h all p number none program own = lands_offset laws l w m s i r row v h all p number none program (not-true _ own)
 
 -- a sequence's addend counts from its end
 sequence_ends : (l : Layout) (s : Item) (i : ℕ) (r : InputRelocation) (row : Row) (v : ℕ) → IsPlacedRow l s i r row v → is_skip (rewrite_of row).next ≡ true → minus_four r.addend ≡ true
@@ -175,7 +176,7 @@ does_so Described value.Interposable row = writes r_x86_64_gottpoff row && count
 does_so OwnPair value.Any row = writes r_x86_64_none row
 does_so other t row = false
 
-abbrev is_call : Sort → Bool
+abbrev pub is_call : Sort → Bool
 is_call DescribedCall = true
 is_call other = false
 
@@ -199,8 +200,12 @@ on_where true must static h f e = refl
 on_where false true static h f e = (let t = f refl in cc)
 on_where false false static h f e = cc
 
-pub does_row : LawsBelow → (l : Layout) (w : World) (m : Memory) (s : Item) (i : ℕ) (r : InputRelocation) (row : Row) (v : ℕ) → IsLoadedItem machine.X86_64 l w m s → (p : IsPlacedRow l s i r row v) → GoesWithBase l w row p.chosen.symbol → DoesRow l w m s r row
-does_row laws l w m s i r row v h p asked = by (cases_Bool (is_call (instruction_of row).sort))
+-- what the row writes goes by what is written, but a call that is left out
+abbrev pub IsWhole : Layout → Row → Type 0
+IsWhole l row = is_call (instruction_of row).sort ≡ false → KeepsAll l
+
+pub does_row : LawsBelow → (l : Layout) (w : World) (m : Memory) (s : Item) (i : ℕ) (r : InputRelocation) (row : Row) (v : ℕ) → IsLoadedItem machine.X86_64 l w m s → IsWhole l row → (p : IsPlacedRow l s i r row v) → GoesWithBase l w row p.chosen.symbol → DoesRow l w m s r row
+does_row laws l w m s i r row v h whole p asked = by (cases_Bool (is_call (instruction_of row).sort))
   where
     place : ℕ
     place = place_at w s (template_start row r) + field_in row
@@ -244,50 +249,50 @@ does_row laws l w m s i r row v h p asked = by (cases_Bool (is_call (instruction
         does_by laws l w m s i r row v n h p (subst (λ (x : Sort). Demands x l w m s r n) (sym sort) demands) small lands (λ a old. demanded_as row.made n a old acts)
         (λ a old e k. subst (λ (x : Sort). IsDemanded x l s n a old e) (sym sort) (told a old e k))
 
-    number : (t : ValueTest) (held : Bool) → takes_value t q ≡ (is_own q && (is_known q && held)) → ((rewrite_of row).number ≡ 11) ⊎ ((rewrite_of row).number ≡ 10) → row.value ≡ t → (instruction_of row).sort ≡ AddressInSlot → is_nop row.made ≡ false → not (has_flag q.flags ifunc) ≡ true → counts_none row ≡ true → DoesRow l w m s r row
-    number t held is written takes sort acts plain counts =
-        let x = number_itself laws l w m s i r row v held h p written (none counts) plain (sym is ∙ taken t takes) in
+    number : KeepsAll l → (t : ValueTest) (held : Bool) → takes_value t q ≡ (is_own q && (is_known q && held)) → ((rewrite_of row).number ≡ 11) ⊎ ((rewrite_of row).number ≡ 10) → row.value ≡ t → (instruction_of row).sort ≡ AddressInSlot → is_nop row.made ≡ false → not (has_flag q.flags ifunc) ≡ true → counts_none row ≡ true → DoesRow l w m s r row
+    number all t held is written takes sort acts plain counts =
+        let x = number_itself laws l w m s i r row v held h all p written (none counts) plain (sym is ∙ taken t takes) in
         finish AddressInSlot x.operand sort acts x.is.target x.is.small (itself x.operand counts x.lands) (λ a old e k. k)
 
     far : (o : Sort) (x : LandsFar l w m s r row v) → (rewrite_of row).number ≡ 2 → (instruction_of row).sort ≡ o → is_nop row.made ≡ false → Demands o l w m s r x.operand → ((a : ℕ) (old : List ℕ) (e : Effect) → demand_of l.machine x.operand a old ≡ Some e → IsDemanded o l s x.operand a old e) → DoesRow l w m s r row
     far o x written sort acts demands told = finish o x.operand sort acts demands x.is.small (lands_far_as row.written (reads_alone w m) place x.operand v written x.lands) told
 
-    own : (o : Sort) → (instruction_of row).sort ≡ o → row.value ≡ value.Own → is_nop row.made ≡ false → is_executable l.kind ≡ true → (writes r_x86_64_tpoff32 row && counts_none row) ≡ true → ((n : ℕ) → IsOffset l w r.symbol n → Demands o l w m s r n)
+    own : KeepsAll l → (o : Sort) → (instruction_of row).sort ≡ o → row.value ≡ value.Own → is_nop row.made ≡ false → is_executable l.kind ≡ true → (writes r_x86_64_tpoff32 row && counts_none row) ≡ true → ((n : ℕ) → IsOffset l w r.symbol n → Demands o l w m s r n)
         → ((n a : ℕ) (old : List ℕ) (e : Effect) → demand_of l.machine n a old ≡ Some e → IsDemanded o l s n a old e) → DoesRow l w m s r row
-    own o sort takes acts there so demands told =
+    own all o sort takes acts there so demands told =
         let f = and_parts (writes r_x86_64_tpoff32 row) (counts_none row) so in
-        let x = own_offset laws l w m s i r row v h p (eqb-true (number_written row.written) r_x86_64_tpoff32 f.0) (none f.1) there (taken value.Own takes) in
+        let x = own_offset laws l w m s i r row v h all p (eqb-true (number_written row.written) r_x86_64_tpoff32 f.0) (none f.1) there (taken value.Own takes) in
         finish o x.operand sort acts (demands x.operand x.is.offset) x.is.small (itself x.operand f.1 x.lands) (told x.operand)
 
-    slot : (o : Sort) → (instruction_of row).sort ≡ o → is_nop row.made ≡ false → (writes r_x86_64_gottpoff row && counts_ends row) ≡ true → ((n : ℕ) → IsOffset l w r.symbol n → Demands o l w m s r n)
+    slot : KeepsAll l → (o : Sort) → (instruction_of row).sort ≡ o → is_nop row.made ≡ false → (writes r_x86_64_gottpoff row && counts_ends row) ≡ true → ((n : ℕ) → IsOffset l w r.symbol n → Demands o l w m s r n)
         → ((n a : ℕ) (old : List ℕ) (e : Effect) → demand_of l.machine n a old ≡ Some e → IsDemanded o l s n a old e) → DoesRow l w m s r row
-    slot o sort acts so demands told =
+    slot all o sort acts so demands told =
         let f = and_parts (writes r_x86_64_gottpoff row) (counts_ends row) so in
-        let x = lands_slot laws l w m s i r row v h p (eqb-true (number_written row.written) r_x86_64_gottpoff f.0) (kept f.1) (ends f.1) in
+        let x = lands_slot laws l w m s i r row v h all p (eqb-true (number_written row.written) r_x86_64_gottpoff f.0) (kept f.1) (ends f.1) in
         finish o x.operand sort acts (demands x.operand x.is.offset) x.is.small (lands_slot_as row.written (reads_alone w m) place x.operand v (eqb-true (number_written row.written) r_x86_64_gottpoff f.0) x.lands) (told x.operand)
 
-    act : (o : Sort) (t : ValueTest) → (instruction_of row).sort ≡ o → row.value ≡ t → is_nop row.made ≡ false → not (has_flag q.flags ifunc) ≡ true → (is_thread o ≡ true → is_executable l.kind ≡ true) → does_so o t row ≡ true → DoesRow l w m s r row
-    act AddressInSlot value.OwnSigned sort takes acts plain there so = (let f = and_parts (writes r_x86_64_32s row) (counts_none row) so in number value.OwnSigned (is_in_32 Signed q.value) refl (inl (eqb-true (number_written row.written) r_x86_64_32s f.0)) takes sort acts plain f.1)
-    act AddressInSlot value.OwnUnsigned sort takes acts plain there so = (let f = and_parts (writes r_x86_64_32 row) (counts_none row) so in number value.OwnUnsigned (is_in_32 Unsigned q.value) refl (inr (eqb-true (number_written row.written) r_x86_64_32 f.0)) takes sort acts plain f.1)
-    act AddressInSlot value.OwnMoving sort takes acts plain there so =
+    act : KeepsAll l → (o : Sort) (t : ValueTest) → (instruction_of row).sort ≡ o → row.value ≡ t → is_nop row.made ≡ false → not (has_flag q.flags ifunc) ≡ true → (is_thread o ≡ true → is_executable l.kind ≡ true) → does_so o t row ≡ true → DoesRow l w m s r row
+    act all AddressInSlot value.OwnSigned sort takes acts plain there so = (let f = and_parts (writes r_x86_64_32s row) (counts_none row) so in number all value.OwnSigned (is_in_32 Signed q.value) refl (inl (eqb-true (number_written row.written) r_x86_64_32s f.0)) takes sort acts plain f.1)
+    act all AddressInSlot value.OwnUnsigned sort takes acts plain there so = (let f = and_parts (writes r_x86_64_32 row) (counts_none row) so in number all value.OwnUnsigned (is_in_32 Unsigned q.value) refl (inr (eqb-true (number_written row.written) r_x86_64_32 f.0)) takes sort acts plain f.1)
+    act all AddressInSlot value.OwnMoving sort takes acts plain there so =
         let f = and_parts (writes r_x86_64_pc32 row) (counts_ends row) so in
-        let x = lea_far laws l w m s i r row v h p (eqb-true (number_written row.written) r_x86_64_pc32 f.0) (kept f.1) (ends f.1) plain (taken value.OwnMoving takes) in
+        let x = lea_far laws l w m s i r row v h all p (eqb-true (number_written row.written) r_x86_64_pc32 f.0) (kept f.1) (ends f.1) plain (taken value.OwnMoving takes) in
         far AddressInSlot x (eqb-true (number_written row.written) r_x86_64_pc32 f.0) sort acts x.is.target (λ a old e k. k)
-    act AddressInSlot value.OwnFixed sort takes acts plain there so =
+    act all AddressInSlot value.OwnFixed sort takes acts plain there so =
         let f = and_parts (writes r_x86_64_pc32 row) (counts_ends row) so in
-        let x = plain_far laws l w m s i r row v h p (eqb-true (number_written row.written) r_x86_64_pc32 f.0) (kept f.1) (ends f.1) plain (taken value.OwnFixed takes) in
+        let x = plain_far laws l w m s i r row v h all p (eqb-true (number_written row.written) r_x86_64_pc32 f.0) (kept f.1) (ends f.1) plain (taken value.OwnFixed takes) in
         far AddressInSlot x (eqb-true (number_written row.written) r_x86_64_pc32 f.0) sort acts x.is.target (λ a old e k. k)
-    act TargetInSlot value.Own sort takes acts plain there so =
+    act all TargetInSlot value.Own sort takes acts plain there so =
         let f = and_parts (writes r_x86_64_pc32 row) (counts_ends row) so in
-        let x = lands_far laws l w m s i r row v h p (eqb-true (number_written row.written) r_x86_64_pc32 f.0) (kept f.1) (ends f.1) (not-true (interposable q.flags) (taken value.Own takes)) (not-true (has_flag q.flags ifunc) plain) (λ movable abs. asked sort movable abs) in
+        let x = lands_far laws l w m s i r row v h all p (eqb-true (number_written row.written) r_x86_64_pc32 f.0) (kept f.1) (ends f.1) (not-true (interposable q.flags) (taken value.Own takes)) (not-true (has_flag q.flags ifunc) plain) (λ movable abs. asked sort movable abs) in
         far TargetInSlot x (eqb-true (number_written row.written) r_x86_64_pc32 f.0) sort acts x.is.goal (λ a old e k. k)
-    act OffsetInSlot value.Own sort takes acts plain there so = own OffsetInSlot sort takes acts (there refl) so (λ n k. k) (λ n a old e k. k)
-    act SymbolPair value.Own sort takes acts plain there so = own SymbolPair sort takes acts (there refl) so (λ n k. k) (λ n a old e k. k)
-    act Described value.Own sort takes acts plain there so = own Described sort takes acts (there refl) so (λ n k. inl (mode (ap is_thread sort), k)) (λ n a old e k. k)
-    act SymbolPair value.Interposable sort takes acts plain there so = slot SymbolPair sort acts so (λ n k. k) (λ n a old e k. k)
-    act Described value.Interposable sort takes acts plain there so = slot Described sort acts so (λ n k. inl (mode (ap is_thread sort), k)) (λ n a old e k. k)
-    act OwnPair value.Any sort takes acts plain there so = finish OwnPair 0 sort acts (own_base l w h.on (there refl)) (omega arith) (lands_start row.written (reads_alone w m) place v (eqb-true (number_written row.written) r_x86_64_none so)) (λ a old e k. k)
-    act o t sort takes acts plain there so = cc
+    act all OffsetInSlot value.Own sort takes acts plain there so = own all OffsetInSlot sort takes acts (there refl) so (λ n k. k) (λ n a old e k. k)
+    act all SymbolPair value.Own sort takes acts plain there so = own all SymbolPair sort takes acts (there refl) so (λ n k. k) (λ n a old e k. k)
+    act all Described value.Own sort takes acts plain there so = own all Described sort takes acts (there refl) so (λ n k. inl (mode (ap is_thread sort), k)) (λ n a old e k. k)
+    act all SymbolPair value.Interposable sort takes acts plain there so = slot all SymbolPair sort acts so (λ n k. k) (λ n a old e k. k)
+    act all Described value.Interposable sort takes acts plain there so = slot all Described sort acts so (λ n k. inl (mode (ap is_thread sort), k)) (λ n a old e k. k)
+    act all OwnPair value.Any sort takes acts plain there so = finish OwnPair 0 sort acts (own_base l w h.on (there refl)) (omega arith) (lands_start row.written (reads_alone w m) place v (eqb-true (number_written row.written) r_x86_64_none so)) (λ a old e k. k)
+    act all o t sort takes acts plain there so = cc
 
     call_sort : (o : Sort) → is_call o ≡ true → o ≡ DescribedCall
     call_sort DescribedCall e = refl
@@ -316,4 +321,4 @@ does_row laws l w m s i r row v h p asked = by (cases_Bool (is_call (instruction
         let f = and_parts (not (is_nop row.made)) (is_plain row.symbol && does_so (instruction_of row).sort row.value row) (rw other at well.1) in
         let g = and_parts (is_plain row.symbol) (does_so (instruction_of row).sort row.value row) f.1 in
         let plain : not (has_flag q.flags ifunc) ≡ true = (let e = plain_taken row.symbol q g.0 p.stands.taken.symbol in rw e refl) in
-        act (instruction_of row).sort row.value refl refl (not-true (is_nop row.made) f.0) plain program g.1
+        act (whole other) (instruction_of row).sort row.value refl refl (not-true (is_nop row.made) f.0) plain program g.1

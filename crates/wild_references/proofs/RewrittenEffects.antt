@@ -12,7 +12,7 @@ use Rattle.wild_relax.specs.declared.row.Row.{Row}
 use Rattle.wild_relax.specs.RewriteX86_64.{rewrite_of}
 use Rattle.wild_relax.specs.Linked.{pattern_size, field_in, linked, template_of}
 use Rattle.wild_relax.proofs.TemplateLemmas as templates
-use Rattle.wild_relax.specs.Keep.{Lands, demanded}
+use Rattle.wild_relax.specs.KeepX86_64.{Lands, demanded}
 use Rattle.wild_layout.specs.Sites.{template_start}
 use Rattle.wild_layout.proofs.ChoiceLemmas.{length-template}
 use Rattle.wild_loader.specs.declared.memory.Memory.{Memory}

@@ -8,6 +8,7 @@ use Rattle.wild_types.specs.declared.kind.Machine.{Machine}
 use Rattle.wild_types.specs.declared.kind.Machine.TheVariants as machine
 use Rattle.wild_types.specs.declared.input.InputRelocation.{InputRelocation}
 use Rattle.wild_types.specs.declared.layout.Layout.{Layout}
+use Rattle.wild_types.specs.Hollow.{KeepsAll}
 use Rattle.wild_types.specs.Flags.{interposable}
 use Rattle.wild_types.specs.Item.{Item}
 use Rattle.wild_slot.specs.Treatment.{flags_at}
@@ -40,6 +41,7 @@ use Rattle.wild_references.proofs.RewrittenDescriptors.{IsWrittenPart, call_rows
 use Rattle.wild_references.proofs.RewrittenSlots.{call_rows as slot_call_rows, call_to_slot}
 use Rattle.wild_references.proofs.RewrittenWords.{WordsAreWritten, asked_there}
 use Rattle.wild_references.proofs.StubCode.{StubLaws}
+use Rattle.wild_references.proofs.Targets.{Stands}
 
 -- ---- words of a run
 
@@ -108,9 +110,9 @@ address_whole t (suc (suc zero), low, is) e = (let both : OffsetSlot ≡ Address
 address_whole t (suc (suc (suc zero)), low, is) e = sym is
 address_whole t (suc (suc (suc (suc k))), low, is) e = absurd (omega (arith, low))
 
-pub near_holds : StubLaws → RowsStandTogether → RowsOfAArch64Keep → (l : Layout) (w : World) (m : Memory) (s : Item) (i : ℕ) (r : InputRelocation) (row : Row) → IsLoadedItem machine.AArch64 l w m s → (t : IsRewrittenWord l s i r row) → t.sequence ≡ Address → (c : IsRunThere l s i r row Address t.word) → IsJudgedRun l s r Address c.start c.index
+pub near_holds : StubLaws → RowsStandTogether → RowsOfAArch64Keep → (l : Layout) (w : World) (m : Memory) (s : Item) (i : ℕ) (r : InputRelocation) (row : Row) → IsLoadedItem machine.AArch64 l w m s → (t : IsRewrittenWord l s i r row) → Stands l t.symbol → t.sequence ≡ Address → (c : IsRunThere l s i r row Address t.word) → IsJudgedRun l s r Address c.start c.index
     → WordsAreWritten l s t.symbol → HoldsRewritten l w m s r
-near_holds stubs together keeps l w m s i r row g t same c j written =
+near_holds stubs together keeps l w m s i r row g t stands same c j written =
     let o = together (question_around l s i r t.symbol) row t.sequence t.word t.chosen t.among in
     let whole = address_whole o.whole o.known (o.same ∙ same) in
     let two = only l s j.first c.start (j.sequence.index + 1) (by_word 4 4 r_aarch64_add_abs_lo12_nc) j.rest j.sequence.has in
@@ -123,7 +125,7 @@ near_holds stubs together keeps l w m s i r row g t same c j written =
     let asked = question_around l s (c.index + 0) j.first t.symbol in
     let near = near_symbol (value.OwnNear 4) asked refl (chosen_word asked ADDRESS_FIRST Address 0 a.chosen refl).applied.value in
     held l w m s r Address c.start c.index g.on j
-    (address_pair_to_near stubs keeps l w m s j.first c.start t.symbol g c.inside c.words named near.own near.moves near.defined
+    (address_pair_to_near stubs keeps l w m s j.first c.start t.symbol g stands c.inside c.words named near.own near.moves near.defined
     (record { index = c.index + 0; value = a.value; here = a.written; at = j.begins; none = j.none; second = two.second; place = c.index + 1; other = b.value; there = b.written; behind = two.has.field; symbol = sym two.has.names.0; addend = sym two.has.names.1 }))
 
 -- ---- the call of a descriptor's function
@@ -135,9 +137,9 @@ call_whole t (suc (suc zero), low, is) e = (let both : OffsetSlot ≡ Descriptor
 call_whole t (suc (suc (suc zero)), low, is) e = (let both : Address ≡ DescriptorCall = ap (λ (x : Rewriting). x.sequence) is ∙ e in cc)
 call_whole t (suc (suc (suc (suc k))), low, is) e = absurd (omega (arith, low))
 
-pub call_holds : RowsStandTogether → RowsOfAArch64Keep → TermGives term.PointerOffset → (l : Layout) (w : World) (m : Memory) (s : Item) (i : ℕ) (r : InputRelocation) (row : Row) → IsLoadedItem machine.AArch64 l w m s → (t : IsRewrittenWord l s i r row) → t.sequence ≡ DescriptorCall → (c : IsRunThere l s i r row DescriptorCall t.word) → IsJudgedRun l s r DescriptorCall c.start c.index
+pub call_holds : RowsStandTogether → RowsOfAArch64Keep → TermGives term.PointerOffset → (l : Layout) (w : World) (m : Memory) (s : Item) (i : ℕ) (r : InputRelocation) (row : Row) → IsLoadedItem machine.AArch64 l w m s → (t : IsRewrittenWord l s i r row) → KeepsAll l → t.sequence ≡ DescriptorCall → (c : IsRunThere l s i r row DescriptorCall t.word) → IsJudgedRun l s r DescriptorCall c.start c.index
     → WordsAreWritten l s t.symbol → HoldsRewritten l w m s r
-call_holds together keeps law l w m s i r row g t same c j written =
+call_holds together keeps law l w m s i r row g t all same c j written =
     let o = together (question_around l s i r t.symbol) row t.sequence t.word t.chosen t.among in
     let three = has_three l s j.first c.start (j.sequence.index + 1) (by_word 4 4 r_aarch64_tlsdesc_ld64_lo12) (by_word 8 4 r_aarch64_tlsdesc_add_lo12) (by_word 12 0 r_aarch64_tlsdesc_call) j.rest j.sequence.has in
     let named = j.names ∙ t.named in
@@ -176,7 +178,7 @@ call_holds together keeps law l w m s i r row g t same c j written =
           (third_part CALL_THIRD third)
           (fourth_part CALL_FOURTH (subst (λ (x : Rewriting). slice_get x.rows 3 ≡ Some CALL_FOURTH) (sym whole) refl) refl))
       | inr whole ↦
-          call_to_slot keeps l w m s j.first c.start t.symbol g c.inside c.words named
+          call_to_slot keeps l w m s j.first c.start t.symbol g all c.inside c.words named
           (first_part CALL_FIRST (subst (λ (x : Rewriting). slice_get x.rows 0 ≡ Some CALL_FIRST) (sym whole) refl) refl)
           (second_part CALL_SECOND (subst (λ (x : Rewriting). slice_get x.rows 1 ≡ Some CALL_SECOND) (sym whole) refl) refl)
           (third_part CALL_THIRD_SLOT (third_word CALL_THIRD_SLOT (subst (λ (x : Rewriting). slice_get x.rows 2 ≡ Some CALL_THIRD_SLOT) (sym whole) refl) refl))

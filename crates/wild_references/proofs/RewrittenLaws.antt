@@ -13,9 +13,9 @@ rewritten_stand laws words machine.X86_64 l w m s g i r row v has = instruction_
 rewritten_stand laws words machine.AArch64 l w m s g i r row v has = word_stands words.alone l s i r row v g.on g.decided has
 
 pub rewritten_hold : LawsBelow → LawsOfWords → RewrittenHold
-rewritten_hold laws words machine.X86_64 l w m s g i r row v has asked = instruction_holds laws l w m s g i r row v has asked
-rewritten_hold laws words machine.AArch64 l w m s g i r row v has asked = word_holds words l w m s g i r row v has
+rewritten_hold laws words machine.X86_64 l w m s g i r row v has present asked = instruction_holds laws l w m s g i r row v has present asked
+rewritten_hold laws words machine.AArch64 l w m s g i r row v has present asked = word_holds words l w m s g i r row v has present
 
 pub partners_hold : LawsBelow → PartnersHold
-partners_hold laws machine.X86_64 l w m s g i r has = partner_holds laws l w m s g i r has
-partners_hold laws machine.AArch64 l w m s g i r has = absurd (no_partner_there l s i r Partner g.on has refl)
+partners_hold laws machine.X86_64 l w m s g i r has present = partner_holds laws l w m s g i r has present
+partners_hold laws machine.AArch64 l w m s g i r has present = absurd (no_partner_there l s i r Partner g.on has refl)

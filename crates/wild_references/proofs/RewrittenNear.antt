@@ -51,7 +51,7 @@ use Rattle.wild_meaning.specs.Reference.{IsStubbed}
 use Rattle.wild_references.specs.Laws.{IsLoadedItem}
 use Rattle.wild_references.proofs.KeptItems.{item_lies}
 use Rattle.wild_references.proofs.StubCode.{StubLaws}
-use Rattle.wild_references.proofs.Targets.{addressed, one_addressed}
+use Rattle.wild_references.proofs.Targets.{Stands, addressed, one_addressed}
 use Rattle.wild_references.proofs.RewrittenSymbols.{definition, own_one}
 use Rattle.wild_references.proofs.WholeSections.{placed}
 use Rattle.wild_references.proofs.RunsAArch64.{RunDoes}
@@ -124,12 +124,12 @@ present : (l : Layout) (o : Option ℕ) (k : ℕ) → o ≡ Some k → has_flag 
 present l o k named weak = rw (named, weak) refl
 
 -- its address is more by the base
-stands_moved : StubLaws → (l : Layout) (w : World) (m : Memory) (s : Item) (k term : ℕ) → IsLoadedItem machine.AArch64 l w m s → IsReplaceable l k false → has_flag (flags_at l k) absolute ≡ false → address_of l (Some k) ≡ Ok term → IsOneAddress l w m k ((w.base + term) % 2 ^ 64)
-stands_moved stubs l w m s k term g own moves given =
+stands_moved : StubLaws → (l : Layout) (w : World) (m : Memory) (s : Item) (k term : ℕ) → IsLoadedItem machine.AArch64 l w m s → Stands l k → IsReplaceable l k false → has_flag (flags_at l k) absolute ≡ false → address_of l (Some k) ≡ Ok term → IsOneAddress l w m k ((w.base + term) % 2 ^ 64)
+stands_moved stubs l w m s k term g stands own moves given =
     let p = placed machine.AArch64 l w m s g in
-    let t = addressed stubs l w m (Some k) term p (λ i e. (let same : k ≡ i = cc in subst (λ (x : ℕ). IsReplaceable l x false ⊎ IsStubbed l x) same (inl own))) given in
+    let t = addressed stubs l w m (Some k) term p (λ i e. (let same : k ≡ i = cc in subst (λ (x : ℕ). Stands l x) same stands)) (λ i e. (let same : k ≡ i = cc in subst (λ (x : ℕ). IsReplaceable l x false ⊎ IsStubbed l x) same (inl own))) given in
     let still : t.still ≡ false = sym (t.flag k refl) ∙ moves in
-    let one = one_addressed stubs l w m k term t.still p (inl own) given (t.flag k refl) t.denoted in
+    let one = one_addressed l w m k term t.still p (inl own) given (t.flag k refl) t.denoted in
     subst (λ (b : Bool). IsOneAddress l w m k (moved b w.base term)) still one
 
 sum_of : (l : Layout) (w : World) (m : Memory) (s : Item) (first : InputRelocation) (k v : ℕ) → l.machine ≡ machine.AArch64 → first.symbol ≡ Some k → first.addend ≡ pos 0 → (IsAbsent l k → ⊥) → (NamesStrings l first → ⊥) → IsOneAddress l w m k v → v < 2 ^ 64 → IsSum PageDistance l w m s first v
@@ -144,9 +144,9 @@ sum_of l w m s first k v on named none there plain one small =
 
 -- ---- the pair
 
-pub address_pair_to_near : StubLaws → RowsOfAArch64Keep → (l : Layout) (w : World) (m : Memory) (s : Item) (first : InputRelocation) (start k : ℕ) → IsLoadedItem machine.AArch64 l w m s → start + 8 ≤ length s.bytes → stand_as Address (words_at s.bytes start 2) ≡ true
+pub address_pair_to_near : StubLaws → RowsOfAArch64Keep → (l : Layout) (w : World) (m : Memory) (s : Item) (first : InputRelocation) (start k : ℕ) → IsLoadedItem machine.AArch64 l w m s → Stands l k → start + 8 ≤ length s.bytes → stand_as Address (words_at s.bytes start 2) ≡ true
     → first.symbol ≡ Some k → interposable (flags_at l k) ≡ false → has_flag (flags_at l k) absolute ≡ false → has_flag (flags_at l k) undefined_weak ≡ false → IsWrittenPair l s first start ADDRESS_FIRST ADDRESS_SECOND → IsDone l w m s first start address_pair_words
-address_pair_to_near stubs keeps l w m s first start k g inside stands named own moves weak t =
+address_pair_to_near stubs keeps l w m s first start k g addressed_so inside stands named own moves weak t =
     let here : start + 4 ≤ length s.bytes = omega (arith, inside) in
     let behind : start + 4 + 4 ≤ length s.bytes = omega (arith, inside) in
     let lies = item_lies l s g.loadable g.laid g.kept in
@@ -189,7 +189,7 @@ address_pair_to_near stubs keeps l w m s first start k g inside stands named own
     record {
       does = record {
         value = v;
-        demands = sum_of l w m s first k v g.on named t.none (absent_no l k weak) (names_none l first (rewritten_aarch64 l s t.index first ADDRESS_FIRST t.value g.on t.here.has.listed t.here.has.decided).chosen.plain) (stands_moved stubs l w m s k x g own_symbol moves given) (omega arith);
+        demands = sum_of l w m s first k v g.on named t.none (absent_no l k weak) (names_none l first (rewritten_aarch64 l s t.index first ADDRESS_FIRST t.value g.on t.here.has.listed t.here.has.decided).chosen.plain) (stands_moved stubs l w m s k x g addressed_so own_symbol moves given) (omega arith);
         code = by_words (reads_alone w m) l w m s start address_pair_words v us g.on refl inside (λ e h. h) there (done (reads_alone w m) (λ y. refl));
       };
       words = no_slot l w m s first start address_pair_words v ws us refl there (done reads_numbers (λ y. refl));

@@ -3,7 +3,7 @@
 --   word_there         it stands in memory
 --   offset_of_word     its value is the symbol's offset
 --   slot_pair_to_offset   `movz; movk` for the slot of an offset
-use Rattle.std.proofs.Common.{◌≡◌, ℕ, ℤ, pos, ◌+◌, ◌^◌, ◌<◌, ◌≤◌, inl, Bool, true, false, List, [], ◌∷◌, ◌++◌, length, refl, sym, ap, ◌∙◌, subst, arith}
+use Rattle.std.proofs.Common.{◌≡◌, ℕ, ℤ, pos, ◌+◌, ◌^◌, ◌<◌, ◌≤◌, inl, inr, Bool, true, false, List, [], ◌∷◌, ◌++◌, length, refl, sym, ap, ◌∙◌, subst, arith}
 use Rattle.std.specs.Prelude.{Option, Some, None, Ok, Result, ◌&&◌, ◌||◌, ◌==◌, not, is_none, if◌then◌else◌, slice_range, slice_get, nat_lt, nat_le}
 use Rattle.std.specs.Int.{w64, cast_unsigned}
 use Rattle.std.proofs.lemmas.Bool.{and_parts, ltb-true, leb-true}
@@ -156,6 +156,7 @@ offset_of_word law l w m s i p k v at g listed named none place inside program o
     let own_symbol = own_one l k g.laid.slot_flags (definition l k g.laid.definitions (names k named)) own in
     let there : HasTerm l w m s p info v = record {
       placed = placed machine.AArch64 l w m s g;
+      present = inr tt;
       room = lies.room;
       listed = names;
       number = wide_type;

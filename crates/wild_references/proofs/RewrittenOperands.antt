@@ -9,6 +9,7 @@ use Rattle.wild_types.specs.declared.kind.OutputKind.{OutputKind}
 use Rattle.wild_types.specs.declared.kind.OutputKind.TheVariants as output
 use Rattle.wild_types.specs.declared.input.InputRelocation.{InputRelocation}
 use Rattle.wild_types.specs.declared.layout.Layout.{Layout}
+use Rattle.wild_types.specs.Hollow.{KeepsAll}
 use Rattle.wild_types.specs.Flags.{has_flag, interposable, has_link_time_address, absolute, ifunc}
 use Rattle.wild_types.specs.Kinds.{has_fixed_load_address}
 use Rattle.wild_slot.specs.Treatment.{flags_at, moves}
@@ -21,7 +22,7 @@ use Rattle.wild_relax.specs.declared.row.Row.{Row}
 use Rattle.wild_relax.specs.Question.{minus_four}
 use Rattle.wild_relax.specs.RewriteX86_64.{rewrite_of}
 use Rattle.wild_relax.specs.Linked.{field_in}
-use Rattle.wild_relax.specs.Keep.{distance}
+use Rattle.wild_relax.specs.KeepX86_64.{distance}
 use Rattle.wild_layout.specs.Sites.{template_start}
 use Rattle.wild_loader.specs.declared.memory.Memory.{Memory}
 use Rattle.wild_loader.specs.declared.world.World.{World}
@@ -96,10 +97,10 @@ pub record LandsFar (l : Layout) (w : World) (m : Memory) (s : Item) (r : InputR
 distance_lands : (n t c place q v : ℕ) → t ≡ (n + c) % 2 ^ 64 → c ≡ 2 ^ 64 - 4 → v ≡ (t + (2 ^ 64 - place)) % 2 ^ 64 → place ≡ q → place ≤ 2 ^ 64 → v ≡ distance n q
 distance_lands n t c place q v a b e f low = omega (arith, a, b, e, f, low)
 
-pub lands_far : LawsBelow → (l : Layout) (w : World) (m : Memory) (s : Item) (i : ℕ) (r : InputRelocation) (row : Row) (v : ℕ) → IsLoadedItem machine.X86_64 l w m s → (p : IsPlacedRow l s i r row v) → (rewrite_of row).number ≡ 2 → (rewrite_of row).addend r.addend ≡ r.addend → minus_four r.addend ≡ true → interposable (flags_at l p.chosen.symbol) ≡ false → has_flag (flags_at l p.chosen.symbol) ifunc ≡ false
+pub lands_far : LawsBelow → (l : Layout) (w : World) (m : Memory) (s : Item) (i : ℕ) (r : InputRelocation) (row : Row) (v : ℕ) → IsLoadedItem machine.X86_64 l w m s → KeepsAll l → (p : IsPlacedRow l s i r row v) → (rewrite_of row).number ≡ 2 → (rewrite_of row).addend r.addend ≡ r.addend → minus_four r.addend ≡ true → interposable (flags_at l p.chosen.symbol) ≡ false → has_flag (flags_at l p.chosen.symbol) ifunc ≡ false
     → (IsMovable l.kind → IsAbsolute l p.chosen.symbol → w.base ≡ 0) → LandsFar l w m s r row v
-lands_far laws l w m s i r row v h p number same ends own plain asked =
-    let g = gives_distance laws l w m s i r row v h p number own asked in
+lands_far laws l w m s i r row v h all p number same ends own plain asked =
+    let g = gives_distance laws l w m s i r row v h all p number own asked in
     let below = stands_below l w m s i r row v h p in
     let place = below.place in
     let high = below.ends in
@@ -116,9 +117,9 @@ pub record LandsItself (l : Layout) (w : World) (m : Memory) (r : InputRelocatio
   pub is : IsOperand l w m r.symbol operand
   pub lands : v ≡ operand
 
-pub lands_itself : LawsBelow → (l : Layout) (w : World) (m : Memory) (s : Item) (i : ℕ) (r : InputRelocation) (row : Row) (v : ℕ) (sign : Sign) → IsLoadedItem machine.X86_64 l w m s → (p : IsPlacedRow l s i r row v) → p.made.written.info ≡ plain kinds.Absolute Four sign → (rewrite_of row).addend r.addend ≡ pos 0 → interposable (flags_at l p.chosen.symbol) ≡ false → has_flag (flags_at l p.chosen.symbol) ifunc ≡ false → moves l p.chosen.symbol ≡ false → LandsItself l w m r v
-lands_itself laws l w m s i r row v sign h p info none own plain_one still =
-    let g = gives_number laws l w m s i r row v sign h p info own plain_one still in
+pub lands_itself : LawsBelow → (l : Layout) (w : World) (m : Memory) (s : Item) (i : ℕ) (r : InputRelocation) (row : Row) (v : ℕ) (sign : Sign) → IsLoadedItem machine.X86_64 l w m s → KeepsAll l → (p : IsPlacedRow l s i r row v) → p.made.written.info ≡ plain kinds.Absolute Four sign → (rewrite_of row).addend r.addend ≡ pos 0 → interposable (flags_at l p.chosen.symbol) ≡ false → has_flag (flags_at l p.chosen.symbol) ifunc ≡ false → moves l p.chosen.symbol ≡ false → LandsItself l w m r v
+lands_itself laws l w m s i r row v sign h all p info none own plain_one still =
+    let g = gives_number laws l w m s i r row v sign h all p info own plain_one still in
     let is = operand_at l w m s p.chosen.symbol g.symbol r.symbol h p.chosen.named plain_one (referent_stands SymbolAddress l w m s (written_as row r) g.symbol h.on (λ t. names_none l (written_as row r) p.chosen.plain t.1) g.denoted) in
     let c : cast_unsigned w64 ((rewrite_of row).addend r.addend) ≡ 0 = ap (λ (x : ℤ). cast_unsigned w64 x) none in
     let e = g.sum in

@@ -25,7 +25,7 @@ use Rattle.wild_types.specs.Kinds.{is_static_executable}
 use Rattle.wild_relax.specs.Pattern.{cells_of}
 use Rattle.wild_relax.specs.Rows.{rows_x86_64}
 use Rattle.wild_relax.specs.Linked.{pattern_of, pattern_size, keeps_bytes, IsChanging}
-use Rattle.wild_relax.specs.Keep.{RowsKeep, IsWhole}
+use Rattle.wild_relax.specs.KeepX86_64.{RowsKeep, IsWhole}
 use Rattle.wild_relax.specs.Section.{IsStanding, ChosenStand, ChosenAreWhole}
 use Rattle.wild_layout.specs.declared.decision.Decision.TheVariants.{Rewritten}
 use Rattle.wild_layout.specs.Choice.{question_of, is_partner}

@@ -16,6 +16,7 @@ use Rattle.wild_types.specs.declared.kind.Machine.TheVariants as machine
 use Rattle.wild_types.specs.declared.fault.Fault.{Fault}
 use Rattle.wild_types.specs.declared.input.InputRelocation.{InputRelocation}
 use Rattle.wild_types.specs.declared.layout.Layout.{Layout}
+use Rattle.wild_types.specs.Hollow.{KeepsAll}
 use Rattle.wild_types.specs.Item.{Item}
 use Rattle.wild_relax.specs.declared.pattern.Sequence.TheVariants.{DescriptorCall}
 use Rattle.wild_relax.specs.declared.table_aarch64.TheConstants.{CALL_FIRST, CALL_SECOND, CALL_THIRD_SLOT, CALL_FOURTH_SLOT}
@@ -138,10 +139,10 @@ reads_there g v = (let t : (g == g) ≡ true = eq-eqb g g refl in rw t refl)
 
 -- ---- the call
 
-pub call_to_slot : RowsOfAArch64Keep → (l : Layout) (w : World) (m : Memory) (s : Item) (first : InputRelocation) (start k : ℕ) → IsLoadedItem machine.AArch64 l w m s → start + 16 ≤ length s.bytes → stand_as DescriptorCall (words_at s.bytes start 4) ≡ true → first.symbol ≡ Some k
+pub call_to_slot : RowsOfAArch64Keep → (l : Layout) (w : World) (m : Memory) (s : Item) (first : InputRelocation) (start k : ℕ) → IsLoadedItem machine.AArch64 l w m s → KeepsAll l → start + 16 ≤ length s.bytes → stand_as DescriptorCall (words_at s.bytes start 4) ≡ true → first.symbol ≡ Some k
     → IsWrittenPart l s first start CALL_FIRST → IsWrittenPart l s first (start + 4) CALL_SECOND → IsWrittenPart l s first (start + 4 + 4) CALL_THIRD_SLOT → IsWrittenPart l s first (start + 4 + 4 + 4) CALL_FOURTH_SLOT
     → IsDone l w m s first start descriptor_call_words
-call_to_slot keeps l w m s first start k g inside stands named p q t u =
+call_to_slot keeps l w m s first start k g all inside stands named p q t u =
     let in_p : start + 4 ≤ length s.bytes = omega (arith, inside) in
     let in_q : start + 4 + 4 ≤ length s.bytes = omega (arith, inside) in
     let in_t : start + 4 + 4 + 4 ≤ length s.bytes = omega (arith, inside) in
@@ -155,7 +156,7 @@ call_to_slot keeps l w m s first start k g inside stands named p q t u =
     let both : Ok term ≡ Ok part.term = sym at_t ∙ at_u in
     let one_term : part.term ≡ term = cc in
     let placed_l = placed machine.AArch64 l w m s g in
-    let slot : IsSlotOf ThreadOffset l w m k ((w.base + term) % 2 ^ 64) = slot_given sorts.Offset l w m (Some k) k term (offset_slots l placed_l.symbols.own) (offsets_stand l w m placed_l) refl at_t in
+    let slot : IsSlotOf ThreadOffset l w m k ((w.base + term) % 2 ^ 64) = slot_given sorts.Offset l w m (Some k) k term (offset_slots l placed_l.symbols.own) (offsets_stand l w m placed_l all) refl at_t in
     let x = term % 2 ^ 64 in
     let v = slot.holds.0 in
     let a = s.address + start in

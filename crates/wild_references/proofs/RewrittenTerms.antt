@@ -1,5 +1,5 @@
 -- The value in the field of a rewritten instruction, as the laws of the kinds take it.
-use Rattle.std.proofs.Common.{◌≡◌, ℕ, ◌+◌, ◌%◌, ◌^◌, ◌<◌, ◌≤◌, true, length, refl, sym, ◌∙◌, arith, subst, false}
+use Rattle.std.proofs.Common.{◌≡◌, ℕ, ◌+◌, ◌%◌, ◌^◌, ◌<◌, ◌≤◌, inl, true, length, refl, sym, ◌∙◌, arith, subst, false}
 use Rattle.std.specs.Prelude.{Some, None, Ok, if◌then◌else◌}
 use Rattle.wild_types.specs.declared.kind.Machine.{Machine}
 use Rattle.wild_words.proofs.ListLemmas.{holds_at}
@@ -7,6 +7,7 @@ use Rattle.wild_records.specs.Abi.Relocation.{r_x86_64_64}
 use Rattle.wild_types.specs.declared.kind.Machine.TheVariants as machine
 use Rattle.wild_types.specs.declared.input.InputRelocation.{InputRelocation}
 use Rattle.wild_types.specs.declared.layout.Layout.{Layout}
+use Rattle.wild_types.specs.Hollow.{KeepsAll}
 use Rattle.wild_slot.specs.declared.treatment.Treatment.TheVariants as treatments
 use Rattle.wild_types.specs.Lookups.{place_of}
 use Rattle.wild_slot.specs.Treatment.{kind_treatment, suits}
@@ -121,16 +122,17 @@ plain_at : (m : Machine) (l : Layout) (r : InputRelocation) (info : RelocationKi
 plain_at machine.X86_64 l r info p t on plain h = term_plain l r (expression_of info.kind).term plain ∙ h
 plain_at machine.AArch64 l r info p t on plain h = cc
 
--- the value, by the kind that is written
-pub has_term : (l : Layout) (w : World) (m : Memory) (s : Item) (i : ℕ) (r : InputRelocation) (row : Row) (v : ℕ) (k : RelocationKind) (n : Width) (sign : Sign) → IsLoadedItem machine.X86_64 l w m s → (p : IsPlacedRow l s i r row v) → p.made.written.info ≡ plain k n sign → ((t : ℕ) → term_alone l r (plain k n sign) ≡ Ok t → term_of l r.symbol k ≡ Ok t)
+-- the value, by the kind that is written, where all is
+pub has_term : (l : Layout) (w : World) (m : Memory) (s : Item) (i : ℕ) (r : InputRelocation) (row : Row) (v : ℕ) (k : RelocationKind) (n : Width) (sign : Sign) → IsLoadedItem machine.X86_64 l w m s → KeepsAll l → (p : IsPlacedRow l s i r row v) → p.made.written.info ≡ plain k n sign → ((t : ℕ) → term_alone l r (plain k n sign) ≡ Ok t → term_of l r.symbol k ≡ Ok t)
     → kind_treatment l s.flags wide_type r.symbol wide k ≡ treatments.Value wide → (IsPlaceRelative (plain_value k) → IsMovable l.kind → IsAbsolute l p.chosen.symbol → w.base ≡ 0) → HasTerm l w m s (written_as row r) (plain k n sign) v
-has_term l w m s i r row v k n sign h p is term treated asked =
+has_term l w m s i r row v k n sign h all p is term treated asked =
     let x = p.made.written in
     let below = stands_below l w m s i r row v h p in
     let given = subst (λ (f : RelocationKindInfo). term_alone l r f ≡ Ok x.term) is x.given in
     let value = subst (λ (f : RelocationKindInfo). value_by l f.kind x.term ((rewrite_of row).addend r.addend) ((s.address + field_at row r) % 2 ^ 64) ≡ v) is x.value in
     record {
       placed = placed machine.X86_64 l w m s h;
+      present = inl all;
       room = (lies_there l w m s h).room;
       listed = holds_at (NamesSymbol l) s.relocations i r p.has.listed (lies_there l w m s h).symbols;
       number = wide_type;

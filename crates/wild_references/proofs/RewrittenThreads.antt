@@ -8,6 +8,7 @@ use Rattle.wild_types.specs.declared.kind.OutputKind.{OutputKind}
 use Rattle.wild_types.specs.declared.kind.OutputKind.TheVariants as output
 use Rattle.wild_types.specs.declared.input.InputRelocation.{InputRelocation}
 use Rattle.wild_types.specs.declared.layout.Layout.{Layout}
+use Rattle.wild_types.specs.Hollow.{KeepsAll}
 use Rattle.wild_types.specs.Flags.{interposable}
 use Rattle.wild_types.specs.Kinds.{is_executable, is_static_executable}
 use Rattle.wild_slot.specs.Treatment.{flags_at}
@@ -60,9 +61,9 @@ pub record LandsOffset (l : Layout) (w : World) (r : InputRelocation) (v : ℕ) 
   pub is : IsThreadOperand l w r.symbol operand
   pub lands : v ≡ operand
 
-pub lands_offset : LawsBelow → (l : Layout) (w : World) (m : Memory) (s : Item) (i : ℕ) (r : InputRelocation) (row : Row) (v : ℕ) → IsLoadedItem machine.X86_64 l w m s → (p : IsPlacedRow l s i r row v) → (rewrite_of row).number ≡ 23 → (rewrite_of row).addend r.addend ≡ pos 0 → is_executable l.kind ≡ true → interposable (flags_at l p.chosen.symbol) ≡ false → LandsOffset l w r v
-lands_offset laws l w m s i r row v h p number none program own =
-    let g = gives_offset laws l w m s i r row v h p number program own in
+pub lands_offset : LawsBelow → (l : Layout) (w : World) (m : Memory) (s : Item) (i : ℕ) (r : InputRelocation) (row : Row) (v : ℕ) → IsLoadedItem machine.X86_64 l w m s → KeepsAll l → (p : IsPlacedRow l s i r row v) → (rewrite_of row).number ≡ 23 → (rewrite_of row).addend r.addend ≡ pos 0 → is_executable l.kind ≡ true → interposable (flags_at l p.chosen.symbol) ≡ false → LandsOffset l w r v
+lands_offset laws l w m s i r row v h all p number none program own =
+    let g = gives_offset laws l w m s i r row v h all p number program own in
     let is = offset_at l w p.chosen.symbol g.0 r.symbol p.chosen.named g.1 in
     let c : cast_unsigned w64 ((rewrite_of row).addend r.addend) ≡ 0 = ap (λ (x : ℤ). cast_unsigned w64 x) none in
     let e = g.2 in
@@ -90,9 +91,9 @@ slot_at l w m g k symbol e h =
 slot_lands : (g c place q v : ℕ) → g < 2 ^ 64 → c ≡ 2 ^ 64 - 4 → v ≡ (g + c + (2 ^ 64 - place)) % 2 ^ 64 → place ≡ q → place ≤ 2 ^ 64 → (q + 4 + v) % 2 ^ 64 ≡ g
 slot_lands g c place q v low a b e high = omega (arith, low, a, b, e, high)
 
-pub lands_slot : LawsBelow → (l : Layout) (w : World) (m : Memory) (s : Item) (i : ℕ) (r : InputRelocation) (row : Row) (v : ℕ) → IsLoadedItem machine.X86_64 l w m s → IsPlacedRow l s i r row v → (rewrite_of row).number ≡ 22 → (rewrite_of row).addend r.addend ≡ r.addend → minus_four r.addend ≡ true → LandsSlot l w m s r row v
-lands_slot laws l w m s i r row v h p number same ends =
-    let g = gives_slot laws l w m s i r row v h p number in
+pub lands_slot : LawsBelow → (l : Layout) (w : World) (m : Memory) (s : Item) (i : ℕ) (r : InputRelocation) (row : Row) (v : ℕ) → IsLoadedItem machine.X86_64 l w m s → KeepsAll l → IsPlacedRow l s i r row v → (rewrite_of row).number ≡ 22 → (rewrite_of row).addend r.addend ≡ r.addend → minus_four r.addend ≡ true → LandsSlot l w m s r row v
+lands_slot laws l w m s i r row v h all p number same ends =
+    let g = gives_slot laws l w m s i r row v h all p number in
     let below = stands_below l w m s i r row v h p in
     let place = below.place in
     let high = below.ends in

@@ -9,6 +9,7 @@ use Rattle.wild_types.specs.declared.kind.OutputKind.{OutputKind}
 use Rattle.wild_types.specs.declared.kind.OutputKind.TheVariants as output
 use Rattle.wild_types.specs.declared.input.InputRelocation.{InputRelocation}
 use Rattle.wild_types.specs.declared.layout.Layout.{Layout}
+use Rattle.wild_types.specs.Hollow.{KeepsAll}
 use Rattle.wild_slot.specs.declared.treatment.Treatment.{Treatment}
 use Rattle.wild_slot.specs.declared.treatment.Treatment.TheVariants as treatments
 use Rattle.wild_types.specs.Flags.{has_flag, interposable, has_link_time_address, absolute, ifunc}
@@ -125,28 +126,28 @@ followed l r q k value named e own = λ j at. (let same : j ≡ k = (let f : Som
 -- ---- the kinds
 
 -- S + A - P
-pub gives_distance : LawsBelow → (l : Layout) (w : World) (m : Memory) (s : Item) (i : ℕ) (r : InputRelocation) (row : Row) (v : ℕ) → IsLoadedItem machine.X86_64 l w m s → (p : IsPlacedRow l s i r row v) → (rewrite_of row).number ≡ 2 → interposable (flags_at l p.chosen.symbol) ≡ false → (IsMovable l.kind → IsAbsolute l p.chosen.symbol → w.base ≡ 0) → Gives (plain_value kinds.Relative) l w m s (written_as row r) v
-gives_distance laws l w m s i r row v h p number own asked =
+pub gives_distance : LawsBelow → (l : Layout) (w : World) (m : Memory) (s : Item) (i : ℕ) (r : InputRelocation) (row : Row) (v : ℕ) → IsLoadedItem machine.X86_64 l w m s → KeepsAll l → (p : IsPlacedRow l s i r row v) → (rewrite_of row).number ≡ 2 → interposable (flags_at l p.chosen.symbol) ≡ false → (IsMovable l.kind → IsAbsolute l p.chosen.symbol → w.base ≡ 0) → Gives (plain_value kinds.Relative) l w m s (written_as row r) v
+gives_distance laws l w m s i r row v h all p number own asked =
     let info = pc32 p.made.written.info (sym (subst (λ (n : ℕ). x86_64_row n ≡ Some p.made.written.info) number (info_is l w m s i r row v h p))) in
-    laws.distance l w m s (written_as row r) v (has_term l w m s i r row v kinds.Relative Four Signed h p info (λ t e. e) (distance_value l s p.chosen.symbol r.symbol p.chosen.named) (λ relative movable abs. asked movable abs))
+    laws.distance l w m s (written_as row r) v (has_term l w m s i r row v kinds.Relative Four Signed h all p info (λ t e. e) (distance_value l s p.chosen.symbol r.symbol p.chosen.named) (λ relative movable abs. asked movable abs))
     (followed l r (written_as row r) p.chosen.symbol (plain_value kinds.Relative) p.chosen.named refl (own_symbol l w m s i r row v h p own))
 
 -- S + A
-pub gives_number : LawsBelow → (l : Layout) (w : World) (m : Memory) (s : Item) (i : ℕ) (r : InputRelocation) (row : Row) (v : ℕ) (sign : Sign) → IsLoadedItem machine.X86_64 l w m s → (p : IsPlacedRow l s i r row v) → p.made.written.info ≡ plain kinds.Absolute Four sign → interposable (flags_at l p.chosen.symbol) ≡ false → has_flag (flags_at l p.chosen.symbol) ifunc ≡ false → moves l p.chosen.symbol ≡ false → Gives (plain_value kinds.Absolute) l w m s (written_as row r) v
-gives_number laws l w m s i r row v sign h p info own plain_one still =
-    laws.sum sign l w m s (written_as row r) v (has_term l w m s i r row v kinds.Absolute Four sign h p info (λ t e. e) (address_value l s p.chosen.symbol r.symbol p.chosen.named own plain_one still) (λ relative movable abs. absurd relative))
+pub gives_number : LawsBelow → (l : Layout) (w : World) (m : Memory) (s : Item) (i : ℕ) (r : InputRelocation) (row : Row) (v : ℕ) (sign : Sign) → IsLoadedItem machine.X86_64 l w m s → KeepsAll l → (p : IsPlacedRow l s i r row v) → p.made.written.info ≡ plain kinds.Absolute Four sign → interposable (flags_at l p.chosen.symbol) ≡ false → has_flag (flags_at l p.chosen.symbol) ifunc ≡ false → moves l p.chosen.symbol ≡ false → Gives (plain_value kinds.Absolute) l w m s (written_as row r) v
+gives_number laws l w m s i r row v sign h all p info own plain_one still =
+    laws.sum sign l w m s (written_as row r) v (has_term l w m s i r row v kinds.Absolute Four sign h all p info (λ t e. e) (address_value l s p.chosen.symbol r.symbol p.chosen.named own plain_one still) (λ relative movable abs. absurd relative))
     (followed l r (written_as row r) p.chosen.symbol (plain_value kinds.Absolute) p.chosen.named refl (own_symbol l w m s i r row v h p own))
 
 -- the offset from the thread pointer
-pub gives_offset : LawsBelow → (l : Layout) (w : World) (m : Memory) (s : Item) (i : ℕ) (r : InputRelocation) (row : Row) (v : ℕ) → IsLoadedItem machine.X86_64 l w m s → (p : IsPlacedRow l s i r row v) → (rewrite_of row).number ≡ 23 → is_executable l.kind ≡ true → interposable (flags_at l p.chosen.symbol) ≡ false → Gives (plain_value kinds.TpOff) l w m s (written_as row r) v
-gives_offset laws l w m s i r row v h p number program own =
+pub gives_offset : LawsBelow → (l : Layout) (w : World) (m : Memory) (s : Item) (i : ℕ) (r : InputRelocation) (row : Row) (v : ℕ) → IsLoadedItem machine.X86_64 l w m s → KeepsAll l → (p : IsPlacedRow l s i r row v) → (rewrite_of row).number ≡ 23 → is_executable l.kind ≡ true → interposable (flags_at l p.chosen.symbol) ≡ false → Gives (plain_value kinds.TpOff) l w m s (written_as row r) v
+gives_offset laws l w m s i r row v h all p number program own =
     let info = tpoff32 p.made.written.info (sym (subst (λ (n : ℕ). x86_64_row n ≡ Some p.made.written.info) number (info_is l w m s i r row v h p))) in
-    laws.pointer l w m s (written_as row r) v (has_term l w m s i r row v kinds.TpOff Four Signed h p info (λ t e. e) (pointer_value l s p.chosen.symbol r.symbol p.chosen.named program) (λ relative movable abs. absurd relative))
+    laws.pointer l w m s (written_as row r) v (has_term l w m s i r row v kinds.TpOff Four Signed h all p info (λ t e. e) (pointer_value l s p.chosen.symbol r.symbol p.chosen.named program) (λ relative movable abs. absurd relative))
     (followed l r (written_as row r) p.chosen.symbol (plain_value kinds.TpOff) p.chosen.named refl (own_symbol l w m s i r row v h p own))
 
 -- the slot of an offset, whichever module has the symbol
-pub gives_slot : LawsBelow → (l : Layout) (w : World) (m : Memory) (s : Item) (i : ℕ) (r : InputRelocation) (row : Row) (v : ℕ) → IsLoadedItem machine.X86_64 l w m s → (p : IsPlacedRow l s i r row v) → (rewrite_of row).number ≡ 22 → Gives (plain_value kinds.GotTpOff) l w m s (written_as row r) v
-gives_slot laws l w m s i r row v h p number =
+pub gives_slot : LawsBelow → (l : Layout) (w : World) (m : Memory) (s : Item) (i : ℕ) (r : InputRelocation) (row : Row) (v : ℕ) → IsLoadedItem machine.X86_64 l w m s → KeepsAll l → (p : IsPlacedRow l s i r row v) → (rewrite_of row).number ≡ 22 → Gives (plain_value kinds.GotTpOff) l w m s (written_as row r) v
+gives_slot laws l w m s i r row v h all p number =
     let info = gottpoff p.made.written.info (sym (subst (λ (n : ℕ). x86_64_row n ≡ Some p.made.written.info) number (info_is l w m s i r row v h p))) in
-    laws.slot l w m s (written_as row r) v (has_term l w m s i r row v kinds.GotTpOff Four Signed h p info (λ t e. e) (slot_value l s p.chosen.symbol r.symbol p.chosen.named) (λ relative movable abs. absurd relative))
+    laws.slot l w m s (written_as row r) v (has_term l w m s i r row v kinds.GotTpOff Four Signed h all p info (λ t e. e) (slot_value l s p.chosen.symbol r.symbol p.chosen.named) (λ relative movable abs. absurd relative))
     (λ j at. inr (inl ((λ t. t), (λ t. t))))

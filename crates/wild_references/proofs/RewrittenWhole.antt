@@ -1,8 +1,12 @@
 -- Instructions of x86-64 that are rewritten hold, and so do the calls that they take along.
 use Rattle.std.proofs.Common.{◌≡◌, ℕ, ◌+◌, ◌≤◌, inl, inr, Bool, true, false, [], ◌∷◌, refl, sym, ap, ◌∙◌, arith, subst}
-use Rattle.std.specs.Prelude.{◌==◌, not, Some, Ok, slice_get}
+use Rattle.std.specs.Prelude.{◌==◌, ◌||◌, not, Contains, Option, Some, None, Ok, slice_get}
+use Rattle.std.specs.List.{list_all}
 use Rattle.std.proofs.lemmas.Bool.{cases_Bool}
 use Rattle.std.proofs.lemmas.Option.{slice_get_within}
+use Rattle.wild_words.proofs.Basics.{or_other, listed_passes}
+use Rattle.wild_reloc.specs.Formula.{Value, Formula, SlotDistance}
+use Rattle.wild_reloc.specs.FormulaX86_64.{x86_64_formula}
 use Rattle.wild_types.specs.declared.input.InputRelocation.{InputRelocation}
 use Rattle.wild_types.specs.declared.layout.Layout.{Layout}
 use Rattle.wild_relax.specs.declared.row.Row.{Row}
@@ -11,7 +15,8 @@ use Rattle.wild_relax.specs.declared.table.TheConstants.{PLAIN_LEA}
 use Rattle.wild_references.proofs.TableRows.{plain_is}
 use Rattle.wild_relax.specs.Rewrite.{is_skip}
 use Rattle.wild_relax.specs.RewriteX86_64.{rewrite_of}
-use Rattle.wild_relax.specs.Linked.{pattern_size}
+use Rattle.wild_relax.specs.Rows.{rows_x86_64}
+use Rattle.wild_relax.specs.Linked.{pattern_size, keeps_bytes}
 use Rattle.wild_layout.specs.declared.decision.Decision.{Decision}
 use Rattle.wild_layout.specs.declared.decision.Decision.TheVariants.{Rewritten, Partner}
 use Rattle.wild_layout.specs.Sites.{template_start}
@@ -23,17 +28,19 @@ use Rattle.wild_loader.specs.declared.world.World.{World}
 use Rattle.wild_types.specs.Item.{Item}
 use Rattle.wild_meaning.specs.Sequence.{TargetInSlot, Instruction, size_of}
 use Rattle.wild_meaning.specs.Template.{IsSingle, IsTemplate, reads_alone, DoesDemanded}
-use Rattle.wild_meaning.specs.Reference.{CountsFromPlace, IsAsked, IsTakenAlong, HoldsRewritten, ReadsOwnSlots}
+use Rattle.wild_meaning.specs.Field.{formula_of}
+use Rattle.wild_meaning.specs.Reference.{CountsFromPlace, IsAsked, IsTakenAlong, HoldsRewritten, ReadsOwnSlots, IsSlotValue, HasSlotFormula, IsLeftOut}
 use Rattle.wild_types.specs.declared.kind.Machine.{Machine}
 use Rattle.wild_types.specs.declared.kind.Machine.TheVariants as machine
 use Rattle.wild_references.specs.Laws.{IsLoadedItem}
 use Rattle.wild_references.specs.EffectLaws.{StandsAt}
+use Rattle.wild_references.proofs.LeftOut.{keeps_all}
 use Rattle.wild_references.proofs.RewrittenForms.{instruction_of}
 use Rattle.wild_references.proofs.RewrittenPlaces.{LawsBelow, IsPlacedRow, placed_row, size_is}
 use Rattle.wild_references.proofs.RewrittenAlone.{called}
 use Rattle.wild_references.proofs.RewrittenPairs.{paired}
 use Rattle.wild_references.proofs.RewrittenSingles.{is_told}
-use Rattle.wild_references.proofs.RewrittenDoes.{GoesWithBase, does_row}
+use Rattle.wild_references.proofs.RewrittenDoes.{is_call, IsWhole, GoesWithBase, does_row}
 use Rattle.wild_references.proofs.RewrittenTemplates.{single_there, sequence_there, of_sequence_there, sequence_sort}
 use Rattle.wild_references.proofs.RewrittenPrefix.{wide_load, wide_single, IsWider, wider_or_not}
 use Rattle.wild_references.proofs.RewrittenShorter.{plain_single}
@@ -47,7 +54,7 @@ record IsHeld (l : Layout) (w : World) (m : Memory) (s : Item) (r : InputRelocat
   template : IsTemplate l s r from instruction r
   before : from ≤ template_start row r
   behind : template_start row r + pattern_size row ≤ from + size_of instruction
-  does : (instruction.sort ≡ TargetInSlot → IsAsked l w s r) → DoesDemanded (reads_alone w m) l w m s r from instruction
+  does : IsWhole l row → (instruction.sort ≡ TargetInSlot → IsAsked l w s r) → DoesDemanded (reads_alone w m) l w m s r from instruction
 
 -- where code goes through a slot to an absolute symbol of an output that moves, the reference is asked at base 0 alone
 goes_with : (l : Layout) (w : World) (m : Memory) (s : Item) (i : ℕ) (r : InputRelocation) (row : Row) (v : ℕ) → (p : IsPlacedRow l s i r row v) → IsSingle l s r (template_start row r) (instruction_of row) → ((instruction_of row).sort ≡ TargetInSlot → IsAsked l w s r) → GoesWithBase l w row p.chosen.symbol
@@ -68,7 +75,7 @@ single_held laws l w m s i r row v h p t =
       template = inl (t, refl);
       before = omega arith;
       behind = omega (arith, size);
-      does = λ asked. does_row laws l w m s i r row v h p (goes_with l w m s i r row v p t asked);
+      does = λ whole asked. does_row laws l w m s i r row v h whole p (goes_with l w m s i r row v p t asked);
     }
 
 wider_held : LawsBelow → (l : Layout) (w : World) (m : Memory) (s : Item) (i : ℕ) (r : InputRelocation) (v from : ℕ) → IsLoadedItem machine.X86_64 l w m s → IsWider l s i r v from → IsHeld l w m s r PLAIN_LEA
@@ -80,7 +87,7 @@ wider_held laws l w m s i r v from h t =
       template = inl (wide_single laws.alone l s i r v from h.on h.decided t, refl);
       before = omega (arith, start);
       behind = omega (arith, start);
-      does = λ asked. does_wider laws l w m s i r v from h t;
+      does = λ whole asked. does_wider laws l w m s i r v from h (whole refl) t;
     }
 
 plain_held : LawsBelow → (l : Layout) (w : World) (m : Memory) (s : Item) (i : ℕ) (r : InputRelocation) (v : ℕ) → IsLoadedItem machine.X86_64 l w m s → IsPlacedRow l s i r PLAIN_LEA v → IsHeld l w m s r PLAIN_LEA
@@ -107,7 +114,7 @@ sequence_held laws l w m s i r row v h p skips =
       template = inr (of_sequence_there laws l w m s i r c.0 row v h p skips c.1);
       before = omega arith;
       behind = omega (arith, size);
-      does = λ asked. does_row laws l w m s i r row v h p (λ sort. absurd (sequence_sort row p.changing skips sort));
+      does = λ whole asked. does_row laws l w m s i r row v h whole p (λ sort. absurd (sequence_sort row p.changing skips sort));
     }
 
 told_held : LawsBelow → (l : Layout) (w : World) (m : Memory) (s : Item) (i : ℕ) (r : InputRelocation) (row : Row) (v : ℕ) → IsLoadedItem machine.X86_64 l w m s → IsPlacedRow l s i r row v → is_told row ≡ true → IsHeld l w m s r row
@@ -135,14 +142,45 @@ instruction_stands laws l w m s h i r row v has =
     let t = row_held laws l w m s i r row v h (placed_row laws l s i r row v h.on has) in
     record { from = t.from; instruction = t.instruction; first = r; template = t.template; before = t.before; behind = t.behind }
 
+-- the formula of what is rewritten names a slot, but that of a call
+abbrev is_slot_value : Value → Bool
+is_slot_value (SlotDistance sort) = true
+is_slot_value other = false
+
+abbrev is_of_slot : Option Formula → Bool
+is_of_slot None = false
+is_of_slot (Some f) = is_slot_value f.value
+
+abbrev goes_by_slot : Row → Bool
+goes_by_slot row = keeps_bytes row || (is_call (instruction_of row).sort || is_of_slot (x86_64_formula row.number))
+
+each_by_slot : list_all goes_by_slot rows_x86_64 ≡ true
+unfolding rows_x86_64 x86_64_formula
+each_by_slot = refl
+
+slot_value : (v : Value) → is_slot_value v ≡ true → IsSlotValue v
+slot_value (SlotDistance sort) h = tt
+slot_value other h = cc
+
+names_slot : (l : Layout) (r : InputRelocation) (row : Row) → l.machine ≡ machine.X86_64 → Contains rows_x86_64 row → keeps_bytes row ≡ false → r.number ≡ row.number → is_call (instruction_of row).sort ≡ false → HasSlotFormula l r
+names_slot l r row x86 listed changes number other =
+    by_formula (x86_64_formula row.number) (ap (λ (k : Machine). formula_of k r.number) x86 ∙ ap x86_64_formula number)
+    (or_other (is_call (instruction_of row).sort) _ (or_other (keeps_bytes row) _ (listed_passes goes_by_slot rows_x86_64 row each_by_slot listed) changes) other)
+  where
+    by_formula : (o : Option Formula) → formula_of l.machine r.number ≡ o → is_of_slot o ≡ true → HasSlotFormula l r
+    by_formula None known h = cc
+    by_formula (Some f) known h = record { formula = f; known = known; slot = slot_value f.value h }
+
 -- which words code reads is not asked on x86-64
 words_free : (l : Layout) (w : World) (m : Memory) (s : Item) (first : InputRelocation) (start : ℕ) (o : Instruction) → l.machine ≡ machine.X86_64 → ReadsOwnSlots l.machine l w m s first start o
 words_free l w m s first start o x = subst (λ (k : Machine). ReadsOwnSlots k l w m s first start o) (sym x) tt
 
-pub instruction_holds : LawsBelow → (l : Layout) (w : World) (m : Memory) (s : Item) → IsLoadedItem machine.X86_64 l w m s → (i : ℕ) (r : InputRelocation) (row : Row) (v : ℕ) → HasDecision l s i r (Rewritten row v) → IsAsked l w s r → HoldsRewritten l w m s r
-instruction_holds laws l w m s h i r row v has asked =
-    let t = row_held laws l w m s i r row v h (placed_row laws l s i r row v h.on has) in
-    record { start = t.from; instruction = t.instruction; first = r; template = t.template; does = t.does (λ sort. asked); words = words_free l w m s r t.from t.instruction h.on }
+pub instruction_holds : LawsBelow → (l : Layout) (w : World) (m : Memory) (s : Item) → IsLoadedItem machine.X86_64 l w m s → (i : ℕ) (r : InputRelocation) (row : Row) (v : ℕ) → HasDecision l s i r (Rewritten row v) → (IsLeftOut l s r → ⊥) → IsAsked l w s r → HoldsRewritten l w m s r
+instruction_holds laws l w m s h i r row v has present asked =
+    let p = placed_row laws l s i r row v h.on has in
+    let t = row_held laws l w m s i r row v h p in
+    let whole : IsWhole l row = λ other. keeps_all l (λ bare. present (bare, inr (inl (inl (names_slot l r row h.on p.changing.listed p.changing.changes p.chosen.number other))))) in
+    record { start = t.from; instruction = t.instruction; first = r; template = t.template; does = t.does whole (λ sort. asked); words = words_free l w m s r t.from t.instruction h.on }
 
 -- ---- the calls of sequences
 
@@ -166,18 +204,31 @@ before_call l w m s i r h has =
         let by = sequence_is_rewritten l s j row d.0 q d.1 in
         record { first = q.relocation; row = row; value = by.0; has = record { listed = q.listed; decided = d.1 ∙ ap (λ (x : Decision). Ok x) by.1 }; skips = q.takes; listed = listed }
 
-pub partner_holds : LawsBelow → (l : Layout) (w : World) (m : Memory) (s : Item) → IsLoadedItem machine.X86_64 l w m s → (i : ℕ) (r : InputRelocation) → HasDecision l s i r Partner → IsTakenAlong l w m s r
-partner_holds laws l w m s h i r has =
+pub partner_holds : LawsBelow → (l : Layout) (w : World) (m : Memory) (s : Item) → IsLoadedItem machine.X86_64 l w m s → (i : ℕ) (r : InputRelocation) → HasDecision l s i r Partner → (IsLeftOut l s r → ⊥) → IsTakenAlong l w m s r
+partner_holds laws l w m s h i r has present =
     let b = before_call l w m s i r h has in
     let t = b.1 in
     let p = placed_row laws l s b.0 t.first t.row t.value h.on t.has in
+    let sequence = sequence_there laws l w m s b.0 t.first r t.row t.value h p t.skips t.listed in
+    let whole : IsWhole l t.row = λ other. keeps_all l (λ bare. present (
+      bare,
+      inr (inl (inr (record {
+        start = template_start t.row t.first;
+        instruction = instruction_of t.row;
+        first = t.first;
+        of = record { rest = r ∷ []; sequence = sequence; one = (1, omega arith, refl) };
+        other = t.first;
+        one = (0, omega arith, refl);
+        slot = names_slot l t.first t.row h.on p.changing.listed p.changing.changes p.chosen.number other;
+      }))),
+    )) in
     record {
       start = template_start t.row t.first;
       instruction = instruction_of t.row;
       first = t.first;
       rest = r ∷ [];
       one = (0, omega arith, refl);
-      sequence = sequence_there laws l w m s b.0 t.first r t.row t.value h p t.skips t.listed;
-      does = does_row laws l w m s b.0 t.first t.row t.value h p (λ sort. absurd (sequence_sort t.row p.changing t.skips sort));
+      sequence = sequence;
+      does = does_row laws l w m s b.0 t.first t.row t.value h whole p (λ sort. absurd (sequence_sort t.row p.changing t.skips sort));
       words = words_free l w m s t.first (template_start t.row t.first) (instruction_of t.row) h.on;
     }

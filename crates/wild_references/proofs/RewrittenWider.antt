@@ -10,6 +10,7 @@ use Rattle.wild_types.specs.declared.kind.Machine.{Machine}
 use Rattle.wild_types.specs.declared.kind.Machine.TheVariants as machine
 use Rattle.wild_types.specs.declared.input.InputRelocation.{InputRelocation}
 use Rattle.wild_types.specs.declared.layout.Layout.{Layout}
+use Rattle.wild_types.specs.Hollow.{KeepsAll}
 use Rattle.wild_reloc.specs.Field.{written}
 use Rattle.wild_reloc.specs.Formula.{Formula}
 use Rattle.wild_reloc.specs.FormulaX86_64.{x86_64_formula}
@@ -20,7 +21,7 @@ use Rattle.wild_relax.specs.declared.table.TheConstants.{PLAIN_LEA, LEA_2}
 use Rattle.wild_references.proofs.TableRows.{long_there}
 use Rattle.wild_relax.specs.Pattern.{cells_of}
 use Rattle.wild_relax.specs.Linked.{pattern_of, pattern_size, keeps_bytes, linked, template_of}
-use Rattle.wild_relax.specs.Keep.{IsWhole, distance}
+use Rattle.wild_relax.specs.KeepX86_64.{IsWhole, distance}
 use Rattle.wild_layout.specs.declared.decision.Decision.TheVariants.{Rewritten}
 use Rattle.wild_layout.specs.Choice.{question_of}
 use Rattle.wild_layout.specs.Sites.{template_start}
@@ -167,13 +168,13 @@ held_more : (m : Memory) (a b x : ℕ) (bs : List ℕ) → b ≡ a + 1 → byte_
 held_more m a b x bs e first rest zero lt = (let z : a ≡ a + 0 = omega arith in subst (λ (n : ℕ). byte_in m n ≡ Some x) z first)
 held_more m a b x bs e first rest (suc k) lt = (let z : b + k ≡ a + suc k = omega (arith, e) in subst (λ (n : ℕ). byte_in m n ≡ Some (slice_index bs k)) z (rest k (omega (arith, lt))))
 
-pub does_wider : LawsBelow → (l : Layout) (w : World) (m : Memory) (s : Item) (i : ℕ) (r : InputRelocation) (v from : ℕ) → IsLoadedItem machine.X86_64 l w m s → IsWider l s i r v from → DoesDemanded (reads_alone w m) l w m s r from wide_load
-does_wider laws l w m s i r v from h t =
+pub does_wider : LawsBelow → (l : Layout) (w : World) (m : Memory) (s : Item) (i : ℕ) (r : InputRelocation) (v from : ℕ) → IsLoadedItem machine.X86_64 l w m s → KeepsAll l → IsWider l s i r v from → DoesDemanded (reads_alone w m) l w m s r from wide_load
+does_wider laws l w m s i r v from h all t =
     let p = t.plain.row in
     let x = slice_index s.bytes from in
     let old = old_of s PLAIN_LEA r in
     let a = place_at w s from in
-    let far = plain_far laws l w m s i r PLAIN_LEA v h p refl refl p.stands.taken.addend p.stands.taken.symbol p.stands.taken.value in
+    let far = plain_far laws l w m s i r PLAIN_LEA v h all p refl refl p.stands.taken.addend p.stands.taken.symbol p.stands.taken.value in
     let n = far.operand in
     let info = p.made.written.info in
     let known = info_is l w m s i r PLAIN_LEA v h p in

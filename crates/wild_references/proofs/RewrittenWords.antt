@@ -22,13 +22,12 @@ use Rattle.wild_relax.specs.declared.pattern.Pattern.{Pattern}
 use Rattle.wild_relax.specs.declared.pattern.Pattern.TheVariants.{Among}
 use Rattle.wild_relax.specs.declared.pattern.Sequence.{Sequence}
 use Rattle.wild_relax.specs.Linked.{pattern_of, keeps_bytes}
-use Rattle.wild_relax.specs.Question.{Question}
 use Rattle.wild_relax.specs.RewriteX86_64.{rewrite_of, info_written}
 use Rattle.wild_relax.specs.RowsAArch64.{rows_aarch64, chosen_aarch64}
 use Rattle.wild_relax.specs.SequenceAArch64.{words_before}
 use Rattle.wild_relax.specs.TogetherAArch64.{asked_at}
 use Rattle.wild_layout.specs.declared.decision.Decision.{Decision}
-use Rattle.wild_layout.specs.declared.decision.Decision.TheVariants.{Field, Rewritten}
+use Rattle.wild_layout.specs.declared.decision.Decision.TheVariants.{Rewritten}
 use Rattle.wild_layout.specs.Choice.{infos_from, asked_of, question_around, choice_around_by, choice_around, choice_on, is_partner}
 use Rattle.wild_layout.specs.Decide.{place_to, term_to, value_to, rewritten_to, decide_with, decide}
 use Rattle.wild_layout.specs.Values.{value_in}

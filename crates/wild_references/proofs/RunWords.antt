@@ -47,7 +47,7 @@ pub record IsKeptRun (l : Layout) (w : World) (m : Memory) (s : Item) (r : Input
 
 -- ---- a word and its field
 
-same_formula : (l : Layout) (n : ℕ) (f g : Formula) → l.machine ≡ machine.AArch64 → aarch64_formula n ≡ Some f → formula_of l.machine n ≡ Some g → g ≡ f
+pub same_formula : (l : Layout) (n : ℕ) (f g : Formula) → l.machine ≡ machine.AArch64 → aarch64_formula n ≡ Some f → formula_of l.machine n ≡ Some g → g ≡ f
 same_formula l n f g on known there =
     let here : aarch64_formula n ≡ Some g = subst (λ (k : Machine). formula_of k n ≡ Some g) on there in
     let both : Some g ≡ Some f = sym here ∙ known in
@@ -141,7 +141,7 @@ slot_word g n l w m s r q start at o first k t c number place =
 abbrev is_conditional : ℕ → Bool
 is_conditional n = n == r_aarch64_tstbr14 || n == r_aarch64_condbr19
 
-not_conditional : (n : ℕ) → is_conditional n ≡ false → (n ≡ r_aarch64_tstbr14) ⊎ (n ≡ r_aarch64_condbr19) → ⊥
+pub not_conditional : (n : ℕ) → is_conditional n ≡ false → (n ≡ r_aarch64_tstbr14) ⊎ (n ≡ r_aarch64_condbr19) → ⊥
 not_conditional n h (inl e) = (let both : is_conditional r_aarch64_tstbr14 ≡ false = subst (λ (k : ℕ). is_conditional k ≡ false) e h in cc)
 not_conditional n h (inr e) = (let both : is_conditional r_aarch64_condbr19 ≡ false = subst (λ (k : ℕ). is_conditional k ≡ false) e h in cc)
 

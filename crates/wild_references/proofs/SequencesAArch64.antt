@@ -25,7 +25,7 @@ use Rattle.wild_meaning.specs.Formula.{IsReferent, IsReferentOnAArch64, IsOffset
 use Rattle.wild_meaning.specs.ReferentAArch64.{IsAbsent, IsOneAddress}
 use Rattle.wild_meaning.specs.Slot.{IsSlot}
 use Rattle.wild_meaning.specs.Partners.{HasPartner, HasPartners}
-use Rattle.wild_meaning.specs.Template.{reads, DoesDemanded}
+use Rattle.wild_meaning.specs.Template.{IsOfSequence, reads, DoesDemanded}
 use Rattle.wild_meaning.proofs.PairLemmas.{only, only_one, one_of_two}
 use Rattle.wild_references.proofs.Right.{low_place}
 use Rattle.wild_references.proofs.OneAddress.{one_address, one_slot}
@@ -37,7 +37,7 @@ use Rattle.wild_references.proofs.MergedStrings.{one_string}
 
 -- ---- formulas
 
-abbrev page_of_value : Value → Formula
+abbrev pub page_of_value : Value → Formula
 page_of_value v = formula v (Bits AdrField 32 12 (WithinPower 33) 4096)
 
 abbrev low_of_value : Value → Formula
@@ -67,7 +67,7 @@ below n x is = omega (arith, is)
 
 -- ---- a slot of an offset
 
-offset_page : IsOfSlot r_aarch64_tlsie_adr_gottprel_page21 (page_of_value (SlotPageDistance ThreadOffset))
+pub offset_page : IsOfSlot r_aarch64_tlsie_adr_gottprel_page21 (page_of_value (SlotPageDistance ThreadOffset))
 unfolding aarch64_formula
 offset_page = record { known = refl; still = λ h. h; offset = λ h. h; address = λ h. h; other = refl }
 
@@ -103,7 +103,7 @@ slot_pair_run l w m s r start first k =
 
 -- ---- a descriptor's call
 
-call_page : IsOfSlot r_aarch64_tlsdesc_adr_page21 (page_of_value (SlotPageDistance Descriptor))
+pub call_page : IsOfSlot r_aarch64_tlsdesc_adr_page21 (page_of_value (SlotPageDistance Descriptor))
 unfolding aarch64_formula
 call_page = record { known = refl; still = λ h. h; offset = λ h. h; address = λ h. h; other = refl }
 
@@ -220,6 +220,17 @@ one_referent l w m s first second i b a on named same added there (inl low) (inr
 one_referent l w m s first second i b a on named same added there (inr low) (inl high) = absurd (low.0 (tt, names_both l first second (sym same) high.0.1))
 one_referent l w m s first second i b a on named same added there (inr low) (inr high) = one_address l w m i b a (low_stands l w m s second i b on (same ∙ named) low.1) (high_stands l w m s first i a on named there high.1)
 
+-- each of both has a part
+has_part : (r first second : InputRelocation) → Contains (r_aarch64_adr_prel_pg_hi21 ∷ []) first.number → Contains (r_aarch64_add_abs_lo12_nc ∷ []) second.number → second.symbol ≡ first.symbol → (r ≡ first) ⊎ (r ≡ second) → HasPart r first
+has_part r first second a b symbol (inl e) = subst (λ (x : InputRelocation). HasPart x first) (sym e) (record { symbol = refl; formula = page_of_value PageDistance; is = subst (λ (n : ℕ). IsOfAddress n (page_of_value PageDistance)) (sym (only_one r_aarch64_adr_prel_pg_hi21 first.number a)) address_page })
+has_part r first second a b symbol (inr e) = subst (λ (x : InputRelocation). HasPart x first) (sym e) (record { symbol = symbol; formula = low_of_value SymbolPart; is = subst (λ (n : ℕ). IsOfAddress n (low_of_value SymbolPart)) (sym (only_one r_aarch64_add_abs_lo12_nc second.number b)) address_low })
+
+pub part_of : (l : Layout) (s : Item) (r : InputRelocation) (start : ℕ) (first : InputRelocation) → IsOfSequence l s r start address_pair_words first → HasPart r first
+part_of l s r start first t =
+    let q = t.sequence in
+    let two = only l s first start (q.index + 1) (by_word 4 4 r_aarch64_add_abs_lo12_nc) t.rest q.has in
+    has_part r first two.second q.stands.number two.has.number two.has.names.0 (one_of_two first two.second r (subst (λ (rs : List InputRelocation). Contains (first ∷ rs) r) two.is t.one))
+
 address_pair_run : (l : Layout) (w : World) (m : Memory) (s : Item) (r : InputRelocation) (start : ℕ) (first : InputRelocation) → IsKeptRun l w m s r start address_pair_words first → DoesDemanded (reads w m) l w m s first start address_pair_words
 address_pair_run l w m s r start first k =
     let q = k.sequence in
@@ -227,7 +238,7 @@ address_pair_run l w m s r start first k =
     let a = place_at w s start in
     let at : first.offset ≡ start = omega (arith, q.stands.field) in
     let second : Contains (first ∷ k.rest) two.second = subst (λ (rs : List InputRelocation). Contains (first ∷ rs) two.second) (sym two.is) (1, omega arith, refl) in
-    let own = has_part r first two.second q.stands.number two.has.number two.has.names.0 (one_of_two first two.second r (subst (λ (rs : List InputRelocation). Contains (first ∷ rs) r) two.is k.one)) in
+    let own = part_of l s r start first (record { rest = k.rest; sequence = k.sequence; one = k.one }) in
     let high = part_word (page_of_value PageDistance) r_aarch64_adr_prel_pg_hi21 l w m s r first start start first k own address_page refl (0, omega arith, refl) q.stands.number at in
     let low = part_word (low_of_value SymbolPart) r_aarch64_add_abs_lo12_nc l w m s r two.second start (start + 4) first k own address_low two.has.names.0 second two.has.number two.has.field in
     let sum = high.gives.1 in
@@ -248,10 +259,6 @@ address_pair_run l w m s r start first k =
       demands = sum;
       code = by_words (reads w m) l w m s start address_pair_words t (number high.bytes ∷ number low.bytes ∷ []) k.on refl q.stands.inside (λ e h. h) (as_word m a a high.bytes refl high.whole high.held, (as_word m _ _ low.bytes next low.whole low.held, tt)) does;
     }
-  where
-    has_part : (r first second : InputRelocation) → Contains (r_aarch64_adr_prel_pg_hi21 ∷ []) first.number → Contains (r_aarch64_add_abs_lo12_nc ∷ []) second.number → second.symbol ≡ first.symbol → (r ≡ first) ⊎ (r ≡ second) → HasPart r first
-    has_part r first second a b symbol (inl e) = subst (λ (x : InputRelocation). HasPart x first) (sym e) (record { symbol = refl; formula = page_of_value PageDistance; is = subst (λ (n : ℕ). IsOfAddress n (page_of_value PageDistance)) (sym (only_one r_aarch64_adr_prel_pg_hi21 first.number a)) address_page })
-    has_part r first second a b symbol (inr e) = subst (λ (x : InputRelocation). HasPart x first) (sym e) (record { symbol = symbol; formula = low_of_value SymbolPart; is = subst (λ (n : ℕ). IsOfAddress n (low_of_value SymbolPart)) (sym (only_one r_aarch64_add_abs_lo12_nc second.number b)) address_low })
 
 -- ---- any of them
 

@@ -17,7 +17,7 @@ use Rattle.wild_slot.specs.StubAArch64.{stub_aarch64}
 use Rattle.wild_loader.specs.declared.memory.Machine.TheVariants as machines
 use Rattle.wild_loader.specs.declared.memory.Memory.{Memory}
 use Rattle.wild_loader.specs.Memory.{Holds}
-use Rattle.wild_loader.specs.StepLaws.{IsSigned32, StubsOfValuesAreRead, stub_bytes}
+use Rattle.wild_loader.specs.StepLawsX86_64.{IsSigned32, StubsOfValuesAreRead, stub_bytes}
 use Rattle.wild_loader.specs.StepLawsAArch64 as code
 use Rattle.wild_loader.specs.declared.world.World.{World}
 use Rattle.wild_loader.proofs.Mapped.{byte_below}

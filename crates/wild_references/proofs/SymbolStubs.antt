@@ -6,6 +6,7 @@ use Rattle.wild_slot.specs.declared.slot.SlotItem.{SlotItem}
 use Rattle.wild_types.specs.declared.symbol.Resolution.{Resolution}
 use Rattle.wild_types.specs.declared.symbol.ValueFlags.{ValueFlags}
 use Rattle.wild_types.specs.declared.layout.Layout.{Layout}
+use Rattle.wild_types.specs.Hollow.{KeepsAll}
 use Rattle.wild_types.specs.Lookups.{canonical}
 use Rattle.wild_slot.specs.Slots.{setting_of, stub_item, stub_items, ifunc_address_items, canonical_address_items}
 use Rattle.wild_slot.specs.MachineStub.{far_between, far_of, stub_in}
@@ -29,7 +30,7 @@ use Rattle.wild_references.proofs.StubCode.{StubLaws, has_places, stub_goes, stu
 use Rattle.wild_references.proofs.Symbols.{IsResolvedBy, resolved}
 use Rattle.wild_references.proofs.Written.{given_some}
 
--- the stub of a symbol in memory
+-- the stub of a symbol in memory, where all is written
 pub record StubStands (l : Layout) (w : World) (m : Memory) (i stub : ℕ) : Type 0 where
   pub given : HasStub l i stub
   pub below : w.base + stub < 2 ^ 64
@@ -66,8 +67,15 @@ resolved_stub l i stub h = by_resolution (resolution_of l i) refl h
     by_resolution None e h = cc
     by_resolution (Some r) e h = (r, resolved l i r e, h)
 
-pub stub_from : StubLaws → (l : Layout) (w : World) (m : Memory) (i stub : ℕ) (r : Resolution) → IsPlaced l w m → IsResolvedBy l i r → r.plt_address ≡ Some stub → StubStands l w m i stub
-stub_from law l w m i stub r p d f =
+-- where the writer knows of a stub the reader does
+pub stub_there : (l : Layout) (i stub : ℕ) → stub_of l i ≡ Some stub → HasStub l i stub
+stub_there l i stub h =
+    let r = resolved_stub l i stub h in
+    let d = r.1 in
+    record { definition = canonical l i; defined = d.defined; symbol = d.symbol; listed = d.listed; resolution = r.0; decided = d.decided; stub = r.2 }
+
+pub stub_from : StubLaws → (l : Layout) (w : World) (m : Memory) (i stub : ℕ) (r : Resolution) → IsPlaced l w m → KeepsAll l → IsResolvedBy l i r → r.plt_address ≡ Some stub → StubStands l w m i stub
+stub_from law l w m i stub r p all d f =
     let s = d.symbol in
     let fits = symbol_fits l i s p.symbols d.listed in
     let flags : r.flags ≡ s.flags = fits.flags r d.decided in
@@ -76,8 +84,8 @@ stub_from law l w m i stub r p d f =
     let at = slot.0 in
     let e : r.got_address ≡ Some at = sym (ap resolved_got d.decided) ∙ slot.1 in
     let plain : has_thread_slot r.flags ≡ false = ap (λ (f : ValueFlags). has_thread_slot f) flags ∙ not_thread s stub fits.alone has in
-    let first = first_held l w m i at r p d e plain in
-    let held = (p.slots.symbols (canonical l i) at s d.listed slot.1).stub stub has in
+    let first = first_held l w m i at r p all d e plain in
+    let held = ((p.slots all).symbols (canonical l i) at s d.listed slot.1).stub stub has in
     record {
       given = record { definition = canonical l i; defined = d.defined; symbol = s; listed = d.listed; resolution = r; decided = d.decided; stub = f };
       below = stub_below l m w.base at stub held;
@@ -86,9 +94,9 @@ stub_from law l w m i stub r p d f =
       jumps = stub_goes law l m w.base at stub first.value (has_places l w (canonical l i) at s p.paged d.listed slot.1) p.loaded (in_reach l w m at stub r e f first.behind) held first.there;
     }
 
--- where the writer knows of a stub, memory has it
-pub stub_stands : StubLaws → (l : Layout) (w : World) (m : Memory) (i stub : ℕ) → IsPlaced l w m → stub_of l i ≡ Some stub → StubStands l w m i stub
-stub_stands law l w m i stub p h = let r = resolved_stub l i stub h in stub_from law l w m i stub r.0 p r.1 r.2
+-- and memory has it
+pub stub_stands : StubLaws → (l : Layout) (w : World) (m : Memory) (i stub : ℕ) → IsPlaced l w m → KeepsAll l → stub_of l i ≡ Some stub → StubStands l w m i stub
+stub_stands law l w m i stub p all h = let r = resolved_stub l i stub h in stub_from law l w m i stub r.0 p all r.1 r.2
 
 -- ---- it reaches the value
 
@@ -104,16 +112,16 @@ pub stub_is : (l : Layout) (w : World) (m : Memory) (i stub : ℕ) → StubStand
 stub_is l w m i stub h = record { stub = stub; given = h.given; moves = refl; value = h.value; is = h.is; reaches = stub_reaches l w m i stub h }
 
 -- the writer's L is the reader's
-pub goal_given : StubLaws → (l : Layout) (w : World) (m : Memory) (symbol : Option ℕ) (i term : ℕ) → IsPlaced l w m → symbol ≡ Some i → stub_address l symbol ≡ Ok term → IsTarget l w m symbol ((w.base + term) % 2 ^ 64)
-goal_given law l w m symbol i term p named given =
+pub goal_given : StubLaws → (l : Layout) (w : World) (m : Memory) (symbol : Option ℕ) (i term : ℕ) → IsPlaced l w m → KeepsAll l → symbol ≡ Some i → stub_address l symbol ≡ Ok term → IsTarget l w m symbol ((w.base + term) % 2 ^ 64)
+goal_given law l w m symbol i term p all named given =
     let here : stub_address l (Some i) ≡ Ok term = subst (λ (o : Option ℕ). stub_address l o ≡ Ok term) named given in
-    let goal : Denotes l w m i ((w.base + term) % 2 ^ 64) = inr (stub_is l w m i term (stub_stands law l w m i term p (given_some missing.Stub i (stub_of l i) term here))) in
+    let goal : Denotes l w m i ((w.base + term) % 2 ^ 64) = inr (stub_is l w m i term (stub_stands law l w m i term p all (given_some missing.Stub i (stub_of l i) term here))) in
     subst (λ (o : Option ℕ). IsTarget l w m o ((w.base + term) % 2 ^ 64)) (sym named) goal
 
 -- and it is L to an AArch64 reader: a branch with the addend is at what stands for the symbol and that; and S in a distance
-pub goal_stands : StubLaws → (v : Value) (l : Layout) (w : World) (m : Memory) (r : InputRelocation) (i term : ℕ) → IsPlaced l w m → (v ≡ StubDistance) ⊎ (v ≡ Distance) → stub_address l (Some i) ≡ Ok term → StandsOnAArch64 v l w m r i ((w.base + term) % 2 ^ 64)
-goal_stands law v l w m r i term p which given =
-    let there : Denotes l w m i ((w.base + term) % 2 ^ 64) = inr (stub_is l w m i term (stub_stands law l w m i term p (given_some missing.Stub i (stub_of l i) term given))) in
+pub goal_stands : StubLaws → (v : Value) (l : Layout) (w : World) (m : Memory) (r : InputRelocation) (i term : ℕ) → IsPlaced l w m → KeepsAll l → (v ≡ StubDistance) ⊎ (v ≡ Distance) → stub_address l (Some i) ≡ Ok term → StandsOnAArch64 v l w m r i ((w.base + term) % 2 ^ 64)
+goal_stands law v l w m r i term p all which given =
+    let there : Denotes l w m i ((w.base + term) % 2 ^ 64) = inr (stub_is l w m i term (stub_stands law l w m i term p all (given_some missing.Stub i (stub_of l i) term given))) in
     let P : Value → Type 0 = λ q. StandsOnAArch64 q l w m r i ((w.base + term) % 2 ^ 64) in
     elim which [
       | inl e ↦ subst P (sym e) (record { symbol = (w.base + term) % 2 ^ 64; denoted = there; comes = inl refl })

@@ -5,6 +5,7 @@ use Rattle.std.proofs.lemmas.Bool.{cases_Bool}
 use Rattle.wild_types.specs.declared.fault.Missing.TheVariants as missing
 use Rattle.wild_types.specs.declared.symbol.ValueFlags.{ValueFlags}
 use Rattle.wild_types.specs.declared.layout.Layout.{Layout}
+use Rattle.wild_types.specs.Hollow.{KeepsAll}
 use Rattle.wild_types.specs.Flags.{has_flag, absolute, ifunc}
 use Rattle.wild_slot.specs.Treatment.{flags_at}
 use Rattle.wild_layout.specs.SymbolValues.{raw_address}
@@ -14,14 +15,14 @@ use Rattle.wild_loader.specs.declared.world.World.{World}
 use Rattle.wild_meaning.specs.Formula.{IsTarget}
 use Rattle.wild_meaning.specs.Reference.{IsStubbed}
 use Rattle.wild_meaning.specs.Value.{HasRaw, HasFlag, HasOwnValue, HasValue, IsAbsolute, IsReplaceable, moved}
-use Rattle.wild_meaning.specs.Denotes.{Denotes}
+use Rattle.wild_meaning.specs.Denotes.{Denotes, HasStub}
 use Rattle.wild_meaning.specs.ReferentAArch64.{IsOneAddress}
 use Rattle.wild_geometry.proofs.JudgedLemmas.{flag_is}
 use Rattle.wild_references.specs.Terms.{IsPlaced}
 use Rattle.wild_references.proofs.SlotFlags.{symbol_fits, resolver_not_absolute, listed_at}
 use Rattle.wild_references.proofs.Symbols.{definition_listed, flags_are}
 use Rattle.wild_references.proofs.Stubbed.{raw_is, stub_given, one_stub, stubbed_or_not}
-use Rattle.wild_references.proofs.SymbolStubs.{StubStands, stub_stands, stub_is}
+use Rattle.wild_references.proofs.SymbolStubs.{stub_there, stub_stands, stub_is}
 use Rattle.wild_references.proofs.Values.{has_raw}
 use Rattle.wild_references.proofs.Written.{address_given, given_some}
 use Rattle.wild_references.proofs.StubCode.{StubLaws}
@@ -36,6 +37,10 @@ pub record IsAddressed (l : Layout) (w : World) (m : Memory) (symbol : Option �
 -- whichever module has the symbol, this output's address is right for it: the symbol is its own, or the address is its stub's
 abbrev pub Follows : Layout → ℕ → Type 0
 Follows l i = IsReplaceable l i false ⊎ IsStubbed l i
+
+-- its stub is written, or the address is no stub's
+abbrev pub Stands : Layout → ℕ → Type 0
+Stands l i = KeepsAll l ⊎ (IsStubbed l i → ⊥)
 
 -- the own symbol's value
 pub record IsOwnAddressed (l : Layout) (w : World) (i a : ℕ) : Type 0 where
@@ -77,29 +82,29 @@ own_addressed l w m i a own t = record {
 }
 
 -- the stub's, which moves with the base
-stub_moves : StubLaws → (l : Layout) (w : World) (m : Memory) (i a : ℕ) → IsPlaced l w m → has_flag (flags_at l i) absolute ≡ false → stub_of l i ≡ Some a → IsAddressed l w m (Some i) a
-stub_moves law l w m i a p moves h = record {
+stub_moves : StubLaws → (l : Layout) (w : World) (m : Memory) (i a : ℕ) → IsPlaced l w m → KeepsAll l → has_flag (flags_at l i) absolute ≡ false → stub_of l i ≡ Some a → IsAddressed l w m (Some i) a
+stub_moves law l w m i a p all moves h = record {
   still = false;
-  denoted = inr (stub_is l w m i a (stub_stands law l w m i a p h));
+  denoted = inr (stub_is l w m i a (stub_stands law l w m i a p all h));
   flag = λ j e. (let same : i ≡ j = cc in subst (λ (k : ℕ). has_flag (flags_at l k) absolute ≡ false) same moves);
   absolute = λ j e t. cc;
 }
 
 -- where a resolver chooses the function
-chosen_moves : StubLaws → (l : Layout) (w : World) (m : Memory) (i a : ℕ) → IsPlaced l w m → is_chosen l i ≡ true → stub_of l i ≡ Some a → StubStands l w m i a × (has_flag (flags_at l i) absolute ≡ false)
-chosen_moves law l w m i a p chosen h =
-    let stub = stub_stands law l w m i a p h in
-    let s = stub.given.symbol in
-    let flags = flags_are l i stub.given.definition s stub.given.defined stub.given.listed in
-    let fits = symbol_fits l i s p.symbols (listed_at l i stub.given.definition s stub.given.defined stub.given.listed) in
+chosen_moves : (l : Layout) (w : World) (m : Memory) (i a : ℕ) → IsPlaced l w m → is_chosen l i ≡ true → stub_of l i ≡ Some a → HasStub l i a × (has_flag (flags_at l i) absolute ≡ false)
+chosen_moves l w m i a p chosen h =
+    let given = stub_there l i a h in
+    let s = given.symbol in
+    let flags = flags_are l i given.definition s given.defined given.listed in
+    let fits = symbol_fits l i s p.symbols (listed_at l i given.definition s given.defined given.listed) in
     let moves : has_flag s.flags absolute ≡ false = resolver_not_absolute s fits.moves (sym (ap (λ (f : ValueFlags). has_flag f ifunc) flags) ∙ chosen) in
-    (stub, ap (λ (f : ValueFlags). has_flag f absolute) flags ∙ moves)
+    (given, ap (λ (f : ValueFlags). has_flag f absolute) flags ∙ moves)
 
 -- whose address is the stub's
-chosen_stubbed : StubLaws → (l : Layout) (w : World) (m : Memory) (i a : ℕ) → IsPlaced l w m → is_chosen l i ≡ true → stub_of l i ≡ Some a → IsStubbed l i
-chosen_stubbed law l w m i a p chosen h =
-    let c = chosen_moves law l w m i a p chosen h in
-    let g = c.0.given in
+pub chosen_stubbed : (l : Layout) (w : World) (m : Memory) (i a : ℕ) → IsPlaced l w m → is_chosen l i ≡ true → stub_of l i ≡ Some a → IsStubbed l i
+chosen_stubbed l w m i a p chosen h =
+    let c = chosen_moves l w m i a p chosen h in
+    let g = c.0 in
     record {
       stub = a;
       there = g;
@@ -119,20 +124,24 @@ stubbed_address l i a plain h st = by_case st.stands
         let stubs = raw_is l i st.stub t.definition t.symbol t.resolution raw t.defined t.listed t.decided in
         stub_given l i st.stub t ∙ ap (λ (n : ℕ). Some n) (stubs ∙ sym mine)
 
-followed_by : StubLaws → (l : Layout) (w : World) (m : Memory) (i a : ℕ) → IsPlaced l w m → Follows l i → address_of l (Some i) ≡ Ok a → IsAddressed l w m (Some i) a
-followed_by law l w m i a p f h =
+followed_by : StubLaws → (l : Layout) (w : World) (m : Memory) (i a : ℕ) → IsPlaced l w m → Stands l i → Follows l i → address_of l (Some i) ≡ Ok a → IsAddressed l w m (Some i) a
+followed_by law l w m i a p stands f h =
     elim (cases_Bool (is_chosen l i)) [
-      | inl t ↦ (let there = given_some missing.Stub i (stub_of l i) a (rw t at h) in stub_moves law l w m i a p (chosen_moves law l w m i a p t there).1 there)
+      | inl t ↦ (let there = given_some missing.Stub i (stub_of l i) a (rw t at h) in by_stub stands (chosen_moves l w m i a p t there).1 there (chosen_stubbed l w m i a p t there))
       | inr n ↦ plain n f (rw n at h)
     ]
   where
+    by_stub : Stands l i → has_flag (flags_at l i) absolute ≡ false → stub_of l i ≡ Some a → IsStubbed l i → IsAddressed l w m (Some i) a
+    by_stub (inl all) moves there st = stub_moves law l w m i a p all moves there
+    by_stub (inr none) moves there st = absurd (none st)
+
     plain : is_chosen l i ≡ false → Follows l i → raw_address l (Some i) ≡ Ok a → IsAddressed l w m (Some i) a
     plain n (inl own) h = own_addressed l w m i a own (raw_addressed l w m i a p n h)
-    plain n (inr st) h = stub_moves law l w m i a p (flag_is l i absolute false st.moves) (stubbed_address l i a n h st)
+    plain n (inr st) h = by_stub stands (flag_is l i absolute false st.moves) (stubbed_address l i a n h st) st
 
 -- it is the one address that stands for the symbol
-pub one_addressed : StubLaws → (l : Layout) (w : World) (m : Memory) (i a : ℕ) (still : Bool) → IsPlaced l w m → Follows l i → address_of l (Some i) ≡ Ok a → has_flag (flags_at l i) absolute ≡ still → Denotes l w m i (moved still w.base a) → IsOneAddress l w m i (moved still w.base a)
-one_addressed law l w m i a still p f h flag denoted = by_stub (stubbed_or_not l i)
+pub one_addressed : (l : Layout) (w : World) (m : Memory) (i a : ℕ) (still : Bool) → IsPlaced l w m → Follows l i → address_of l (Some i) ≡ Ok a → has_flag (flags_at l i) absolute ≡ still → Denotes l w m i (moved still w.base a) → IsOneAddress l w m i (moved still w.base a)
+one_addressed l w m i a still p f h flag denoted = by_stub (stubbed_or_not l i)
   where
     given : IsStubbed l i → stub_of l i ≡ Some a
     given st =
@@ -145,7 +154,7 @@ one_addressed law l w m i a still p f h flag denoted = by_stub (stubbed_or_not l
     value none (inr st) = absurd (none st)
     value none (inl own) =
         elim (cases_Bool (is_chosen l i)) [
-          | inl t ↦ absurd (none (chosen_stubbed law l w m i a p t (given_some missing.Stub i (stub_of l i) a (rw t at h))))
+          | inl t ↦ absurd (none (chosen_stubbed l w m i a p t (given_some missing.Stub i (stub_of l i) a (rw t at h))))
           | inr n ↦
               (let o = raw_addressed l w m i a p n (rw n at h) in
               let same : o.still ≡ still = sym o.flag ∙ flag in
@@ -160,14 +169,14 @@ one_addressed law l w m i a still p f h flag denoted = by_stub (stubbed_or_not l
         inl (st.stub, record { stub = st.there; stands = st.stands; moves = st.moves }, at ∙ ap (λ (n : ℕ). (w.base + n) % 2 ^ 64) same, denoted)
     by_stub (inr none) = inr (λ q s. none (record { stub = q; there = s.stub; stands = s.stands; moves = s.moves }), value none f)
 
-pub addressed : StubLaws → (l : Layout) (w : World) (m : Memory) (symbol : Option ℕ) (a : ℕ) → IsPlaced l w m → ((i : ℕ) → symbol ≡ Some i → Follows l i) → address_of l symbol ≡ Ok a → IsAddressed l w m symbol a
-addressed law l w m None a p f h = record { still = true; denoted = address_given l None a h; flag = λ i e. cc; absolute = λ i e t. cc }
-addressed law l w m (Some i) a p f h = followed_by law l w m i a p (f i refl) h
+pub addressed : StubLaws → (l : Layout) (w : World) (m : Memory) (symbol : Option ℕ) (a : ℕ) → IsPlaced l w m → ((i : ℕ) → symbol ≡ Some i → Stands l i) → ((i : ℕ) → symbol ≡ Some i → Follows l i) → address_of l symbol ≡ Ok a → IsAddressed l w m symbol a
+addressed law l w m None a p stands f h = record { still = true; denoted = address_given l None a h; flag = λ i e. cc; absolute = λ i e t. cc }
+addressed law l w m (Some i) a p stands f h = followed_by law l w m i a p (stands i refl) (f i refl) h
 
 -- of a symbol without such a stub it is the own symbol's
-pub linked : StubLaws → (l : Layout) (w : World) (m : Memory) (i a : ℕ) → IsPlaced l w m → (IsStubbed l i → ⊥) → address_of l (Some i) ≡ Ok a → IsOwnAddressed l w i a
-linked law l w m i a p alone h =
+pub linked : (l : Layout) (w : World) (m : Memory) (i a : ℕ) → IsPlaced l w m → (IsStubbed l i → ⊥) → address_of l (Some i) ≡ Ok a → IsOwnAddressed l w i a
+linked l w m i a p alone h =
     elim (cases_Bool (is_chosen l i)) [
-      | inl t ↦ absurd (alone (chosen_stubbed law l w m i a p t (given_some missing.Stub i (stub_of l i) a (rw t at h))))
+      | inl t ↦ absurd (alone (chosen_stubbed l w m i a p t (given_some missing.Stub i (stub_of l i) a (rw t at h))))
       | inr n ↦ raw_addressed l w m i a p n (rw n at h)
     ]

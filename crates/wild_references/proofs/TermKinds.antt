@@ -6,6 +6,7 @@ use Rattle.wild_types.specs.declared.kind.Machine.{Machine}
 use Rattle.wild_types.specs.declared.kind.Machine.TheVariants as machine
 use Rattle.wild_types.specs.declared.input.InputRelocation.{InputRelocation}
 use Rattle.wild_types.specs.declared.layout.Layout.{Layout}
+use Rattle.wild_types.specs.Hollow.{KeepsAll}
 use Rattle.wild_types.specs.Lookups.{place_of}
 use Rattle.wild_slot.specs.declared.treatment.Treatment.TheVariants as treatments
 use Rattle.wild_slot.specs.Treatment.{named, kind_treatment, is_slot, suits}
@@ -25,7 +26,7 @@ use Rattle.wild_reloc.specs.declared.info.RelocationKind.{RelocationKind}
 use Rattle.wild_reloc.specs.declared.info.RelocationKind.TheVariants as kinds
 use Rattle.wild_reloc.specs.declared.info.RelocationKindInfo.{RelocationKindInfo}
 use Rattle.wild_layout.specs.SlotValues.{stub_address}
-use Rattle.wild_layout.specs.Values.{term_value, term_of, value_less, is_absent, is_place, is_symbol, is_own_place, undefined_weak_target, term_by}
+use Rattle.wild_layout.specs.Values.{term_value, value_less, is_absent, is_place, is_symbol, is_own_place, undefined_weak_target, term_by}
 use Rattle.wild_loader.specs.declared.memory.Memory.{Memory}
 use Rattle.wild_loader.specs.declared.world.World.{World}
 use Rattle.wild_types.specs.Item.{Item}
@@ -33,7 +34,7 @@ use Rattle.wild_meaning.specs.Item.{place_at}
 use Rattle.wild_meaning.specs.Formula.{page_of, IsReferent, IsPlaceRelative, HasOffsetMode, Gives, GivesLinked, TakesAddress, TakesOffset, TakesString}
 use Rattle.wild_meaning.specs.Slot.{IsSlot}
 use Rattle.wild_meaning.specs.Reference.{IsStubbed}
-use Rattle.wild_references.specs.Terms.{IsPlaced, is_expressed, value_by_row, HasTerm, IsFollowed}
+use Rattle.wild_references.specs.Terms.{IsPlaced, is_expressed, value_by_row, IsDirect, HasTerm, IsFollowed}
 use Rattle.wild_references.specs.Laws.{RowGives, RowGivesLinked, TermGives, TermGivesLinked, StubsStand, SlotsGive, GivesPart, PartsGive, PartsGiveLinked}
 use Rattle.wild_references.proofs.AddressSlots.{slots_stand}
 use Rattle.wild_references.proofs.DescriptorSlots.{descriptors_stand}
@@ -65,13 +66,13 @@ symbols_give law = λ info e v. by_kind law info (symbol_kind info.kind e v)
     by_kind law info (inr (inl k)) = gives_distance law info k
     by_kind law info (inr (inr k)) = gives_from_table law info k
 
-pub symbols_link : StubLaws → TermGivesLinked term.Symbol
-symbols_link law = λ info e v. by_kind law info e (symbol_kind info.kind e v)
+pub symbols_link : TermGivesLinked term.Symbol
+symbols_link = λ info e v. by_kind info e (symbol_kind info.kind e v)
   where
-    by_kind : StubLaws → (info : RelocationKindInfo) → (expression_of info.kind).term ≡ term.Symbol → (info.kind ≡ kinds.Absolute) ⊎ ((info.kind ≡ kinds.Relative) ⊎ (info.kind ≡ kinds.SymRelGotBase)) → RowGivesLinked info
-    by_kind law info e (inl k) = links_address law info e (ap (λ (j : RelocationKind). (expression_of j).taken) k)
-    by_kind law info e (inr (inl k)) = links_distance law info k
-    by_kind law info e (inr (inr k)) = links_from_table law info k
+    by_kind : (info : RelocationKindInfo) → (expression_of info.kind).term ≡ term.Symbol → (info.kind ≡ kinds.Absolute) ⊎ ((info.kind ≡ kinds.Relative) ⊎ (info.kind ≡ kinds.SymRelGotBase)) → RowGivesLinked info
+    by_kind info e (inl k) = links_address info e (ap (λ (j : RelocationKind). (expression_of j).taken) k)
+    by_kind info e (inr (inl k)) = links_distance info k
+    by_kind info e (inr (inr k)) = links_from_table info k
 
 -- ---- L
 
@@ -87,6 +88,9 @@ stub_refers law v l w m s r info x h stub treated which place none = by_own (is_
     relative_by (inl e) = subst IsPlaceRelative (sym e) tt
     relative_by (inr e) = subst IsPlaceRelative (sym e) tt
 
+    whole : is_own_place l.machine l r info ≡ false → KeepsAll l
+    whole e = elim h.present [ inl all ↦ all | inr own ↦ (let both : true ≡ false = sym (subst (λ (t : Term). IsDirect l r info t) stub own) ∙ e in cc) ]
+
     by_own : (b : Bool) → is_own_place l.machine l r info ≡ b → (if b then Ok (undefined_weak_target r.number (place_of s.address r)) else term_by l r (expression_of info.kind).term) ≡ Ok h.term → IsReferent l.machine v l w m s r ((w.base + h.term) % 2 ^ 64)
     by_own true e g =
         let o = own_parts l.machine l r info e in
@@ -99,10 +103,10 @@ stub_refers law v l w m s r info x h stub treated which place none = by_own (is_
     by_own false e g =
         let i = symbol_named r.symbol (λ i. treatments.Value h.row) h.row treated in
         let given : stub_address l r.symbol ≡ Ok h.term = subst (λ (t : Term). term_by l r t ≡ Ok h.term) stub g in
-        referent v l w m s r ((w.base + h.term) % 2 ^ 64) none (goal_given law l w m r.symbol i.0 h.term h.placed i.1 given)
+        referent v l w m s r ((w.base + h.term) % 2 ^ 64) none (goal_given law l w m r.symbol i.0 h.term h.placed (whole e) i.1 given)
         (λ j n on. (
           λ own. present l j (subst (λ (o : Option ℕ). is_absent l o ≡ false) n (not_own l.machine l r info e on (ap is_symbol stub) (place on))) own.1,
-          goal_stands law v l w m r j h.term h.placed (distance on which) (subst (λ (o : Option ℕ). stub_address l o ≡ Ok h.term) n given),
+          goal_stands law v l w m r j h.term h.placed (whole e) (distance on which) (subst (λ (o : Option ℕ). stub_address l o ≡ Ok h.term) n given),
         ))
 
 stub_kind : (k : RelocationKind) → (expression_of k).term ≡ term.Stub → (k ≡ kinds.PltRelative) ⊎ (k ≡ kinds.PltRelGotBase)
@@ -164,7 +168,7 @@ stubs_give law = λ info e v. by_kind law info (stub_kind info.kind e)
 
 -- ---- G
 
--- the slots of each sort are the reader's, and stand in memory
+-- the slots of each sort are the reader's, and stand in memory where all is written
 slots_agree : (sort : SlotSort) (l : Layout) (w : World) (m : Memory) → IsPlaced l w m → SlotsAgree sort l
 slots_agree sorts.Address l w m p = address_slots l p.symbols.own
 slots_agree sorts.Pair l w m p = pair_slots l p.symbols.own
@@ -172,12 +176,12 @@ slots_agree sorts.OwnPair l w m p = own_pair_slot l
 slots_agree sorts.Offset l w m p = offset_slots l p.symbols.own
 slots_agree sorts.Descriptor l w m p = descriptor_slots l p.symbols.own
 
-all_stand : StubLaws → (sort : SlotSort) (l : Layout) (w : World) (m : Memory) → IsPlaced l w m → SlotsStand sort l w m
-all_stand law sorts.Address l w m p = slots_stand law l w m p
-all_stand law sorts.Pair l w m p = pairs_stand l w m p
-all_stand law sorts.OwnPair l w m p = own_pair_stands l w m p
-all_stand law sorts.Offset l w m p = offsets_stand l w m p
-all_stand law sorts.Descriptor l w m p = descriptors_stand l w m p
+all_stand : StubLaws → (sort : SlotSort) (l : Layout) (w : World) (m : Memory) → IsPlaced l w m → KeepsAll l → SlotsStand sort l w m
+all_stand law sorts.Address l w m p all = slots_stand law l w m p all
+all_stand law sorts.Pair l w m p all = pairs_stand l w m p all
+all_stand law sorts.OwnPair l w m p all = own_pair_stands l w m p all
+all_stand law sorts.Offset l w m p all = offsets_stand l w m p all
+all_stand law sorts.Descriptor l w m p all = descriptors_stand l w m p all
 
 -- a kind of a slot needs a symbol
 slot_named : (sort : SlotSort) (k : RelocationKind) (l : Layout) (s : Item) (r : InputRelocation) (number : ℕ) (row : RelocationKindInfo) → (expression_of k).term ≡ term.Slot sort → kind_treatment l s.flags number r.symbol row k ≡ treatments.Value row → (i : ℕ) × (r.symbol ≡ Some i)
@@ -204,7 +208,8 @@ slot_here : StubLaws → (sort : SlotSort) (l : Layout) (w : World) (m : Memory)
 slot_here law sort l w m s r info x h e =
     let i = slot_named sort info.kind l s r h.number h.row e h.treated in
     let plain = plain_term l w m s r info x h (ap is_symbol e) in
-    slot_given sort l w m r.symbol i.0 h.term (slots_agree sort l w m h.placed) (all_stand law sort l w m h.placed) i.1 (subst (λ (t : Term). term_value l r.symbol t ≡ Ok h.term) e plain)
+    let all : KeepsAll l = elim h.present [ inl all ↦ all | inr none ↦ absurd (subst (λ (t : Term). IsDirect l r info t) e none) ] in
+    slot_given sort l w m r.symbol i.0 h.term (slots_agree sort l w m h.placed) (all_stand law sort l w m h.placed all) i.1 (subst (λ (t : Term). term_value l r.symbol t ≡ Ok h.term) e plain)
 
 -- on AArch64 nothing is added to it
 adds_nothing : (k : Machine) (r : InputRelocation) (info : RelocationKindInfo) (sort : SlotSort) → k ≡ machine.AArch64 → suits k r info ≡ true → (expression_of info.kind).term ≡ term.Slot sort → more r ≡ 0
@@ -344,12 +349,12 @@ no_slot sort info e f mask takes = neither (subst (λ (v : Value). TakesOffset v
     neither (inl o) = o
     neither (inr a) = a
 
-pub parts_link : StubLaws → PartsGiveLinked
-parts_link law = λ info c l w m s r x i h zero named whose alone takes. by_term law info (part_kind info.kind c).0 (part_kind info.kind c).1 l w m s r x i h zero named whose alone takes
+pub parts_link : PartsGiveLinked
+parts_link = λ info c l w m s r x i h zero named whose alone takes. by_term info (part_kind info.kind c).0 (part_kind info.kind c).1 l w m s r x i h zero named whose alone takes
   where
-    by_term : StubLaws → (info : RelocationKindInfo) → (expression_of info.kind).taken ≡ taken.Nothing → ((expression_of info.kind).term ≡ term.Symbol) ⊎ ((sort : SlotSort) × ((expression_of info.kind).term ≡ term.Slot sort)) → (l : Layout) (w : World) (m : Memory) (s : Item) (r : InputRelocation) (x i : ℕ) → HasTerm l w m s r info x → w.base ≡ 0 → r.symbol ≡ Some i → IsReplaceable l i true → (IsStubbed l i → ⊥) ⊎ TakesOffset (value_by_row info) → TakesOffset (value_by_row info) ⊎ TakesAddress (value_by_row info) → GivesLinked (value_by_row info) l w s r x
-    by_term law info nothing (inl symbol) l w m s r x i h zero named whose alone takes = links_address law info symbol nothing l w m s r x i h zero named whose alone
-    by_term law info nothing (inr slot) l w m s r x i h zero named whose alone takes =
+    by_term : (info : RelocationKindInfo) → (expression_of info.kind).taken ≡ taken.Nothing → ((expression_of info.kind).term ≡ term.Symbol) ⊎ ((sort : SlotSort) × ((expression_of info.kind).term ≡ term.Slot sort)) → (l : Layout) (w : World) (m : Memory) (s : Item) (r : InputRelocation) (x i : ℕ) → HasTerm l w m s r info x → w.base ≡ 0 → r.symbol ≡ Some i → IsReplaceable l i true → (IsStubbed l i → ⊥) ⊎ TakesOffset (value_by_row info) → TakesOffset (value_by_row info) ⊎ TakesAddress (value_by_row info) → GivesLinked (value_by_row info) l w s r x
+    by_term info nothing (inl symbol) l w m s r x i h zero named whose alone takes = links_address info symbol nothing l w m s r x i h zero named whose alone
+    by_term info nothing (inr slot) l w m s r x i h zero named whose alone takes =
         let fit = subst (λ (t : Term). is_expressed l.machine t taken.Nothing info.mask ≡ true) slot.1 (subst (λ (u : Taken). is_expressed l.machine (expression_of info.kind).term u info.mask ≡ true) nothing h.expressed) in
         absurd (no_slot slot.0 info slot.1 nothing (no_mask l.machine (term.Slot slot.0) taken.Nothing info.mask fit refl) takes)
 

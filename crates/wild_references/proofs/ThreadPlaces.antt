@@ -12,6 +12,7 @@ use Rattle.wild_slot.specs.declared.slot.SlotWord.{SlotWord}
 use Rattle.wild_slot.specs.declared.slot.SlotWord.TheVariants.{Number, General}
 use Rattle.wild_types.specs.declared.symbol.Resolution.{Resolution}
 use Rattle.wild_types.specs.declared.layout.Layout.{Layout}
+use Rattle.wild_types.specs.Hollow.{KeepsAll}
 use Rattle.wild_types.specs.Flags.{has_flag, got_tls_offset, got_tls_module, got_tls_descriptor}
 use Rattle.wild_slot.specs.Slots.{setting_of, storage_pair}
 use Rattle.wild_needs.specs.SlotShares.{storage_at, storage_words}
@@ -47,17 +48,17 @@ middle_of false false c h = cc
 
 -- ---- the offset
 
-offset_stands : (l : Layout) (w : World) (m : Memory) (i at : ℕ) (r : Resolution) → IsPlaced l w m → IsResolvedBy l i r → r.got_address ≡ Some at → has_flag r.flags got_tls_offset ≡ true → SlotStands ThreadOffset l w m i at
-offset_stands l w m i at r p d e asked =
+offset_stands : (l : Layout) (w : World) (m : Memory) (i at : ℕ) (r : Resolution) → IsPlaced l w m → KeepsAll l → IsResolvedBy l i r → r.got_address ≡ Some at → has_flag r.flags got_tls_offset ≡ true → SlotStands ThreadOffset l w m i at
+offset_stands l w m i at r p all d e asked =
     let thread : has_thread_slot r.flags ≡ true = or_left (has_flag r.flags got_tls_offset) (has_flag r.flags got_tls_module || has_flag r.flags got_tls_descriptor) asked in
-    let x = offset_first l w m i at r p d asked (thread_held l w m i at r p d e thread) in
+    let x = offset_first l w m i at r p d asked (thread_held l w m i at r p all d e thread) in
     record { holds = (x.value, x.there, x.is); below = word_below m (w.base + at) x.value x.there }
 
-pub offsets_stand : (l : Layout) (w : World) (m : Memory) → IsPlaced l w m → SlotsStand sorts.Offset l w m
-offsets_stand l w m p = λ i slot h. by_slot sorts.Offset l i slot (λ (n : ℕ). SlotStands ThreadOffset l w m i n) h (λ r at d e among. by_flag i slot r at d e (has_flag r.flags got_tls_offset) refl among)
+pub offsets_stand : (l : Layout) (w : World) (m : Memory) → IsPlaced l w m → KeepsAll l → SlotsStand sorts.Offset l w m
+offsets_stand l w m p all = λ i slot h. by_slot sorts.Offset l i slot (λ (n : ℕ). SlotStands ThreadOffset l w m i n) h (λ r at d e among. by_flag i slot r at d e (has_flag r.flags got_tls_offset) refl among)
   where
     by_flag : (i slot : ℕ) (r : Resolution) (at : ℕ) → IsResolvedBy l i r → r.got_address ≡ Some at → (b : Bool) → has_flag r.flags got_tls_offset ≡ b → (if b then Some at else None) ≡ Some slot → SlotStands ThreadOffset l w m i slot
-    by_flag i slot r at d e true asked h = let same : at ≡ slot = cc in subst (λ (n : ℕ). SlotStands ThreadOffset l w m i n) same (offset_stands l w m i at r p d e asked)
+    by_flag i slot r at d e true asked h = let same : at ≡ slot = cc in subst (λ (n : ℕ). SlotStands ThreadOffset l w m i n) same (offset_stands l w m i at r p all d e asked)
     by_flag i slot r at d e false asked h = cc
 
 -- ---- the pair
@@ -65,8 +66,8 @@ offsets_stand l w m p = λ i slot h. by_slot sorts.Offset l i slot (λ (n : ℕ)
 pair_at : (l : Layout) (w : World) (m : Memory) (i at : ℕ) → HasPair l w m i at → SlotStands ModulePair l w m i at
 pair_at l w m i at h = record { holds = (h.offset, h.pair, h.is); below = word_below m (w.base + at) h.owner h.first }
 
-pair_stands : (l : Layout) (w : World) (m : Memory) (i at : ℕ) (r : Resolution) (offset : Bool) → IsPlaced l w m → IsResolvedBy l i r → r.got_address ≡ Some at → has_flag r.flags got_tls_module ≡ true → has_flag r.flags got_tls_offset ≡ offset → SlotStands ModulePair l w m i (behind_word offset at)
-pair_stands l w m i at r offset p d e asked is = by_offset offset (pair_behind l w m i at r offset p d asked is (thread_held l w m i at r p d e thread))
+pair_stands : (l : Layout) (w : World) (m : Memory) (i at : ℕ) (r : Resolution) (offset : Bool) → IsPlaced l w m → KeepsAll l → IsResolvedBy l i r → r.got_address ≡ Some at → has_flag r.flags got_tls_module ≡ true → has_flag r.flags got_tls_offset ≡ offset → SlotStands ModulePair l w m i (behind_word offset at)
+pair_stands l w m i at r offset p all d e asked is = by_offset offset (pair_behind l w m i at r offset p d asked is (thread_held l w m i at r p all d e thread))
   where
     thread : has_thread_slot r.flags ≡ true
     thread = middle_of (has_flag r.flags got_tls_offset) (has_flag r.flags got_tls_module) (has_flag r.flags got_tls_descriptor) asked
@@ -79,13 +80,13 @@ pair_stands l w m i at r offset p d e asked is = by_offset offset (pair_behind l
         let same : (at + 8) % 2 ^ 64 ≡ at + 8 = omega (arith, low) in
         subst (λ (n : ℕ). SlotStands ModulePair l w m i n) (sym same) there
 
-pub pairs_stand : (l : Layout) (w : World) (m : Memory) → IsPlaced l w m → SlotsStand sorts.Pair l w m
-pairs_stand l w m p = λ i slot h. by_slot sorts.Pair l i slot (λ (n : ℕ). SlotStands ModulePair l w m i n) h (λ r at d e among. by_flag i slot r at d e (has_flag r.flags got_tls_module) refl among)
+pub pairs_stand : (l : Layout) (w : World) (m : Memory) → IsPlaced l w m → KeepsAll l → SlotsStand sorts.Pair l w m
+pairs_stand l w m p all = λ i slot h. by_slot sorts.Pair l i slot (λ (n : ℕ). SlotStands ModulePair l w m i n) h (λ r at d e among. by_flag i slot r at d e (has_flag r.flags got_tls_module) refl among)
   where
     by_flag : (i slot : ℕ) (r : Resolution) (at : ℕ) → IsResolvedBy l i r → r.got_address ≡ Some at → (b : Bool) → has_flag r.flags got_tls_module ≡ b → (if b then Some (behind_word (has_flag r.flags got_tls_offset) at) else None) ≡ Some slot → SlotStands ModulePair l w m i slot
     by_flag i slot r at d e true asked h =
         let same : behind_word (has_flag r.flags got_tls_offset) at ≡ slot = cc in
-        subst (λ (n : ℕ). SlotStands ModulePair l w m i n) same (pair_stands l w m i at r (has_flag r.flags got_tls_offset) p d e asked refl)
+        subst (λ (n : ℕ). SlotStands ModulePair l w m i n) same (pair_stands l w m i at r (has_flag r.flags got_tls_offset) p all d e asked refl)
     by_flag i slot r at d e false asked h = cc
 
 -- ---- the output's own pair
@@ -138,13 +139,13 @@ library_pair l w m at p x86 library h =
     }
 
 -- which AArch64 outputs have none of
-pub own_pair_stands : (l : Layout) (w : World) (m : Memory) → IsPlaced l w m → SlotsStand sorts.OwnPair l w m
-own_pair_stands l w m p = λ i at e. by_machine i at e l.machine refl p.paged
+pub own_pair_stands : (l : Layout) (w : World) (m : Memory) → IsPlaced l w m → KeepsAll l → SlotsStand sorts.OwnPair l w m
+own_pair_stands l w m p all = λ i at e. by_machine i at e l.machine refl p.paged
   where
     on_x86_64 : (i at : ℕ) → l.tlsld ≡ Some at → l.machine ≡ machine.X86_64 → SlotStands OwnModulePair l w m i at
     on_x86_64 i at e x86 =
         let same : storage_words l ≡ storage_pair (setting_of l) = ap (storage_at (setting_of l)) e in
-        let there = subst (λ (ws : List SlotWord). HasWords w m at ws) same (p.slots.pair at e) in
+        let there = subst (λ (ws : List SlotWord). HasWords w m at ws) same ((p.slots all).pair at e) in
         own_pair_at l w m i at (elim (loadable_cases l.kind p.loadable) [
           | inl program ↦ program_pair l w m at p x86 program (rw (executable_is l.kind program) at there)
           | inr library ↦ library_pair l w m at p x86 library (rw library at there)

@@ -11,6 +11,7 @@ use Rattle.wild_types.specs.declared.input.InputRelocation.{InputRelocation}
 use Rattle.wild_types.specs.declared.symbol.Resolution.{Resolution}
 use Rattle.wild_types.specs.declared.layout.Thunk.{Thunk}
 use Rattle.wild_types.specs.declared.layout.Layout.{Layout}
+use Rattle.wild_types.specs.Hollow.{KeepsAll}
 use Rattle.wild_types.specs.Item.{Item}
 use Rattle.wild_types.specs.Kinds.{is_position_independent}
 use Rattle.wild_types.specs.Lookups.{canonical, place_of}
@@ -77,7 +78,7 @@ pub record IsBranchRow (info : RelocationKindInfo) (v : Value) : Type 0 where
   pub taken : taken_of info.kind info.mask ≡ taken.Place
   pub value : value_by_row info ≡ v
 
-symbol_row : (info : RelocationKindInfo) → info.mask ≡ None → info.kind ≡ kinds.Relative → IsBranchRow info Distance
+pub symbol_row : (info : RelocationKindInfo) → info.mask ≡ None → info.kind ≡ kinds.Relative → IsBranchRow info Distance
 symbol_row info whole k = record {
   taken = taken_is info kinds.Relative None k whole;
   value = value_is info kinds.Relative None k whole ∙ sized_is info.size Distance refl;
@@ -95,7 +96,7 @@ near : (p d c x : ℕ) → p < 2 ^ 64 → c ≡ 0 → (((p + d) % 2 ^ 64 + c) % 
 near p d c x low none e small = omega (arith, low, none, e, small)
 
 -- the next instruction is no far target
-not_far : (l : Layout) (w : World) (m : Memory) (s : Item) (r : InputRelocation) (info : RelocationKindInfo) (x : ℕ) → (h : HasTerm l w m s r info x) → Carries info → taken_of info.kind info.mask ≡ taken.Place → cast_unsigned w64 r.addend ≡ 0 → undefined_weak_target r.number (place_of s.address r) ≡ h.term → contains info.range x ≡ false → ⊥
+pub not_far : (l : Layout) (w : World) (m : Memory) (s : Item) (r : InputRelocation) (info : RelocationKindInfo) (x : ℕ) → (h : HasTerm l w m s r info x) → Carries info → taken_of info.kind info.mask ≡ taken.Place → cast_unsigned w64 r.addend ≡ 0 → undefined_weak_target r.number (place_of s.address r) ≡ h.term → contains info.range x ≡ false → ⊥
 not_far l w m s r info x h c less none term far = by_branch (is_listed r.number branches_aarch64) refl
   where
     p : ℕ
@@ -122,8 +123,8 @@ record IsThere (l : Layout) (w : World) (m : Memory) (i target : ℕ) : Type 0 w
   present : is_absent l (Some i) ≡ false
   targeted : IsTargeted l w m i target
 
-targeted_by : StubLaws → (l : Layout) (w : World) (m : Memory) (s : Item) (r : InputRelocation) (info : RelocationKindInfo) (x i target : ℕ) (t : Thunk) → (h : HasTerm l w m s r info x) → Carries info → IsFollowed l r (value_by_row info) → r.symbol ≡ Some i → IsThunkOf l i t → thunk_target l t ≡ Ok target → term_of l (Some i) info.kind ≡ Ok h.term → IsTargeted l w m i target
-targeted_by law l w m s r info x i target t h c f named of known given = by_kind c.kind
+targeted_by : StubLaws → (l : Layout) (w : World) (m : Memory) (s : Item) (r : InputRelocation) (info : RelocationKindInfo) (x i target : ℕ) (t : Thunk) → KeepsAll l → (h : HasTerm l w m s r info x) → Carries info → IsFollowed l r (value_by_row info) → r.symbol ≡ Some i → IsThunkOf l i t → thunk_target l t ≡ Ok target → term_of l (Some i) info.kind ≡ Ok h.term → IsTargeted l w m i target
+targeted_by law l w m s r info x i target t all h c f named of known given = by_kind c.kind
   where
     still : IsPlaceRelative (value_by_row info) → IsAbsolute l i → w.base ≡ 0
     still relative a = elim (cases_Bool (is_position_independent l.kind)) [
@@ -135,16 +136,16 @@ targeted_by law l w m s r info x i target t h c f named of known given = by_kind
     by_kind (inl k) =
         let row = symbol_row info c.whole k in
         let address : address_of l (Some i) ≡ Ok h.term = subst (λ (k : RelocationKind). term_of l (Some i) k ≡ Ok h.term) k given in
-        symbol_targeted law l w m i h.term target t h.placed of known (follows l r (value_by_row info) (subst TakesAddress (sym row.value) tt) f i named) address (still (subst IsPlaceRelative (sym row.value) tt))
+        symbol_targeted law l w m i h.term target t h.placed all of known (follows l r (value_by_row info) (subst TakesAddress (sym row.value) tt) f i named) address (still (subst IsPlaceRelative (sym row.value) tt))
     by_kind (inr k) =
         let stub : stub_address l (Some i) ≡ Ok h.term = subst (λ (k : RelocationKind). term_of l (Some i) k ≡ Ok h.term) k given in
-        stub_targeted law l w m i h.term target t h.placed of known (given_some missing.Stub i (stub_of l i) h.term stub)
+        stub_targeted law l w m i h.term target t h.placed all of known (given_some missing.Stub i (stub_of l i) h.term stub)
 
 is_branch : (k : RelocationKind) → (k ≡ kinds.Relative) ⊎ (k ≡ kinds.PltRelative) → is_symbol (expression_of k).term ≡ true
 is_branch k (inl e) = ap (λ (k : RelocationKind). is_symbol (expression_of k).term) e
 is_branch k (inr e) = ap (λ (k : RelocationKind). is_symbol (expression_of k).term) e
 
-from_place : (info : RelocationKindInfo) → Carries info → taken_of info.kind info.mask ≡ taken.Place
+pub from_place : (info : RelocationKindInfo) → Carries info → taken_of info.kind info.mask ≡ taken.Place
 from_place info c = by_kind c.kind
   where
     by_kind : (info.kind ≡ kinds.Relative) ⊎ (info.kind ≡ kinds.PltRelative) → taken_of info.kind info.mask ≡ taken.Place
@@ -156,8 +157,8 @@ term_carried : (l : Layout) (r : InputRelocation) (info : RelocationKindInfo) �
 term_carried l r info (inl k) plain = term_plain l r (expression_of info.kind).term (plain k)
 term_carried l r info (inr k) plain = subst (λ (j : RelocationKind). term_by l r (expression_of j).term ≡ term_of l r.symbol j) (sym k) refl
 
-there : StubLaws → (l : Layout) (w : World) (m : Memory) (s : Item) (r : InputRelocation) (info : RelocationKindInfo) (x i target : ℕ) (t : Thunk) → l.machine ≡ machine.AArch64 → (h : HasTerm l w m s r info x) → Carries info → (info.kind ≡ kinds.Relative → names_merged l r.symbol ≡ false) → IsFollowed l r (value_by_row info) → contains info.range x ≡ false → cast_unsigned w64 r.addend ≡ 0 → r.symbol ≡ Some i → IsThunkOf l i t → thunk_target l t ≡ Ok target → IsThere l w m i target
-there law l w m s r info x i target t on h c plain f far none named of known = by_own (is_own_place l.machine l r info) refl h.given
+there : StubLaws → (l : Layout) (w : World) (m : Memory) (s : Item) (r : InputRelocation) (info : RelocationKindInfo) (x i target : ℕ) (t : Thunk) → l.machine ≡ machine.AArch64 → KeepsAll l → (h : HasTerm l w m s r info x) → Carries info → (info.kind ≡ kinds.Relative → names_merged l r.symbol ≡ false) → IsFollowed l r (value_by_row info) → contains info.range x ≡ false → cast_unsigned w64 r.addend ≡ 0 → r.symbol ≡ Some i → IsThunkOf l i t → thunk_target l t ≡ Ok target → IsThere l w m i target
+there law l w m s r info x i target t on all h c plain f far none named of known = by_own (is_own_place l.machine l r info) refl h.given
   where
     by_own : (b : Bool) → is_own_place l.machine l r info ≡ b → (if b then Ok (undefined_weak_target r.number (place_of s.address r)) else term_by l r (expression_of info.kind).term) ≡ Ok h.term → IsThere l w m i target
     by_own true e g =
@@ -165,7 +166,7 @@ there law l w m s r info x i target t on h c plain f far none named of known = b
         absurd (not_far l w m s r info x h c (from_place info c) none term far)
     by_own false e g = record {
       present = subst (λ (o : Option ℕ). is_absent l o ≡ false) named (not_own l.machine l r info e on (is_branch info.kind c.kind) (ap is_place (from_place info c)));
-      targeted = targeted_by law l w m s r info x i target t h c f named of known (subst (λ (o : Option ℕ). term_of l o info.kind ≡ Ok h.term) named (sym (term_carried l r info c.kind plain) ∙ g));
+      targeted = targeted_by law l w m s r info x i target t all h c f named of known (subst (λ (o : Option ℕ). term_of l o info.kind ≡ Ok h.term) named (sym (term_carried l r info c.kind plain) ∙ g));
     }
 
 -- ---- the distance
@@ -196,13 +197,13 @@ referent_by l w m s r i t on named none g h =
     ))
 
 pub thunks_give : StubLaws → ThunksGive
-thunks_give law = λ info c l w m s r x t on h goes plain f far found none. by_symbol info c l w m s r x t on h goes plain f far none r.symbol refl found
+thunks_give law = λ info c l w m s r x t on all h goes plain f far found none. by_symbol info c l w m s r x t on all h goes plain f far none r.symbol refl found
   where
-    by_symbol : (info : RelocationKindInfo) → Carries info → (l : Layout) (w : World) (m : Memory) (s : Item) (r : InputRelocation) (x : ℕ) (t : Thunk) → l.machine ≡ machine.AArch64 → HasTerm l w m s r info x → EachThunkGoesOn l w m → (info.kind ≡ kinds.Relative → names_merged l r.symbol ≡ false) → IsFollowed l r (value_by_row info) → contains info.range x ≡ false → added r ≡ 0 → (o : Option ℕ) → r.symbol ≡ o → thunk_for l s.thunk_block o ≡ Some t → Gives StubDistance l w m s r (less t.address (place_of s.address r))
-    by_symbol info c l w m s r x t on h goes plain f far none None named found = cc
-    by_symbol info c l w m s r x t on h goes plain f far none (Some i) named found =
+    by_symbol : (info : RelocationKindInfo) → Carries info → (l : Layout) (w : World) (m : Memory) (s : Item) (r : InputRelocation) (x : ℕ) (t : Thunk) → l.machine ≡ machine.AArch64 → KeepsAll l → HasTerm l w m s r info x → EachThunkGoesOn l w m → (info.kind ≡ kinds.Relative → names_merged l r.symbol ≡ false) → IsFollowed l r (value_by_row info) → contains info.range x ≡ false → added r ≡ 0 → (o : Option ℕ) → r.symbol ≡ o → thunk_for l s.thunk_block o ≡ Some t → Gives StubDistance l w m s r (less t.address (place_of s.address r))
+    by_symbol info c l w m s r x t on all h goes plain f far none None named found = cc
+    by_symbol info c l w m s r x t on all h goes plain f far none (Some i) named found =
         let b = of_block l s.thunk_block i t found in
         let g = goes b.block t b.listed b.holds in
         let a = w.base + t.address in
         let at = ap (λ (p : ℕ). (a + more r + (2 ^ 64 - p)) % 2 ^ 64) (sym h.place) in
-        (a, referent_by l w m s r i t on named none g (there law l w m s r info x i g.target t on h c plain f far none named b.of g.known), distance_moved w.base t.address (place_of s.address r) (more r) none h.ends ∙ at)
+        (a, referent_by l w m s r i t on named none g (there law l w m s r info x i g.target t on all h c plain f far none named b.of g.known), distance_moved w.base t.address (place_of s.address r) (more r) none h.ends ∙ at)

@@ -6,6 +6,7 @@ use Rattle.wild_types.specs.declared.symbol.Resolution.{Resolution}
 use Rattle.wild_types.specs.declared.symbol.Symbol.{Symbol}
 use Rattle.wild_types.specs.declared.layout.Thunk.{Thunk}
 use Rattle.wild_types.specs.declared.layout.Layout.{Layout}
+use Rattle.wild_types.specs.Hollow.{KeepsAll}
 use Rattle.wild_types.specs.Addresses.{raw_value, placed_value, resolved_or}
 use Rattle.wild_types.specs.Lookups.{canonical}
 use Rattle.wild_layout.specs.Geometry.{DefinitionsAreFinal}
@@ -67,13 +68,13 @@ stub_target l i stub target t final of known is =
     let e : Ok stub ≡ Ok target = ap (λ (o : Option ℕ). stub_or o (raw_address l (Some t.symbol))) (sym there) ∙ known in
     cc
 
-pub stub_targeted : StubLaws → (l : Layout) (w : World) (m : Memory) (i stub target : ℕ) (t : Thunk) → IsPlaced l w m → IsThunkOf l i t → thunk_target l t ≡ Ok target → stub_of l i ≡ Some stub → IsTargeted l w m i target
-stub_targeted law l w m i stub target t p of known is =
+pub stub_targeted : StubLaws → (l : Layout) (w : World) (m : Memory) (i stub target : ℕ) (t : Thunk) → IsPlaced l w m → KeepsAll l → IsThunkOf l i t → thunk_target l t ≡ Ok target → stub_of l i ≡ Some stub → IsTargeted l w m i target
+stub_targeted law l w m i stub target t p all of known is =
     let same = stub_target l i stub target t p.symbols.final of known is in
     let twice : (w.base + target) % 2 ^ 64 ≡ (w.base + target) % 2 ^ 64 % 2 ^ 64 = omega arith in
     record {
       symbol = (w.base + target) % 2 ^ 64;
-      denoted = inr (subst (λ (a : ℕ). IsStub l w m i ((w.base + a) % 2 ^ 64)) same (stub_is l w m i stub (stub_stands law l w m i stub p is)));
+      denoted = inr (subst (λ (a : ℕ). IsStub l w m i ((w.base + a) % 2 ^ 64)) same (stub_is l w m i stub (stub_stands law l w m i stub p all is)));
       at = twice;
     }
 
@@ -93,8 +94,8 @@ plain_target l i a target t final of known none given =
     cc
 
 -- what the writer takes for S is what the thunk goes on to, or this goes by its stub
-pub symbol_targeted : StubLaws → (l : Layout) (w : World) (m : Memory) (i a target : ℕ) (t : Thunk) → IsPlaced l w m → IsThunkOf l i t → thunk_target l t ≡ Ok target → Follows l i → address_of l (Some i) ≡ Ok a → (IsAbsolute l i → w.base ≡ 0) → IsTargeted l w m i target
-symbol_targeted law l w m i a target t p of known f given still = by_stub (stub_of l i) refl
+pub symbol_targeted : StubLaws → (l : Layout) (w : World) (m : Memory) (i a target : ℕ) (t : Thunk) → IsPlaced l w m → KeepsAll l → IsThunkOf l i t → thunk_target l t ≡ Ok target → Follows l i → address_of l (Some i) ≡ Ok a → (IsAbsolute l i → w.base ≡ 0) → IsTargeted l w m i target
+symbol_targeted law l w m i a target t p all of known f given still = by_stub (stub_of l i) refl
   where
     plain : stub_of l i ≡ None → (b : Bool) → is_chosen l i ≡ b → raw_value l i ≡ Some a
     plain none b chosen = by_choice b chosen given
@@ -104,10 +105,10 @@ symbol_targeted law l w m i a target t p of known f given still = by_stub (stub_
         by_choice false chosen h = address_given l (Some i) a (rw chosen at h)
 
     here : IsAddressed l w m (Some i) a
-    here = addressed law l w m (Some i) a p (λ j e. (let same : i ≡ j = cc in subst (Follows l) same f)) given
+    here = addressed law l w m (Some i) a p (λ j e. inl all) (λ j e. (let same : i ≡ j = cc in subst (Follows l) same f)) given
 
     by_stub : (o : Option ℕ) → stub_of l i ≡ o → IsTargeted l w m i target
-    by_stub (Some stub) is = stub_targeted law l w m i stub target t p of known is
+    by_stub (Some stub) is = stub_targeted law l w m i stub target t p all of known is
     by_stub None none =
         let same = plain_target l i a target t p.symbols.final of known none (plain none (is_chosen l i) refl) in
         let rests : (w.base ≡ 0) ⊎ (here.still ≡ false) = resting here.still refl in

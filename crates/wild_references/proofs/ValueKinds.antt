@@ -264,36 +264,36 @@ no_offset : (z : RelocationSize) → TakesOffset (shape.sized z SymbolAddress) �
 no_offset (ByteSize n) h = h
 no_offset (BitMasking bits) h = h
 
-pub links_address : StubLaws → (info : RelocationKindInfo) → (expression_of info.kind).term ≡ term.Symbol → (expression_of info.kind).taken ≡ taken.Nothing → RowGivesLinked info
-links_address law info symbol nothing = λ l w m s r x i h zero named whose alone.
+pub links_address : (info : RelocationKindInfo) → (expression_of info.kind).term ≡ term.Symbol → (expression_of info.kind).taken ≡ taken.Nothing → RowGivesLinked info
+links_address info symbol nothing = λ l w m s r x i h zero named whose alone.
     let a = address_row l w m s r info x h symbol nothing in
-    let t = own_refers law l w m s r info x i h symbol named whose (bare (value_by_row info) l i (λ o. no_offset info.size (subst TakesOffset a.value o)) alone) in
+    let t = own_refers l w m s r info x i h symbol named whose (bare (value_by_row info) l i (λ o. no_offset info.size (subst TakesOffset a.value o)) alone) in
     let e = sum_is t.still w.base h.term (more r) (inl zero) in
     let sum = subst (λ (n : ℕ). IsOwnSum (value_by_row info) l w s r n) (sym e ∙ a.sum) (own_sum (value_by_row info) l w s r h.term t) in
     subst (λ (v : Value). GivesLinked v l w s r x) (sym a.value) (links_of_sum info.size l w s r x (subst (λ (v : Value). IsOwnSum v l w s r x) a.value sum))
 
-pub links_distance : StubLaws → (info : RelocationKindInfo) → info.kind ≡ kinds.Relative → RowGivesLinked info
-links_distance law info kind = λ l w m s r x i h zero named whose alone. by_row law info kind l w m s r x i h zero named whose alone (distance_row l w m s r info x h kind)
+pub links_distance : (info : RelocationKindInfo) → info.kind ≡ kinds.Relative → RowGivesLinked info
+links_distance info kind = λ l w m s r x i h zero named whose alone. by_row info kind l w m s r x i h zero named whose alone (distance_row l w m s r info x h kind)
   where
-    by_row : StubLaws → (info : RelocationKindInfo) → info.kind ≡ kinds.Relative → (l : Layout) (w : World) (m : Memory) (s : Item) (r : InputRelocation) (x i : ℕ) → (h : HasTerm l w m s r info x) → w.base ≡ 0 → r.symbol ≡ Some i → IsReplaceable l i true → (IsStubbed l i → ⊥) ⊎ TakesOffset (value_by_row info) → IsDistanceRow l w m s r info x h.term ⊎ IsPageRow l w m s r info x h.term → GivesLinked (value_by_row info) l w s r x
-    by_row law info kind l w m s r x i h zero named whose alone (inl d) =
-        let t = own_refers law l w m s r info x i h (ap (λ (k : RelocationKind). (expression_of k).term) kind) named whose (bare (value_by_row info) l i (λ o. subst TakesOffset d.value o) alone) in
+    by_row : (info : RelocationKindInfo) → info.kind ≡ kinds.Relative → (l : Layout) (w : World) (m : Memory) (s : Item) (r : InputRelocation) (x i : ℕ) → (h : HasTerm l w m s r info x) → w.base ≡ 0 → r.symbol ≡ Some i → IsReplaceable l i true → (IsStubbed l i → ⊥) ⊎ TakesOffset (value_by_row info) → IsDistanceRow l w m s r info x h.term ⊎ IsPageRow l w m s r info x h.term → GivesLinked (value_by_row info) l w s r x
+    by_row info kind l w m s r x i h zero named whose alone (inl d) =
+        let t = own_refers l w m s r info x i h (ap (λ (k : RelocationKind). (expression_of k).term) kind) named whose (bare (value_by_row info) l i (λ o. subst TakesOffset d.value o) alone) in
         let e = distance_is t.still w.base h.term (more r) (place_of s.address r) (inl zero) h.ends in
         let n = (moved t.still w.base h.term + more r) % 2 ^ 64 in
         let at = ap (λ (p : ℕ). (n + (2 ^ 64 - p)) % 2 ^ 64) (sym h.place) in
         subst (λ (v : Value). GivesLinked v l w s r x) (sym d.value) (n, subst (λ (v : Value). IsOwnSum v l w s r n) d.value (own_sum (value_by_row info) l w s r h.term t), sym d.distance ∙ e ∙ at)
-    by_row law info kind l w m s r x i h zero named whose alone (inr d) =
-        let t = own_refers law l w m s r info x i h (ap (λ (k : RelocationKind). (expression_of k).term) kind) named whose (bare (value_by_row info) l i (λ o. subst TakesOffset d.value o) alone) in
+    by_row info kind l w m s r x i h zero named whose alone (inr d) =
+        let t = own_refers l w m s r info x i h (ap (λ (k : RelocationKind). (expression_of k).term) kind) named whose (bare (value_by_row info) l i (λ o. subst TakesOffset d.value o) alone) in
         let pages = (paged_on l w h.placed.paged d.on).pages in
         let e = page_distance_is t.still w.base h.term (more r) (place_of s.address r) pages (inl zero) h.ends in
         let n = (moved t.still w.base h.term + more r) % 2 ^ 64 in
         let at = ap (λ (p : ℕ). (page_of n + (2 ^ 64 - page_of p)) % 2 ^ 64) (sym h.place) in
         subst (λ (v : Value). GivesLinked v l w s r x) (sym d.value) (n, subst (λ (v : Value). IsOwnSum v l w s r n) d.value (own_sum (value_by_row info) l w s r h.term t), sym d.distance ∙ e ∙ at)
 
-pub links_from_table : StubLaws → (info : RelocationKindInfo) → info.kind ≡ kinds.SymRelGotBase → RowGivesLinked info
-links_from_table law info kind = λ l w m s r x i h zero named whose alone.
+pub links_from_table : (info : RelocationKindInfo) → info.kind ≡ kinds.SymRelGotBase → RowGivesLinked info
+links_from_table info kind = λ l w m s r x i h zero named whose alone.
     let d = table_row l w m s r info x h kind in
-    let t = own_refers law l w m s r info x i h (ap (λ (k : RelocationKind). (expression_of k).term) kind) named whose (bare (value_by_row info) l i (λ o. subst TakesOffset d.value o) alone) in
+    let t = own_refers l w m s r info x i h (ap (λ (k : RelocationKind). (expression_of k).term) kind) named whose (bare (value_by_row info) l i (λ o. subst TakesOffset d.value o) alone) in
     let e = table_is t.still w.base h.term (more r) l.got_base (inl zero) h.placed.got in
     let n = (moved t.still w.base h.term + more r) % 2 ^ 64 in
     subst (λ (v : Value). GivesLinked v l w s r x) (sym d.value) (n, subst (λ (v : Value). IsOwnSum v l w s r n) d.value (own_sum (value_by_row info) l w s r h.term t), sym d.distance ∙ e)

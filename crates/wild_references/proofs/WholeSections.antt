@@ -47,13 +47,15 @@ item_loaded k l w m s tables kinds linked go h =
       kinds = kinds;
       linked = linked;
       placed = there;
-      thunks = go l w m there.paged h.loaded h.laid h.thunks;
+      thunks = λ all. go l w m there.paged h.loaded h.laid (h.thunks all);
       room = lies.room;
       symbols = lies.symbols;
       addends = addends_fit l s h.numbers h.kept;
       bytes = subst (λ (j : Machine). HasBytes j s) (sym h.on) h.bytes;
       low = lies.low;
       lies = lies.lies;
+      stage = h.stage;
+      moved = h.moved;
       item = h.item;
     }
 
@@ -61,6 +63,6 @@ pub item_fields_hold : Tables → KindLaws → LinkedLaws → ThunksGoOn → Ite
 item_fields_hold tables kinds linked go = λ k l w m s h.
     let there = item_loaded k l w m s tables kinds linked go h in
     record {
-      references = λ i r kept asked alone. field_holds l w m s i r there kept asked alone;
-      linked = λ i r kept a zero. field_links l w m s i r there kept a zero;
+      references = λ i r kept present asked alone. field_holds l w m s i r there kept present asked alone;
+      linked = λ i r kept present a zero. field_links l w m s i r there kept present a zero;
     }

@@ -27,7 +27,7 @@ use Rattle.wild_types.specs.Item.{Item}
 use Rattle.wild_meaning.specs.Field.{formula_of, form_width, IsInputByte}
 use Rattle.wild_meaning.specs.Sequence.{Instruction, size_of, IsOwnByte}
 use Rattle.wild_meaning.specs.Template.{IsOfSequence, IsTemplate, reads, DoesDemanded}
-use Rattle.wild_meaning.specs.Reference.{IsAsked, IsLinkedAlone, HoldsRewritten, IsTakenAlong, IsOther, ItemHolds}
+use Rattle.wild_meaning.specs.Reference.{IsAsked, IsLinkedAlone, IsLeftOut, HoldsRewritten, IsTakenAlong, IsOther, ItemHolds}
 
 -- byte k lies in no field of the relocation
 abbrev pub IsBesideField : Layout → InputRelocation → ℕ → Type 0
@@ -52,13 +52,13 @@ pub record StandsAt (l : Layout) (item : Item) (r : InputRelocation) (start size
 abbrev pub RewrittenStand : Type 0
 RewrittenStand = (machine : Machine) (l : Layout) (w : World) (m : Memory) (s : Item) → IsLoadedItem machine l w m s → (i : ℕ) (r : InputRelocation) (row : Row) (v : ℕ) → HasDecision l s i r (Rewritten row v) → StandsAt l s r (template_start row r) (pattern_size row)
 
--- where an instruction is rewritten, the loaded code does what it demands, at each base at which the reference is asked
+-- where an instruction is rewritten whose reference is not left out, the loaded code does what it demands, at each base at which that is asked
 abbrev pub RewrittenHold : Type 0
-RewrittenHold = (machine : Machine) (l : Layout) (w : World) (m : Memory) (s : Item) → IsLoadedItem machine l w m s → (i : ℕ) (r : InputRelocation) (row : Row) (v : ℕ) → HasDecision l s i r (Rewritten row v) → IsAsked l w s r → HoldsRewritten l w m s r
+RewrittenHold = (machine : Machine) (l : Layout) (w : World) (m : Memory) (s : Item) → IsLoadedItem machine l w m s → (i : ℕ) (r : InputRelocation) (row : Row) (v : ℕ) → HasDecision l s i r (Rewritten row v) → (IsLeftOut l s r → ⊥) → IsAsked l w s r → HoldsRewritten l w m s r
 
 -- the call of a sequence that is rewritten is taken along by that
 abbrev pub PartnersHold : Type 0
-PartnersHold = (machine : Machine) (l : Layout) (w : World) (m : Memory) (s : Item) → IsLoadedItem machine l w m s → (i : ℕ) (r : InputRelocation) → HasDecision l s i r Partner → IsTakenAlong l w m s r
+PartnersHold = (machine : Machine) (l : Layout) (w : World) (m : Memory) (s : Item) → IsLoadedItem machine l w m s → (i : ℕ) (r : InputRelocation) → HasDecision l s i r Partner → (IsLeftOut l s r → ⊥) → IsTakenAlong l w m s r
 
 -- where an instruction is rewritten its field names a slot of the symbol, so that the symbol is followed whichever module has it; or no
 -- other module has the symbol
@@ -86,7 +86,7 @@ OthersAreKept = (machine : Machine) (l : Layout) (w : World) (m : Memory) (s : I
 
 -- an instruction that is kept, with its fields as their formulas have them, does what is demanded
 abbrev pub KeptInstructionsDo : Type 0
-KeptInstructionsDo = (machine : Machine) (l : Layout) (w : World) (m : Memory) (s : Item) → IsLoadedItem machine l w m s → FieldsHold l w m s → (i : ℕ) (r : InputRelocation) → IsKeptReference l s i r → IsAsked l w s r → (IsLinkedAlone l s r → ⊥)
+KeptInstructionsDo = (machine : Machine) (l : Layout) (w : World) (m : Memory) (s : Item) → IsLoadedItem machine l w m s → FieldsHold l w m s → (i : ℕ) (r : InputRelocation) → IsKeptReference l s i r → (IsLeftOut l s r → ⊥) → IsAsked l w s r → (IsLinkedAlone l s r → ⊥)
     → (start : ℕ) (o : Instruction) (first : InputRelocation) → IsTemplate l s r start o first → DoesDemanded (reads w m) l w m s first start o
 
 -- each reference of a loaded section holds, its instruction does what is demanded, and other bytes are the input's

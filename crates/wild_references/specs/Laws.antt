@@ -18,6 +18,7 @@ use Rattle.wild_types.specs.declared.kind.Machine.{Machine}
 use Rattle.wild_types.specs.declared.kind.Machine.TheVariants as machine
 use Rattle.wild_types.specs.declared.input.InputRelocation.{InputRelocation}
 use Rattle.wild_types.specs.declared.layout.Layout.{Layout}
+use Rattle.wild_types.specs.Hollow.{KeepsAll}
 use Rattle.wild_types.specs.ResolvedFlags.{HaveTheirFlags}
 use Rattle.wild_reloc.specs.Formula.{Value, SymbolAddress, Distance, Formula, Reads, Keeps}
 use Rattle.wild_reloc.specs.Expression.{expression_of, writes}
@@ -34,7 +35,7 @@ use Rattle.wild_layout.specs.declared.decision.Decision.TheVariants.{Moved, Left
 use Rattle.wild_layout.specs.Decide.{decided}
 use Rattle.wild_layout.specs.Numbers.{NumbersFit}
 use Rattle.wild_layout.specs.Geometry.{IsLaidOut, NamesSymbol}
-use Rattle.wild_geometry.specs.Loaded.{IsDecided, InMemory, number_at, ReadsLeft, HasDecision, HasItem}
+use Rattle.wild_geometry.specs.Loaded.{IsDecided, Stage, InMemory, number_at, ReadsLeft, HasDecision, HasItem}
 use Rattle.wild_geometry.specs.Slots.{HasSlots}
 use Rattle.wild_geometry.specs.Thunks.{HasThunks}
 use Rattle.wild_loader.specs.declared.memory.Memory.{Memory}
@@ -47,7 +48,7 @@ use Rattle.wild_types.specs.Item.{Item}
 use Rattle.wild_meaning.specs.Item.{IsKept}
 use Rattle.wild_meaning.specs.Field.{formula_of, FieldReads}
 use Rattle.wild_meaning.specs.Formula.{IsSum, HasOffsetMode, Gives, IsOwnSum, GivesLinked, TakesAddress, TakesOffset}
-use Rattle.wild_meaning.specs.Reference.{IsAsked, IsStubbed, IsLinkedAlone}
+use Rattle.wild_meaning.specs.Reference.{IsAsked, IsStubbed, IsLinkedAlone, IsLeftOut}
 use Rattle.wild_references.specs.Terms.{IsPlaced, MovesByPages, value_by_row, HasTerm, IsFollowed}
 use Rattle.wild_meaning.specs.Linked.{processor_of}
 use Rattle.wild_meaning.specs.Strings.{NamesStrings}
@@ -91,17 +92,18 @@ PartsGive = (info : RelocationKindInfo) → (expression_of info.kind).class ≡ 
 abbrev pub PartsGiveLinked : Type 0
 PartsGiveLinked = (info : RelocationKindInfo) → (expression_of info.kind).class ≡ class.Part → (l : Layout) (w : World) (m : Memory) (s : Item) (r : InputRelocation) (x i : ℕ) → HasTerm l w m s r info x → w.base ≡ 0 → r.symbol ≡ Some i → IsReplaceable l i true → (IsStubbed l i → ⊥) ⊎ TakesOffset (value_by_row info) → TakesOffset (value_by_row info) ⊎ TakesAddress (value_by_row info) → GivesLinked (value_by_row info) l w s r x
 
--- an address that is decided to move is S + A of the world, once it is more by the base, where the symbol is followed
+-- an address that is decided to move is S + A of the world, once it is more by the base, where the symbol is followed and all is written
 abbrev pub AddressesGive : Type 0
-AddressesGive = (l : Layout) (w : World) (m : Memory) (s : Item) (r : InputRelocation) (v : ℕ) (packed : Bool) → IsPlaced l w m → NamesSymbol l r → FitsSigned w64 r.addend → decided l s r ≡ Ok (Moved v packed) → IsFollowed l r SymbolAddress → IsSum SymbolAddress l w m s r (number_at InMemory w v packed)
+AddressesGive = (l : Layout) (w : World) (m : Memory) (s : Item) (r : InputRelocation) (v : ℕ) (packed : Bool) → KeepsAll l → IsPlaced l w m → NamesSymbol l r → FitsSigned w64 r.addend → decided l s r ≡ Ok (Moved v packed) → IsFollowed l r SymbolAddress → IsSum SymbolAddress l w m s r (number_at InMemory w v packed)
 
 -- else, at base 0, with the output's own symbol
 abbrev pub AddressesGiveLinked : Type 0
-AddressesGiveLinked = (l : Layout) (w : World) (m : Memory) (s : Item) (r : InputRelocation) (v i : ℕ) (packed : Bool) → IsPlaced l w m → NamesSymbol l r → decided l s r ≡ Ok (Moved v packed) → w.base ≡ 0 → r.symbol ≡ Some i → IsReplaceable l i true → (IsStubbed l i → ⊥) → IsOwnSum SymbolAddress l w s r (number_at InMemory w v packed)
+AddressesGiveLinked = (l : Layout) (w : World) (m : Memory) (s : Item) (r : InputRelocation) (v i : ℕ) (packed : Bool) → KeepsAll l → IsPlaced l w m → NamesSymbol l r → decided l s r ≡ Ok (Moved v packed) → w.base ≡ 0 → r.symbol ≡ Some i → IsReplaceable l i true → (IsStubbed l i → ⊥) → IsOwnSum SymbolAddress l w s r (number_at InMemory w v packed)
 
--- a field that is left to an entry has what the formula of the relocation's type gives, by what the entry stores, and is whole bytes
+-- a field that is left to an entry, where all is written, has what the formula of the relocation's type gives, by what the entry stores, and is
+-- whole bytes
 abbrev pub EntriesGive : Type 0
-EntriesGive = (l : Layout) (w : World) (m : Memory) (s : Item) (r : InputRelocation) (z : RelocationSize) (number symbol addend : ℕ) (bs : List ℕ) → IsPlaced l w m → NamesSymbol l r → FitsSigned w64 r.addend → decided l s r ≡ Ok (Left z number symbol addend)
+EntriesGive = (l : Layout) (w : World) (m : Memory) (s : Item) (r : InputRelocation) (z : RelocationSize) (number symbol addend : ℕ) (bs : List ℕ) → KeepsAll l → IsPlaced l w m → NamesSymbol l r → FitsSigned w64 r.addend → decided l s r ≡ Ok (Left z number symbol addend)
     → ReadsLeft (processor_of l.machine) InMemory w z number symbol addend bs → (f : Formula) × (formula_of l.machine r.number ≡ Some f) × (x : ℕ) × Gives f.value l w m s r x × Reads f.form bs x × ((old : List ℕ) → Keeps f.form old bs)
 
 -- in a world with the executable as its first module: the distance of its thread-local data, where a symbol of these lies, and
@@ -140,18 +142,19 @@ pub record IsKeptReference (l : Layout) (s : Item) (i : ℕ) (r : InputRelocatio
   pub keeps : KeepsInstruction decision
   pub refers : r.number ≢ r_x86_64_none
 
--- what memory has of an item by its fields: each reference that keeps its instruction and is asked reads as its formula, those
+-- what memory has of an item by its fields: each reference that keeps its instruction, is asked and not left out reads as its formula, those
 -- that take the output's own symbol at base 0 as that
 pub record FieldsHold (l : Layout) (w : World) (m : Memory) (s : Item) : Type 0 where
-  pub references : (i : ℕ) (r : InputRelocation) → IsKeptReference l s i r → IsAsked l w s r → (IsLinkedAlone l s r → ⊥) → FieldHolds l w m s r
-  pub linked : (i : ℕ) (r : InputRelocation) → IsKeptReference l s i r → IsLinkedAlone l s r → w.base ≡ 0 → FieldIsLinked l w m s r
+  pub references : (i : ℕ) (r : InputRelocation) → IsKeptReference l s i r → (IsLeftOut l s r → ⊥) → IsAsked l w s r → (IsLinkedAlone l s r → ⊥) → FieldHolds l w m s r
+  pub linked : (i : ℕ) (r : InputRelocation) → IsKeptReference l s i r → (IsLeftOut l s r → ⊥) → IsLinkedAlone l s r → w.base ≡ 0 → FieldIsLinked l w m s r
 
 -- the bytes of instructions that fields are bits of
 abbrev pub HasBytes : Machine → Item → Type 0
 HasBytes machine.X86_64 s = ⊤
 HasBytes machine.AArch64 s = All (λ (b : ℕ). b < 256) s.bytes
 
--- a kept item of an output for machine k in a legal world, and a memory that has slots, stubs and thunks, and the item as it was decided
+-- a kept item of an output for machine k in a legal world, and a memory that has the item as it was decided, and slots, stubs and thunks where all
+-- is written; of an image for debuggers alone it has what the file has
 pub record IsLoadedItem (k : Machine) (l : Layout) (w : World) (m : Memory) (s : Item) : Type 0 where
   pub on : l.machine ≡ k
   pub paged : MovesByPages k l w
@@ -162,11 +165,13 @@ pub record IsLoadedItem (k : Machine) (l : Layout) (w : World) (m : Memory) (s :
   pub legal : IsLegal l w
   pub laid : IsLaidOut l
   pub loaded : m.machine ≡ processor_of l.machine
-  pub slots : HasSlots l w m
-  pub thunks : HasThunks l w m
+  pub slots : KeepsAll l → HasSlots l w m
+  pub thunks : KeepsAll l → HasThunks l w m
   pub kept : IsKept l s
   pub decided : IsDecided l s
-  pub item : HasItem l w m s InMemory
+  pub stage : Stage
+  pub moved : KeepsAll l → stage ≡ InMemory
+  pub item : HasItem l w m s stage
 
 -- what is asked of AArch64 outputs besides: in a legal world a laid out output moves by pages
 abbrev pub OutputsMoveByPages : Type 0

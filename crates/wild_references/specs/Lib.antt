@@ -2,5 +2,5 @@ pub mod Terms
 pub mod Laws
 pub mod Stubs
 pub mod Thunks
-pub mod Filled
+pub mod FilledX86_64
 pub mod EffectLaws

@@ -4,6 +4,7 @@
 --   IsPlaced l w m  what a layout, a legal world and memory come to for the values of an output
 --   is_expressed .. the machine has relocation types with such an expression
 --   value_by_row    the formula's value that a row stands for
+--   IsDirect ..     an expression goes by no slot and no stub
 --   HasTerm ..      a relocation writes x at its place, by the writer's expression of a row
 --   IsFollowed ..   the value is right whichever module has the symbol
 use Rattle.std.specs.Prelude.{◌≡◌, ℕ, ◌+◌, ◌%◌, ◌^◌, ◌<◌, ◌≤◌, ◌⊎◌, ⊤, Bool, true, false, not, Option, Some, None, Ok, All}
@@ -14,6 +15,7 @@ use Rattle.wild_types.specs.declared.layout.Layout.{Layout}
 use Rattle.wild_types.specs.declared.symbol.Symbol.{Symbol}
 use Rattle.wild_clauses.specs.SlotPlaces.{slot_is_even}
 use Rattle.wild_slot.specs.declared.treatment.Treatment.TheVariants as treatments
+use Rattle.wild_types.specs.Hollow.{KeepsAll}
 use Rattle.wild_types.specs.Kinds.{is_position_independent}
 use Rattle.wild_types.specs.Lookups.{place_of, allocated}
 use Rattle.wild_types.specs.ResolvedFlags.{HaveTheirFlags}
@@ -29,7 +31,7 @@ use Rattle.wild_reloc.specs.declared.info.PageMask.{PageMask}
 use Rattle.wild_reloc.specs.declared.info.PageMask.TheVariants as masks
 use Rattle.wild_reloc.specs.declared.info.RelocationKindInfo.{RelocationKindInfo}
 use Rattle.wild_layout.specs.Merged.{names_merged}
-use Rattle.wild_layout.specs.Values.{term_at, value_in}
+use Rattle.wild_layout.specs.Values.{is_own_place, term_at, value_in}
 use Rattle.wild_layout.specs.Geometry.{DefinitionNames, DefinitionsAreFinal, NamesSymbol}
 use Rattle.wild_layout.specs.SlotOrder.{EachAgrees}
 use Rattle.wild_layout.specs.ListedSymbols.{AreListed}
@@ -71,7 +73,7 @@ MovesByPages machine.X86_64 l w = ⊤
 MovesByPages machine.AArch64 l w = IsPaged l w
 
 -- an output in a legal world: one that does not move is at base 0, an executable is the first module, its numbers fit, and
--- memory has the slots and stubs of its symbols
+-- memory has the slots and stubs of its symbols, where all is written
 pub record IsPlaced (l : Layout) (w : World) (m : Memory) : Type 0 where
   pub paged : MovesByPages l.machine l w
   pub loadable : IsLoadable l.kind
@@ -83,7 +85,7 @@ pub record IsPlaced (l : Layout) (w : World) (m : Memory) : Type 0 where
   pub tls_end : l.tls.end < 2 ^ 64
   pub symbols : SymbolsFit l
   pub loaded : m.machine ≡ processor_of l.machine
-  pub slots : HasSlots l w m
+  pub slots : KeepsAll l → HasSlots l w m
 
 -- ---- expressions
 
@@ -117,10 +119,19 @@ is_expressed machine.AArch64 t less (Some mask) = is_mask (page_mask t less) mas
 abbrev pub value_by_row : RelocationKindInfo → Value
 value_by_row info = value_of info.kind info.mask info.size
 
+-- the expression of a row goes by no slot and by no stub; on AArch64 the place itself stands for a symbol that is not there
+abbrev pub IsDirect : Layout → InputRelocation → RelocationKindInfo → Term → Type 0
+IsDirect l r info term.Symbol = TakesAddress (value_by_row info) → (i : ℕ) → r.symbol ≡ Some i → IsStubbed l i → ⊥
+IsDirect l r info term.Stub = is_own_place l.machine l r info ≡ true
+IsDirect l r info (term.Slot sort) = ⊥
+IsDirect l r info other = ⊤
+
 -- a relocation of an allocated section whose value x in its field is the writer's expression of a row, at a place that does
--- not wrap; the layout treats it as a value, it is asked at this base, and an addend that finds a merged string is a number of the machine
+-- not wrap; the layout treats it as a value, it is asked at this base, and an addend that finds a merged string is a number of the machine. Where
+-- slots and stubs are not written, it goes by none
 pub record HasTerm (l : Layout) (w : World) (m : Memory) (s : Item) (r : InputRelocation) (info : RelocationKindInfo) (x : ℕ) : Type 0 where
   pub placed : IsPlaced l w m
+  pub present : KeepsAll l ⊎ IsDirect l r info (expression_of info.kind).term
   pub room : allocated s.flags ≡ true
   pub listed : NamesSymbol l r
   pub number : ℕ

@@ -10,6 +10,7 @@ use Rattle.wild_types.specs.declared.kind.Machine.TheVariants as machine
 use Rattle.wild_types.specs.declared.input.InputRelocation.{InputRelocation}
 use Rattle.wild_types.specs.Item.{Item}
 use Rattle.wild_types.specs.FileThunks.{thunk_size}
+use Rattle.wild_types.specs.Hollow.{KeepsAll}
 use Rattle.wild_types.specs.Lookups.{place_of}
 use Rattle.wild_reloc.specs.Range.{contains}
 use Rattle.wild_reloc.specs.Formula.{StubDistance}
@@ -56,7 +57,7 @@ pub record Carries (info : RelocationKindInfo) : Type 0 where
   pub next : contains info.range 4 ≡ true
 
 -- where the row's value is out of its range, the thunk of the symbol's definition in the item's block goes on to what the symbol is, so that a
--- branch which adds nothing comes there by the distance of the thunk; a branch to the symbol itself goes to no merged string
+-- branch which adds nothing comes there by the distance of the thunk, where all is written; a branch to the symbol itself goes to no merged string
 abbrev pub ThunksGive : Type 0
-ThunksGive = (info : RelocationKindInfo) → Carries info → (l : Layout) (w : World) (m : Memory) (s : Item) (r : InputRelocation) (x : ℕ) (t : Thunk) → l.machine ≡ machine.AArch64 → HasTerm l w m s r info x → EachThunkGoesOn l w m → (info.kind ≡ kinds.Relative → names_merged l r.symbol ≡ false) → IsFollowed l r (value_by_row info)
+ThunksGive = (info : RelocationKindInfo) → Carries info → (l : Layout) (w : World) (m : Memory) (s : Item) (r : InputRelocation) (x : ℕ) (t : Thunk) → l.machine ≡ machine.AArch64 → KeepsAll l → HasTerm l w m s r info x → EachThunkGoesOn l w m → (info.kind ≡ kinds.Relative → names_merged l r.symbol ≡ false) → IsFollowed l r (value_by_row info)
     → contains info.range x ≡ false → thunk_for l s.thunk_block r.symbol ≡ Some t → added r ≡ 0 → Gives StubDistance l w m s r (less t.address (place_of s.address r))

@@ -5,7 +5,7 @@ ghost use Rattle.wild_reloc.specs.declared.expression.Term.TheVariants as term;
 ghost use Rattle.wild_references.specs.Laws.{AddressesGive, AddressesGiveLinked, EntriesGive, ItemFieldsHold, ItemsHaveBytes, OutputsMoveByPages, PartsGive, PartsGiveLinked, SlotsGive, StubsStand, TermGives, TermGivesLinked, ThreadPlacesAreKnown};
 ghost use Rattle.wild_references.specs.Stubs.{StubsGoOn};
 ghost use Rattle.wild_references.specs.Thunks.{ThunksGive, ThunksGoOn};
-ghost use Rattle.wild_references.specs.Filled.{FilledInstructionsDo};
+ghost use Rattle.wild_references.specs.FilledX86_64.{FilledInstructionsDo};
 ghost use Rattle.wild_references.specs.EffectLaws.{InstructionsAreKept, ItemsHold, KeptInstructionsDo, OthersAreKept, PartnersHold, RewrittenAreFollowed, RewrittenHold, RewrittenStand, SequencesAreKept, WindowsAreAlone};
 
 use wild_geometry::machines_have_their_facts;

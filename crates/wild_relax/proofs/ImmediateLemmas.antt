@@ -12,7 +12,7 @@ use Rattle.wild_relax.specs.declared.pattern.Operation.TheVariants as operation
 use Rattle.wild_relax.specs.declared.pattern.Pattern.TheVariants as pattern
 use Rattle.wild_relax.specs.declared.row.Made.TheVariants as made
 use Rattle.wild_relax.specs.Pattern.{opcode}
-use Rattle.wild_relax.specs.Keep.{ReadsNumbers}
+use Rattle.wild_relax.specs.KeepX86_64.{ReadsNumbers}
 use Rattle.wild_relax.proofs.KeepLemmas.{SlotByte, IsWide, Back, Same}
 
 -- ModRM has the digit and the register

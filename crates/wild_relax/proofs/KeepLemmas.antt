@@ -12,7 +12,7 @@ use Rattle.wild_relax.specs.declared.row.Made.{Made}
 use Rattle.wild_relax.specs.declared.row.Made.TheVariants as made
 use Rattle.wild_relax.specs.Pattern.{field_of}
 use Rattle.wild_relax.specs.RewriteX86_64.{change_of, made_bytes}
-use Rattle.wild_relax.specs.Keep.{ReadsNumbers}
+use Rattle.wild_relax.specs.KeepX86_64.{ReadsNumbers}
 
 -- the bytes of the pattern with those of the field
 abbrev pub placed : Pattern → Made → List ℕ → List ℕ → List ℕ

@@ -36,7 +36,7 @@ use Rattle.wild_relax.specs.Rows.{rows_x86_64}
 use Rattle.wild_words.proofs.Basics.{or_other, listed_passes}
 use Rattle.wild_relax.specs.Pattern.{cells_of, field_of, opcode}
 use Rattle.wild_relax.specs.Linked.{pattern_of, keeps_bytes}
-use Rattle.wild_relax.specs.Keep.{IsWhole, distance, ReadsNumbers, no_effect, Lands, demanded, IsField, RowsKeep}
+use Rattle.wild_relax.specs.KeepX86_64.{IsWhole, distance, ReadsNumbers, no_effect, Lands, demanded, IsField, RowsKeep}
 use Rattle.wild_relax.proofs.StubLemmas.{read_back}
 use Rattle.wild_relax.proofs.ShapeLemmas.{filled, shape, shape-stands}
 use Rattle.wild_relax.proofs.KeepLemmas.{placed, SlotByte, IsWide, Back, lea_bare, lea_rex, lea_rex2, call_direct, jump_direct}

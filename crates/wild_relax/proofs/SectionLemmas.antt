@@ -23,7 +23,7 @@ use Rattle.wild_relax.specs.Rows.{rows_x86_64, chosen_x86_64}
 use Rattle.wild_relax.specs.Rewrite.{rewritten}
 use Rattle.wild_relax.specs.RewriteX86_64.{rewrite_of}
 use Rattle.wild_relax.specs.Linked.{either_pattern, pattern_of, keeps_bytes, field_in, fits_in, IsChanging}
-use Rattle.wild_relax.specs.Keep.{IsWhole}
+use Rattle.wild_relax.specs.KeepX86_64.{IsWhole}
 use Rattle.wild_relax.specs.Section.{start_of, window, field_after, ChosenStand, ChosenAreWhole, SectionsAreLinked}
 use Rattle.wild_relax.proofs.RoomLemmas.{chosen_is, always_stands, needed_stands, applied}
 use Rattle.wild_relax.proofs.RewriteLemmas.{info_is, length-made_bytes, lies_in}

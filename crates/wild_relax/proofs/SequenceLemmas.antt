@@ -13,7 +13,7 @@ use Rattle.wild_relax.specs.declared.row.Made.{Made}
 use Rattle.wild_relax.specs.declared.row.Made.TheVariants as made
 use Rattle.wild_relax.specs.declared.pattern.Pattern.TheVariants as pattern
 use Rattle.wild_relax.specs.Pattern.{cells_of}
-use Rattle.wild_relax.specs.Keep.{ReadsNumbers}
+use Rattle.wild_relax.specs.KeepX86_64.{ReadsNumbers}
 use Rattle.wild_relax.proofs.ShapeLemmas.{filled}
 use Rattle.wild_relax.proofs.KeepLemmas.{placed, Back, Same}
 

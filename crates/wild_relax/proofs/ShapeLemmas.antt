@@ -5,7 +5,7 @@ use Rattle.std.proofs.lemmas.Bool.{and_parts}
 use Rattle.wild_relax.specs.declared.pattern.Cell.{Cell}
 use Rattle.wild_relax.specs.declared.pattern.Cell.TheVariants.{Is, RexWide, Rex2Wide, Slot, Any}
 use Rattle.wild_relax.specs.Pattern.{fits, stands}
-use Rattle.wild_relax.specs.Keep.{IsWhole}
+use Rattle.wild_relax.specs.KeepX86_64.{IsWhole}
 
 -- the byte of a cell: the fixed one, or the one that is there
 abbrev pub spelled : Cell → ℕ → ℕ

@@ -11,7 +11,7 @@ pub mod RowsAArch64
 pub mod ByNumber
 pub mod Linked
 pub mod Relaxation
-pub mod Keep
+pub mod KeepX86_64
 pub mod Section
 pub mod Laws
 pub mod ThunkAArch64

@@ -19,7 +19,7 @@ use Rattle.wild_relax.specs.Rows.{rows_x86_64, applies, chosen_x86_64}
 use Rattle.wild_relax.specs.Rewrite.{rewritten}
 use Rattle.wild_relax.specs.RewriteX86_64.{rewrite_of}
 use Rattle.wild_relax.specs.Linked.{pattern_of, pattern_size, IsChanging, linked}
-use Rattle.wild_relax.specs.Keep.{IsWhole}
+use Rattle.wild_relax.specs.KeepX86_64.{IsWhole}
 
 -- where the row's pattern begins
 abbrev pub start_of : Question → Row → ℕ

@@ -1,6 +1,6 @@
 //! Laws: what is written does what is asked of it.
 ghost use Rattle.wild_relax.specs.Laws.{StubsJump};
-ghost use Rattle.wild_relax.specs.Keep.{RowsHaveTypes, RowsKeep};
+ghost use Rattle.wild_relax.specs.KeepX86_64.{RowsHaveTypes, RowsKeep};
 ghost use Rattle.wild_relax.specs.Section.{ChosenStand, ChosenAreWhole, SectionsAreLinked};
 
 use wild_words::owners_of_bytes;

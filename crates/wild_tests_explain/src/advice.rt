@@ -112,6 +112,31 @@ fn advice(rt: HostRuntime) -> Result<(), Fail> {
     Ok(())
 }
 
+/// Nothing loads an image for debuggers alone.
+#[test]
+fn no_advice(rt: HostRuntime) -> Result<(), Fail> {
+    let entry = (
+        r#""entry":{"address":4194432}"#,
+        r#""entry":{"address":4198400}"#,
+    );
+    let debug_only = (
+        r#""strip_all":true"#,
+        r#""strip_all":true,"only_keep_debug":true"#,
+    );
+    assert!(rt; tells(&rt, rt.alloc(), SMALLEST, &[entry], "\nadvice: /entry")?);
+    assert!(rt;
+        tells(
+            &rt,
+            rt.alloc(),
+            SMALLEST,
+            &[entry, debug_only],
+            "image 344\n"
+        )?
+    );
+    assert!(rt; !tells(&rt, rt.alloc(), SMALLEST, &[entry, debug_only], "advice")?);
+    Ok(())
+}
+
 /// A plan that is refused lacks a member, or has one that is unknown.
 #[test]
 fn members(rt: HostRuntime) -> Result<(), Fail> {

@@ -2,9 +2,13 @@
 --   bit flags n            the flag is set
 --   kind_at l k            the type of the section with header index k; SHT_NULL where there is none
 --   is_allocated_part l p  the part lies in a section other than section 0 that is allocated (SHF_ALLOC)
---   is_without_data s      the section has no bytes in the file
---   takes_file_bytes l k   the section with header index k has
---   is_filled l s          the input section stands in its part's range and owns bytes of the image
+--   is_without_data s      the section's type is that of sections without bytes in the file
+--   is_hollow l s          nothing of the section is written: the image is for debuggers, and a program would load the section
+--   fills_file l s         the section has bytes in the file
+--   has_data l k           the type of the section with header index k is that of one with bytes in the file
+--   takes_file_bytes l k   that section has some
+--   is_given l s           the input section stands in its part's range, with bytes in the plan
+--   is_filled l s          it owns bytes of the image
 --   is_read s              a loader may apply its relocations, where it stands as it is or is one of frames; is_written s they are written into
 --                          its bytes; is_counted s they are counted
 --   image_size l           the greatest end of a file range of a part or a section
@@ -22,7 +26,7 @@ use Rattle.wild_types.specs.declared.file.File.{File}
 use Rattle.wild_types.specs.declared.layout.Layout.{Layout}
 use Rattle.wild_types.specs.Kinds.{is_position_independent, is_partial_link}
 use Rattle.std.specs.Int.RustNames.{bit_and}
-use Rattle.wild_records.specs.Abi.Section.{sht_null, sht_nobits, shf_write, shf_alloc, shf_execinstr, shf_tls, shn_loreserve}
+use Rattle.wild_records.specs.Abi.Section.{sht_null, sht_note, sht_nobits, shf_write, shf_alloc, shf_execinstr, shf_tls, shn_loreserve}
 use Rattle.wild_types.specs.declared.part.Part.{Part}
 use Rattle.wild_types.specs.declared.section.Section.{Section}
 use Rattle.wild_types.specs.declared.input.Slot.{Slot}
@@ -85,9 +89,34 @@ abbrev pub without_data : Option Section → Bool
 without_data None = false
 without_data (Some s) = is_without_data s
 
--- what stands in the section with header index k takes bytes of the file
+-- an image for debuggers alone has nothing of a section that a program would load, but notes, by which debuggers find it (gABI, "Sections":
+-- SHF_ALLOC, SHT_NOTE)
+abbrev pub is_hollow : Layout → Section → Bool
+is_hollow l s = l.options.only_keep_debug && (allocated s.flags && not (s.kind == sht_note))
+
+abbrev pub hollow : Layout → Option Section → Bool
+hollow l None = false
+hollow l (Some s) = is_hollow l s
+
+-- nothing is written of the section with header index k, which is another than section 0
+abbrev pub is_hollow_at : Layout → ℕ → Bool
+is_hollow_at l k = not (k == 0) && hollow l (slice_get l.sections k)
+
+-- the part lies in such a section
+abbrev pub is_hollow_part : Layout → ℕ → Bool
+is_hollow_part l part = is_hollow_at l (section_of l part)
+
+-- a section other than section 0 has bytes in the file
+abbrev pub fills_file : Layout → Section → Bool
+fills_file l s = not (is_without_data s) && not (is_hollow l s)
+
+-- what stands in the section with header index k has bytes, which the file has where that section is written
+abbrev pub has_data : Layout → ℕ → Bool
+has_data l k = not (without_data (slice_get l.sections k))
+
+-- what stands there takes bytes of the file
 abbrev pub takes_file_bytes : Layout → ℕ → Bool
-takes_file_bytes l k = not (without_data (slice_get l.sections k))
+takes_file_bytes l k = has_data l k && not (is_hollow_at l k)
 
 abbrev pub is_loaded : Slot → Bool
 is_loaded slot.Loaded = true
@@ -120,7 +149,7 @@ has_counted other = false
 -- there are bytes of the input section, or in a section with data zeros where it has none; those of a table of relocations are made
 abbrev pub has_bytes : Layout → InputSection → Bool
 has_bytes l s =
-    if s.nobits then has_counted s.slot && (not (s.size == 0) && takes_file_bytes l (section_of l s.part))
+    if s.nobits then has_counted s.slot && (not (s.size == 0) && has_data l (section_of l s.part))
     else if is_rela s.slot then not (s.size == 0)
     else not (length s.bytes == 0)
 
@@ -133,9 +162,13 @@ has_range slot.Rela = true
 has_range slot.Group = true
 has_range other = false
 
--- the input section stands so and owns bytes of the image: its own, zeros where it has none, or what is made of it
+-- the input section stands so, with bytes: its own, zeros where it has none, or what is made of it
+abbrev pub is_given : Layout → InputSection → Bool
+is_given l s = has_range s.slot && has_bytes l s
+
+-- and it owns these bytes of the image
 abbrev pub is_filled : Layout → InputSection → Bool
-is_filled l s = has_range s.slot && has_bytes l s
+is_filled l s = is_given l s && not (is_hollow_part l s.part)
 
 -- of a section that is loaded as it is, or of frames, a loader may apply relocations
 abbrev pub has_relocations : Slot → Bool
@@ -161,9 +194,13 @@ is_written s = has_fields s.slot && not s.nobits
 abbrev pub is_counted : InputSection → Bool
 is_counted s = has_counted s.slot && not s.nobits
 
--- a section that stands in its part's range, or in a given order, owns bytes of the image
+-- a section that stands in its part's range, or in a given order, has bytes
+abbrev pub brings_bytes : Layout → InputSection → Bool
+brings_bytes l s = (has_range s.slot || has_counted s.slot) && has_bytes l s
+
+-- and owns these bytes of the image
 abbrev pub owns_bytes : Layout → InputSection → Bool
-owns_bytes l s = (has_range s.slot || has_counted s.slot) && has_bytes l s
+owns_bytes l s = brings_bytes l s && not (is_hollow_part l s.part)
 
 abbrev pub file_end : Bool → ℕ → ℕ → ℕ
 file_end takes offset size = if takes && not (size == 0) then offset + size else 0
@@ -172,13 +209,13 @@ abbrev pub parts_end : Layout → List Part → ℕ
 parts_end l [] = 0
 parts_end l (p ∷ ps) = max (file_end (takes_file_bytes l p.section) p.offset p.size) (parts_end l ps)
 
-abbrev pub sections_end : List Section → ℕ
-sections_end [] = 0
-sections_end (s ∷ ss) = max (file_end (not (is_without_data s)) s.offset s.size) (sections_end ss)
+abbrev pub sections_end : Layout → List Section → ℕ
+sections_end l [] = 0
+sections_end l (s ∷ ss) = max (file_end (fills_file l s) s.offset s.size) (sections_end l ss)
 
 -- the greatest end of a file range of a part, or of a section other than section 0
 unfoldable pub image_size : Layout → ℕ
-image_size l = max (parts_end l l.parts) (sections_end (drop 1 l.sections))
+image_size l = max (parts_end l l.parts) (sections_end l (drop 1 l.sections))
 
 -- an input section that is not discarded has an address where that is not 0 or its part is not allocated
 abbrev pub has_address : Layout → InputSection → Bool

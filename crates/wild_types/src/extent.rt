@@ -44,12 +44,12 @@ fn parts_end(layout: &Layout, parts: &[Part]) -> u128
     end
 }
 
-fn sections_end(sections: &[Section]) -> u128
-    ensures { result ≡ sections_end sections.now }
+fn sections_end(layout: &Layout, sections: &[Section]) -> u128
+    ensures { result ≡ sections_end layout.now sections.now }
 {
     let mut end = 0;
     for section in sections {
-        let takes = !section.is_without_data();
+        let takes = layout.fills_file(section);
         end = end.max(file_end(takes, section.offset, section.size));
     }
     end
@@ -62,7 +62,7 @@ impl Layout {
         ensures { result ≡ image_size self.now }
     {
         let parts = parts_end(self, self.parts.as_slice());
-        let sections = sections_end(behind_first(self.sections.as_slice()));
+        let sections = sections_end(self, behind_first(self.sections.as_slice()));
         parts.max(sections)
     }
 }

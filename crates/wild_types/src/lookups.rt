@@ -2,17 +2,19 @@
 ghost use Rattle.std.specs.Prelude.{◌≡◌, ◌+◌, ◌^◌, ◌%◌, ◌<◌, true, length, drop, take, slice_range};
 ghost use Rattle.wild_types.specs.FileSymbols.{range_of, own_symbols, loaded_symbols};
 ghost use Rattle.wild_types.specs.FileThunks.{block_of, thunks_of};
-ghost use Rattle.wild_types.specs.Lookups.{place_of, packs, has_moved, writable, allocated, executable, thread_local, kind_at, section_of, is_allocated_section, is_allocated_part, is_without_data, takes_file_bytes, is_loaded, is_discarded, is_filled, is_read, is_written, is_frame, is_debug, is_counted, has_range, has_counted, has_bytes, owns_bytes, has_address, canonical, has_table, has_many_sections};
+ghost use Rattle.wild_types.specs.Lookups.{place_of, packs, has_moved, writable, allocated, executable, thread_local, kind_at, section_of, is_allocated_section, is_allocated_part, is_without_data, is_hollow, is_hollow_at, is_hollow_part, fills_file, has_data, takes_file_bytes, is_loaded, is_discarded, is_given, is_filled, is_read, is_written, is_frame, is_debug, is_counted, has_range, has_counted, has_bytes, brings_bytes, owns_bytes, has_address, canonical, has_table, has_many_sections};
+ghost use Rattle.wild_types.specs.Hollow.{is_hollow_role, is_dropped};
 ghost use Rattle.wild_types.specs.SymbolSlots.{names_slot, names_stub};
 
 use crate::file::File;
 use crate::index::{SectionIndex, SymbolIndex};
 use crate::input::{InputRelocation, InputSection, Slot};
 use crate::layout::{Layout, Thunk};
+use crate::part::{Role, part_with};
 use crate::section::Section;
 use crate::symbol::{Symbol, got_of, is_own, plt_of};
 use wild_records::abi::section::{
-    SHF_ALLOC, SHF_EXECINSTR, SHF_TLS, SHF_WRITE, SHN_LORESERVE, SHT_NOBITS, SHT_NULL,
+    SHF_ALLOC, SHF_EXECINSTR, SHF_TLS, SHF_WRITE, SHN_LORESERVE, SHT_NOBITS, SHT_NOTE, SHT_NULL,
 };
 
 /// Whether the flags have `SHF_WRITE`.
@@ -130,14 +132,63 @@ impl Layout {
         self.is_allocated_section(self.section_of(part))
     }
 
-    /// Whether what stands in the section with that header index takes bytes of the file.
-    pub fn takes_file_bytes(&self, index: SectionIndex) -> bool
-        ensures { result ≡ takes_file_bytes self.now index }
+    /// Whether nothing of the section is written: the image is for debuggers alone, and a program would load the section. Notes are
+    /// written, by which debuggers find the image.
+    pub fn is_hollow(&self, section: &Section) -> bool
+        ensures { result ≡ is_hollow self.now section.now }
+    {
+        self.options.only_keep_debug && is_allocated(section.flags) && section.kind != SHT_NOTE
+    }
+
+    /// Whether that is so of the section with that header index, which is another than section 0.
+    pub fn is_hollow_at(&self, index: SectionIndex) -> bool
+        ensures { result ≡ is_hollow_at self.now index }
+    {
+        match self.sections.as_slice().get(index.0) {
+            Some(section) => index.0 != 0 && self.is_hollow(section),
+            None => false,
+        }
+    }
+
+    /// Whether a part lies in such a section.
+    pub fn is_hollow_part(&self, part: usize) -> bool
+        ensures { result ≡ is_hollow_part self.now part }
+    {
+        self.is_hollow_at(self.section_of(part))
+    }
+
+    /// Whether nothing is written of the section in which the first part of a role lies.
+    pub fn is_hollow_role(&self, role: Role) -> bool
+        ensures { result ≡ is_hollow_role self.now role }
+    {
+        match part_with(role, self.parts.as_slice()) {
+            Some(part) => self.is_hollow_at(part.section),
+            None => false,
+        }
+    }
+
+    /// Whether a section other than section 0 has bytes in the file.
+    pub fn fills_file(&self, section: &Section) -> bool
+        ensures { result ≡ fills_file self.now section.now }
+    {
+        !section.is_without_data() && !self.is_hollow(section)
+    }
+
+    /// Whether what stands in the section with that header index has bytes, which the file has where that section is written.
+    pub fn has_data(&self, index: SectionIndex) -> bool
+        ensures { result ≡ has_data self.now index }
     {
         match self.sections.as_slice().get(index.0) {
             Some(section) => !section.is_without_data(),
             None => true,
         }
+    }
+
+    /// Whether what stands in that section takes bytes of the file.
+    pub fn takes_file_bytes(&self, index: SectionIndex) -> bool
+        ensures { result ≡ takes_file_bytes self.now index }
+    {
+        self.has_data(index) && !self.is_hollow_at(index)
     }
 
     /// The symbol that defines a symbol.
@@ -265,7 +316,7 @@ impl Layout {
 }
 
 impl Section {
-    /// Whether the section has room in memory alone, and no bytes in the file.
+    /// Whether the section's type is that of sections which have room in memory alone, and no bytes in the file.
     pub fn is_without_data(&self) -> bool
         ensures { result ≡ is_without_data self.now }
     {
@@ -281,7 +332,7 @@ impl InputSection {
         if self.nobits {
             self.slot.has_counted()
                 && self.size != 0
-                && layout.takes_file_bytes(layout.section_of(self.part))
+                && layout.has_data(layout.section_of(self.part))
         } else if matches!(self.slot, Slot::Rela) {
             self.size != 0
         } else {
@@ -289,18 +340,43 @@ impl InputSection {
         }
     }
 
-    /// Whether the section stands in its part's range and owns bytes of the image: its own, zeros where it has none, or what is made of it.
-    pub fn is_filled(&self, layout: &Layout) -> bool
-        ensures { result ≡ is_filled layout.now self.now }
+    /// Whether the section stands in its part's range, with bytes: its own, zeros where it has none, or what is made of it.
+    pub fn is_given(&self, layout: &Layout) -> bool
+        ensures { result ≡ is_given layout.now self.now }
     {
         self.slot.has_range() && self.has_bytes(layout)
     }
 
-    /// The same of such a section or one that stands in a given order.
+    /// Whether it owns these bytes of the image.
+    pub fn is_filled(&self, layout: &Layout) -> bool
+        ensures { result ≡ is_filled layout.now self.now }
+    {
+        self.is_given(layout) && !layout.is_hollow_part(self.part)
+    }
+
+    /// Whether the section stands so, or in a given order, with bytes.
+    pub fn brings_bytes(&self, layout: &Layout) -> bool
+        ensures { result ≡ brings_bytes layout.now self.now }
+    {
+        (self.slot.has_range() || self.slot.has_counted()) && self.has_bytes(layout)
+    }
+
+    /// Whether it owns these bytes of the image.
     pub fn owns_bytes(&self, layout: &Layout) -> bool
         ensures { result ≡ owns_bytes layout.now self.now }
     {
-        (self.slot.has_range() || self.slot.has_counted()) && self.has_bytes(layout)
+        self.brings_bytes(layout) && !layout.is_hollow_part(self.part)
+    }
+
+    /// Whether nothing of the section is written: its part lies in a section of which nothing is. Frames lie in the part of frames.
+    pub fn is_dropped(&self, layout: &Layout) -> bool
+        ensures { result ≡ is_dropped layout.now self.now }
+    {
+        if self.slot.is_frame() {
+            layout.is_hollow_role(Role::EhFrame)
+        } else {
+            layout.is_hollow_part(self.part)
+        }
     }
 
     /// Whether the relocations are read: those of a loaded section with data are, and those of frames.

@@ -2,7 +2,6 @@
 use Rattle.std.proofs.Common.{◌≡◌, Bool, true, false, sym, ap, ◌∙◌, subst, ℕ}
 use Rattle.std.specs.Prelude.{◌||◌, not, slice_get, Some}
 use Rattle.wild_meaning.proofs.SymbolLemmas.{canonical_is}
-use Rattle.wild_words.proofs.ListLemmas.{holds_at}
 use Rattle.wild_types.specs.declared.symbol.Symbol.{Symbol}
 use Rattle.wild_types.specs.Flags.{has_flag, absolute, ifunc}
 use Rattle.wild_clauses.specs.SlotFlags.{resolver_moves}

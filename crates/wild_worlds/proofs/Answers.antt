@@ -114,7 +114,7 @@ value_by w answers true still raw h = h
 value_by w answers false still raw h = refl
 
 -- the address of a symbol that was decided
-raw_is : (l : Layout) (i c raw : ℕ) (s : Symbol) (r : Resolution) → IsDefinedBy l i c → IsSymbol l c s → s.resolution ≡ Some r → HasRaw l i raw → raw ≡ r.raw_value
+pub raw_is : (l : Layout) (i c raw : ℕ) (s : Symbol) (r : Resolution) → IsDefinedBy l i c → IsSymbol l c s → s.resolution ≡ Some r → HasRaw l i raw → raw ≡ r.raw_value
 raw_is l i c raw s r defined listed decided h = by_given l i c raw s r h.definition defined h.defined listed decided h.given
   where
     by_given : (l : Layout) (i c raw : ℕ) (s : Symbol) (r : Resolution) (d : ℕ) → IsDefinedBy l i c → IsDefinedBy l i d → IsSymbol l c s → s.resolution ≡ Some r → IsResolved l d raw ⊎ (IsUnresolved l d × StandsAt l i raw) → raw ≡ r.raw_value

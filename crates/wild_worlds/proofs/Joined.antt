@@ -1,4 +1,4 @@
--- The layouts that call a function have all that the headline asks for.
+-- The layouts that call a function, and the one for debuggers alone, have all that the headline asks for.
 use Rattle.std.proofs.Common.{◌≡◌, ℕ, ◌+◌, ◌^◌, ◌<◌, ◌≤◌, inr, false, List, [], ◌∷◌, refl, ap, sym, ◌∙◌, arith, subst}
 use Rattle.std.specs.Prelude.{Option, Some, None, All}
 use Rattle.std.proofs.lemmas.List.Elements.{All-from_recursion, All-contains}
@@ -28,6 +28,7 @@ use Rattle.wild_layout.specs.Faults.{errors}
 use Rattle.wild_layout.specs.Image.{bytes}
 use Rattle.wild_layout.specs.Geometry.{LayoutsAreLaidOut}
 use Rattle.wild_layout.specs.Numbers.{NumbersFit}
+use Rattle.wild_meaning.specs.Section.{IsForDebuggers}
 use Rattle.wild_meaning.specs.World.{IsMovable, IsCopied}
 use Rattle.wild_meaning.specs.Value.{IsAbsolute, HasFlag}
 use Rattle.wild_types.specs.Item.{item_with}
@@ -41,6 +42,7 @@ use Rattle.wild_made.specs.Laws.{CallingFaults, CallingNumbers}
 use Rattle.wild_made.specs.Made.{file_with, plain_file}
 use Rattle.wild_worlds.specs.Worlds.{IsRoomy, Others, AreNumbers, IsTold, HasWorld}
 use Rattle.wild_worlds.specs.Joined.{HasCall, IsJoined, IsMet, PremisesAreJoined}
+use Rattle.wild_worlds.proofs.DebugFile.{debuggers_joined}
 use Rattle.wild_worlds.proofs.Premises.{few_alone}
 use Rattle.wild_worlds.proofs.Worked.{branches_asked}
 use Rattle.wild_worlds.proofs.Worlds.{worlds_there}
@@ -55,8 +57,12 @@ branch_formula : aarch64_formula r_aarch64_call26 ≡ Some (formula StubDistance
 unfolding aarch64_formula
 branch_formula = refl
 
+-- all of it is written
+whole : (c : Code) (k : OutputKind) (e : Role) (n m : ℕ) (f : Symbol) → IsForDebuggers (calling c k e n m f) → ⊥
+whole c k e n m f bare = cc
+
 kept : (c : Code) (k : OutputKind) (e : Role) (n m : ℕ) (f : Symbol) → IsKept (calling c k e n m f) (item_with 0 (calling_code c))
-kept c k e n m f = OfSection (calling_code c) (record { input = record { group = _; grouped = (0, omega arith, refl); file = _; filed = (1, omega arith, refl); listed = (0, omega arith, refl) }; loaded = tt; room = refl; has_data = refl }) refl
+kept c k e n m f = OfSection (calling_code c) (record { input = record { group = _; grouped = (0, omega arith, refl); file = _; filed = (1, omega arith, refl); listed = (0, omega arith, refl) }; loaded = tt; room = refl; has_data = refl; written = λ p there h. whole c k e n m f h.bare }) refl
 
 moving : (c : Code) (k : OutputKind) (e : Role) (n m : ℕ) (f : Symbol) → f.definition ≡ None → has_flag f.flags absolute ≡ false → HasFlag (calling c k e n m f) 0 absolute false
 moving c k e n m f own plain = record { definition = 0; defined = record { symbol = f; listed = refl; defined = inr (own, refl) }; symbol = f; listed = refl; flagged = plain }
@@ -162,10 +168,10 @@ joined c k e n m f short laws sound movable small call none numbers =
       legal = w.legal;
       linked = linked;
       call = call;
-      holds = (linked.kept call.item call.kept).references call.reference call.refers (λ x. absurd (call.ordinary x)) call.followed;
+      holds = (linked.kept call.item call.kept).references call.reference call.refers (λ x. whole c k e n m f x.0) (λ x. absurd (call.ordinary x)) call.followed;
     }
 
--- ---- the six layouts
+-- ---- the layouts
 
 its_flags : (c : Code) (flags raw : ℕ) (place : Place) (index stub : Option ℕ) → HasItsFlags (called c flags place raw index stub)
 its_flags c flags raw place index stub r e = same _ r e
@@ -208,4 +214,5 @@ premises_joined laws sound faults numbers = record {
   words_static_pie = words_static_joined laws sound faults numbers;
   words = words_joined laws sound faults numbers;
   words_shared = words_shared_joined laws sound faults numbers;
+  for_debuggers = debuggers_joined laws sound;
 }

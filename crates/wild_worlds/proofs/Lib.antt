@@ -6,4 +6,6 @@ mod Resolvers
 mod Indirect
 mod Answers
 mod Worlds
+mod OnLiterals
+mod DebugFile
 mod Joined

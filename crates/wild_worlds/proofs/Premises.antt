@@ -22,7 +22,7 @@ use Rattle.wild_meaning.specs.Value.{HasRaw, HasFlag, HasOwnValue, IsReplaceable
 use Rattle.wild_loader.specs.Reach.{Reaches}
 use Rattle.wild_meaning.specs.Denotes.{HasStub, Denotes}
 use Rattle.wild_types.specs.Item.{Item}
-use Rattle.wild_meaning.specs.Item.{IsLoadedSlot, OfSection}
+use Rattle.wild_meaning.specs.Item.{IsLoadedSlot}
 use Rattle.wild_meaning.specs.Field.{formula_of}
 use Rattle.wild_meaning.specs.Formula.{IsPlaceRelative, TakesAddress, TakesOffset}
 use Rattle.wild_meaning.specs.Section.{IsSet}
@@ -36,6 +36,7 @@ use Rattle.wild_meaning.proofs.InstructionsAArch64.{numbers_in, numbered}
 use Rattle.wild_worlds.specs.Worlds.{KindsAreLoaded}
 use Rattle.wild_worlds.specs.References.{SectionsAreKept, RelocationsRefer, ReferencesAreAsked, SlotsAreAsked, FewAreLinkedAlone, BlanksAreAsked, ResolversAreNotAbsolute}
 use Rattle.wild_worlds.specs.Symbols.{AddressesMove}
+use Rattle.wild_laws.proofs.FirstPath.{kept}
 use Rattle.wild_laws.proofs.Symbols.{not_both, not_replaceable, own_value, moved_value}
 
 -- ---- kinds
@@ -60,7 +61,7 @@ kinds_loaded = record { static = tt; dynamic = tt; static_elsewhere = tt; dynami
 -- ---- items and references
 
 pub sections_kept : SectionsAreKept
-sections_kept = λ l s h. OfSection s (record { input = record { group = h.group; grouped = h.grouped; file = h.file; filed = h.filed; listed = h.listed }; loaded = subst IsLoadedSlot (sym h.loaded) tt; room = bit_alloc s.flags h.carried; has_data = h.has_data }) refl
+sections_kept = λ l s h. kept l s h
 
 pub relocations_refer : RelocationsRefer
 relocations_refer = λ item r c n. record { listed = c; refers = n }

@@ -2,4 +2,5 @@ pub mod Worlds
 pub mod References
 pub mod Symbols
 pub mod Worked
+pub mod DebugFile
 pub mod Joined

@@ -47,6 +47,8 @@ pub fn premises_are_met()
 
 /// They are met together: for each kind of output that is loaded anywhere, on either machine, there is a layout without faults, a legal world
 /// at another base than 0 in which its image is linked, and a kept item with a call, on x86-64 through a slot, which is asked there and holds.
+/// So there is for debuggers alone, of x86-64, with a note: a reference of it is asked and holds, another one is left out, a section of code is not
+/// written, and no image is linked there where the field of the first one is another number.
 pub fn premises_are_joined()
     ensures { PremisesAreJoined }
 {

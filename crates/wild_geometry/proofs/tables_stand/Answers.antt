@@ -72,10 +72,10 @@ length-bytes l laid = length-overlay (pieces l) (padding l) (apart_in l laid) 鈭
 
 pub returns : goal.returns
 unfolding bytes
-returns c = 位 l laid r some p found size.
+returns c = 位 l laid r some p found written size.
     let t = (laid.roles r some).there p found in
     let long = length-bytes l laid in
     let same = t.size in
-    let ends = t.ends size in
+    let ends = t.ends written size in
     joined (bytes l) (content l r) l.groups p.offset (omega arith) (位 j g low more.
-    Stands-overlay (record { at = p.offset + total (位 (x : Group). length (content l r x)) (take j l.groups); bytes = content l r (get_or l.groups j g) }) (pieces l) (padding l) (apart_in l laid) (t.pieces j g low more))
+    Stands-overlay (record { at = p.offset + total (位 (x : Group). length (content l r x)) (take j l.groups); bytes = content l r (get_or l.groups j g) }) (pieces l) (padding l) (apart_in l laid) (t.pieces written j g low more))

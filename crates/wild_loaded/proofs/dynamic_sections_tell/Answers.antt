@@ -4,7 +4,7 @@ use Rattle.wild_loaded.proofs.Loads.{has_headers, are_loadable}
 use Rattle.wild_loaded.proofs.dynamic_sections_tell.Goals as goal
 
 pub returns : goal.returns
-returns c = λ l w k needs numbers legal laid slots. linker_told l w.base (record {
+returns c = λ l w keeps k needs numbers legal laid slots. linker_told l w.base (record {
   dynamic = c.dynamic_entry_is_read.ensures;
   relas = c.rela_is_read.ensures;
   words = c.relr_is_read.ensures;
@@ -12,4 +12,4 @@ returns c = λ l w k needs numbers legal laid slots. linker_told l w.base (recor
   found = c.dynamic_sections_are_read.ensures.found;
   stand = c.dynamic_sections_stand.ensures;
   tables = c.tables_are_found.ensures.found;
-}) needs numbers laid slots (are_loadable l w k legal laid) (headers_read c.file_header_is_read.ensures c.program_header_is_read.ensures l (has_headers l k numbers laid))
+}) keeps needs numbers laid slots (are_loadable l w k legal laid) (headers_read c.file_header_is_read.ensures c.program_header_is_read.ensures l (has_headers l k numbers laid))

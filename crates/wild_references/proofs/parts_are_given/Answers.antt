@@ -5,4 +5,4 @@ pub returns-clause-gives : goal.returns-clause-gives
 returns-clause-gives c = parts_give (record { value = c.stubs_are_read.ensures.value; plain = c.stubs_of_words_are_read.ensures.plain; marked = c.stubs_of_words_are_read.ensures.marked })
 
 pub returns-clause-linked : goal.returns-clause-linked
-returns-clause-linked c = parts_link (record { value = c.stubs_are_read.ensures.value; plain = c.stubs_of_words_are_read.ensures.plain; marked = c.stubs_of_words_are_read.ensures.marked })
+returns-clause-linked c = parts_link

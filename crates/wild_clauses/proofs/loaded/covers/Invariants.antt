@@ -3,4 +3,4 @@ use Rattle.wild_clauses.specs.Covers.{covers}
 use Rattle.wild_clauses.proofs.loaded.covers.Given as goal
 
 abbrev pub invariant-loop-segment : goal.invariant-loop-segment
-invariant-loop-segment l = covers l.side l.section l.reached (drop l.segment-index l.segments) ≡ covers l.side l.section l.section.address l.segments
+invariant-loop-segment l = covers l.side l.layout l.section l.reached (drop l.segment-index l.segments) ≡ covers l.side l.layout l.section l.section.address l.segments

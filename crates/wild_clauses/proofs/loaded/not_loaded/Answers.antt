@@ -5,20 +5,20 @@ use Rattle.wild_clauses.proofs.loaded.not_loaded.Goals as goal
 
 pub returns-then-not-covers : goal.returns-then-not-covers
 returns-then-not-covers c =
-    let step = asked_step c.args.page c.args.side c.args.segments.now c.go_on-next.result c.args.later.now c.loop-i.i c.index-later-i.result c.covers.result c.requires c.go_on-next.ensures.there c.go_on-next.ensures.passed (omega arith) c.index-later-i.is (sym c.is_asked.ensures ∙ c.if-is_asked.true) c.covers.ensures in
+    let step = asked_step c.args.page c.args.side c.args.layout.now c.args.segments.now c.go_on-next.result c.args.later.now c.loop-i.i c.index-later-i.result c.covers.result c.requires c.go_on-next.ensures.there c.go_on-next.ensures.passed (omega arith) c.index-later-i.is (sym c.is_asked.ensures ∙ c.if-is_asked.true) c.covers.ensures in
     sym (rw c.if-not-covers.true at step) ∙ c.loop-i.invariant.rest
 
 pub loop-i-preserved : goal.loop-i-preserved
 loop-i-preserved c =
     elim c.if-is_asked.branch [
       | then-is_asked+else-not-covers w ↦
-          (let step = asked_step c.args.page c.args.side c.args.segments.now w.go_on-next.result c.args.later.now c.loop-i.i c.index-later-i.result w.covers.result c.requires w.go_on-next.ensures.there w.go_on-next.ensures.passed (omega arith) c.index-later-i.is (sym c.is_asked.ensures ∙ w.if-is_asked.true) w.covers.ensures in
+          (let step = asked_step c.args.page c.args.side c.args.layout.now c.args.segments.now w.go_on-next.result c.args.later.now c.loop-i.i c.index-later-i.result w.covers.result c.requires w.go_on-next.ensures.there w.go_on-next.ensures.passed (omega arith) c.index-later-i.is (sym c.is_asked.ensures ∙ w.if-is_asked.true) w.covers.ensures in
           rw (w.next-is, w.low-is) (record {
             there = w.go_on-next.ensures.there;
             passed = w.go_on-next.ensures.passed;
             rest = sym (rw w.if-not-covers.false at step) ∙ c.loop-i.invariant.rest;
           }))
       | else-is_asked w ↦
-          (let step = unasked_step c.args.side c.args.segments.now c.args.later.now c.loop-i.i c.index-later-i.result (omega arith) c.index-later-i.is (sym c.is_asked.ensures ∙ w.if-is_asked.false) in
+          (let step = unasked_step c.args.side c.args.layout.now c.args.segments.now c.args.later.now c.loop-i.i c.index-later-i.result (omega arith) c.index-later-i.is (sym c.is_asked.ensures ∙ w.if-is_asked.false) in
           rw (w.next-is, w.low-is) (record { there = c.loop-i.invariant.there; passed = c.loop-i.invariant.passed; rest = sym step ∙ c.loop-i.invariant.rest }))
     ]

@@ -8,5 +8,5 @@ abbrev pub invariant-loop-i : goal.invariant-loop-i
 invariant-loop-i l = record {
   there : l.next ≤ length l.segments;
   passed : All (λ g. is_passed l.low g ≡ true) (take l.next l.segments);
-  rest : first_failing (bytes_are_loaded l.side l.segments) (l.i + 1) (drop l.i l.later) ≡ first_failing (bytes_are_loaded l.side l.segments) 1 l.later;
+  rest : first_failing (bytes_are_loaded l.side l.layout l.segments) (l.i + 1) (drop l.i l.later) ≡ first_failing (bytes_are_loaded l.side l.layout l.segments) 1 l.later;
 }

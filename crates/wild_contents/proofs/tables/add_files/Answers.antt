@@ -12,4 +12,4 @@ pub returns-in-EhFrameHdr : goal.returns-in-EhFrameHdr
 returns-in-EhFrameHdr g c =
     let given : OnOk c.add_search_table.result (c.add_search_table.new.bytes ≡ c.args.bytes.now ++ flat_map (first_given c.args.beside.now.table.now) c.args.group.now.files)
     = subst (λ (fs : List File). OnOk c.add_search_table.result (c.add_search_table.new.bytes ≡ c.args.bytes.now ++ flat_map (first_given c.args.beside.now.table.now) fs)) c.as_slice.ensures c.add_search_table.ensures in
-    IfOk-weaker c.add_search_table.result _ _ (λ r h. files_table _ c.args.role _ _ _ _ c.in-EhFrameHdr.is c.requires.table h) given
+    IfOk-weaker c.add_search_table.result _ _ (λ r h. files_table _ c.args.role _ _ _ _ c.in-EhFrameHdr.is (c.requires.table c.in-EhFrameHdr.is) h) given

@@ -1,7 +1,6 @@
 use Rattle.std.proofs.Common.{◌≡◌, take}
 use Rattle.wild_words.specs.Overlay.{overlay}
-use Rattle.wild_types.specs.declared.part.Part.{Part}
-use Rattle.wild_layout.specs.Content.{content}
+use Rattle.wild_image.specs.Pieces.{table_given}
 use Rattle.wild_layout.specs.Image.{table_piece}
 use Rattle.wild_layout.specs.Faults.{flat_map_from}
 use Rattle.wild_image.proofs.AppendLemmas.{StandsBehind}
@@ -10,4 +9,4 @@ use Rattle.wild_image.proofs.append.append_tables.Given as goal
 abbrev pub invariant-loop-i : goal.invariant-loop-i
 invariant-loop-i l =
     (l.out ≡ overlay (flat_map_from (table_piece l.layout l.index l.group) 0 (take l.i l.layout.parts)) l.initial.out)
-    × StandsBehind (λ (p : Part). content l.layout p.role l.group) l.layout.parts l.bytes l.rest l.i
+    × StandsBehind (table_given l.layout l.group) l.layout.parts l.bytes l.rest l.i

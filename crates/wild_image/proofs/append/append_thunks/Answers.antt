@@ -1,15 +1,46 @@
-use Rattle.wild_layout.specs.Thunks.{thunk_bytes}
+use Rattle.std.proofs.Common.{◌≡◌, true, false, List, ℕ, sym, ap, ◌∙◌, subst}
+use Rattle.std.specs.List.{flat_map}
+use Rattle.wild_words.specs.Overlay.{Piece, overlay}
+use Rattle.wild_types.specs.FileThunks.{thunks_of}
+use Rattle.wild_types.specs.Lookups.{is_hollow_part}
 use Rattle.wild_layout.specs.Image.{thunk_piece}
-use Rattle.wild_sections.proofs.PieceLemmas.{overlay_read}
-use Rattle.wild_image.proofs.AppendLemmas.{next_begins, stands_more}
+use Rattle.wild_layout.specs.Thunks.{file_thunks}
+use Rattle.wild_image.specs.Append.{BeginsWith, GoesOn}
+use Rattle.wild_image.proofs.AppendLemmas.{all_written, none_written}
 use Rattle.wild_image.proofs.append.append_thunks.Goals as goal
 
-pub append_thunk-rest-requires-clause-own : goal.append_thunk-rest-requires-clause-own
-append_thunk-rest-requires-clause-own c =
-    next_begins (thunk_bytes c.args.layout.now) c.thunks_of-thunk-items.result.now c.loop-thunk.thunk-index c.thunk-item.result c.args.bytes.now c.loop-thunk.rest.now c.loop-thunk-test.true c.thunk-item.is (rw c.thunks_of-thunk-items.ensures c.requires.own) c.loop-thunk.invariant.1
+pub returns-then-is_hollow_part-clause-image : goal.returns-then-is_hollow_part-clause-image
+returns-then-is_hollow_part-clause-image c =
+    let l = c.args.layout.now in
+    let hollow : is_hollow_part l l.primary_part ≡ true = sym c.is_hollow_part.ensures ∙ c.if-is_hollow_part.true in
+    sym (ap (λ (ps : List Piece). overlay ps c.args.out.now) (none_written l l.primary_part (flat_map (thunk_piece l) (thunks_of l c.args.file.now)) hollow))
 
-pub loop-thunk-preserved : goal.loop-thunk-preserved
-loop-thunk-preserved c = (
-  overlay_read (thunk_piece c.args.layout.now) c.thunks_of-thunk-items.result.now c.loop-thunk.thunk-index c.thunk-item.result c.args.out.now c.loop-thunk.out c.append_thunk-rest.new.out c.loop-thunk-test.true c.thunk-item.is c.loop-thunk.invariant.0 c.append_thunk-rest.ensures.image,
-  stands_more (thunk_bytes c.args.layout.now) c.thunks_of-thunk-items.result.now c.loop-thunk.thunk-index c.thunk-item.result c.args.bytes.now c.loop-thunk.rest.now c.append_thunk-rest.result.now c.loop-thunk-test.true c.thunk-item.is c.loop-thunk.invariant.1 c.append_thunk-rest.ensures.rest,
-)
+pub returns-then-is_hollow_part-clause-rest : goal.returns-then-is_hollow_part-clause-rest
+returns-then-is_hollow_part-clause-rest c =
+    let l = c.args.layout.now in
+    let hollow : is_hollow_part l l.primary_part ≡ true = sym c.is_hollow_part.ensures ∙ c.if-is_hollow_part.true in
+    subst (λ (own : List ℕ). GoesOn own c.args.bytes.now c.args.bytes.now) (sym (none_written l l.primary_part (file_thunks l c.args.file.now) hollow)) (λ rest e. e)
+
+pub append_all_thunks-requires-clause-lies : goal.append_all_thunks-requires-clause-lies
+append_all_thunks-requires-clause-lies c =
+    let l = c.args.layout.now in
+    let written : is_hollow_part l l.primary_part ≡ false = sym c.is_hollow_part.ensures ∙ c.if-is_hollow_part.false in
+    c.requires.lies written
+
+pub append_all_thunks-requires-clause-own : goal.append_all_thunks-requires-clause-own
+append_all_thunks-requires-clause-own c =
+    let l = c.args.layout.now in
+    let written : is_hollow_part l l.primary_part ≡ false = sym c.is_hollow_part.ensures ∙ c.if-is_hollow_part.false in
+    subst (λ (own : List ℕ). BeginsWith own c.args.bytes.now) (all_written l l.primary_part (file_thunks l c.args.file.now) written) c.requires.own
+
+pub returns-clause-image : goal.returns-clause-image
+returns-clause-image c =
+    let l = c.args.layout.now in
+    let written : is_hollow_part l l.primary_part ≡ false = sym c.is_hollow_part.ensures ∙ c.if-is_hollow_part.false in
+    c.append_all_thunks.ensures.image ∙ sym (ap (λ (ps : List Piece). overlay ps c.args.out.now) (all_written l l.primary_part (flat_map (thunk_piece l) (thunks_of l c.args.file.now)) written))
+
+pub returns-clause-rest : goal.returns-clause-rest
+returns-clause-rest c =
+    let l = c.args.layout.now in
+    let written : is_hollow_part l l.primary_part ≡ false = sym c.is_hollow_part.ensures ∙ c.if-is_hollow_part.false in
+    subst (λ (own : List ℕ). GoesOn own c.args.bytes.now c.append_all_thunks.result.now) (sym (all_written l l.primary_part (file_thunks l c.args.file.now) written)) c.append_all_thunks.ensures.rest

@@ -32,7 +32,7 @@ loop-i-preserved g c =
       next = reach_more l f ss i s c.loop-i.next _ _ low read c.loop-i.invariant.next is;
       small = behind_small c.loop-i.next _ _ is;
       files = given_more (section_owned l f) l f ss i c.loop-i.next _ s c.loop-i.bytes.files _ _ low read is c.loop-i.invariant.files c.in_ok-next.ensures.files;
-      frames = given_more (frame_bytes_of l f) l f ss i c.loop-i.next _ s c.loop-i.bytes.frames _ _ low read is c.loop-i.invariant.frames c.in_ok-next.ensures.frames;
+      frames = λ written. given_more (frame_bytes_of l f) l f ss i c.loop-i.next _ s c.loop-i.bytes.frames _ _ low read is (c.loop-i.invariant.frames written) (c.in_ok-next.ensures.frames written);
       tables = c.add_section.ensures.tables ∙ c.loop-i.invariant.tables;
       lies = lies_tail l f ss i c.loop-i.next _ s low read is c.loop-i.invariant.lies;
     }

@@ -1,5 +1,7 @@
-use Rattle.std.proofs.Common.{◌≡◌, ◌<◌, ◌^◌, ◌++◌, drop, All}
+use Rattle.std.proofs.Common.{◌≡◌, false, ◌<◌, ◌^◌, ◌++◌, drop, All}
 use Rattle.std.specs.List.{flat_map}
+use Rattle.wild_types.specs.declared.part.Role.TheVariants as role
+use Rattle.wild_types.specs.Hollow.{is_hollow_role}
 use Rattle.wild_types.specs.Lists.{total}
 use Rattle.wild_laid.specs.FrameInputs.{kept_size}
 use Rattle.wild_laid.specs.Laid.{laid_sections, file_frames, behind}
@@ -15,7 +17,7 @@ invariant-loop-i g l = record {
   next : behind l.next (total (kept_size l.resolved.layout.now l.file) (drop l.i l.section-items)) ≡ behind l.at (file_frames l.resolved.layout.now l.file);
   small : l.next < 2 ^ 64;
   files : l.bytes.files ++ flat_map (section_owned l.resolved.layout.now l.file) (laid_sections l.resolved.layout.now l.file l.next (drop l.i l.section-items)) ≡ l.initial.bytes.files ++ flat_map (section_owned l.resolved.layout.now l.file) (laid_sections l.resolved.layout.now l.file l.at l.file.sections);
-  frames : l.bytes.frames ++ flat_map (frame_bytes_of l.resolved.layout.now l.file) (laid_sections l.resolved.layout.now l.file l.next (drop l.i l.section-items)) ≡ l.initial.bytes.frames ++ flat_map (frame_bytes_of l.resolved.layout.now l.file) (laid_sections l.resolved.layout.now l.file l.at l.file.sections);
+  frames : is_hollow_role l.resolved.layout.now role.EhFrame ≡ false → l.bytes.frames ++ flat_map (frame_bytes_of l.resolved.layout.now l.file) (laid_sections l.resolved.layout.now l.file l.next (drop l.i l.section-items)) ≡ l.initial.bytes.frames ++ flat_map (frame_bytes_of l.resolved.layout.now l.file) (laid_sections l.resolved.layout.now l.file l.at l.file.sections);
   tables : l.bytes.tables ≡ l.initial.bytes.tables;
   lies : All (SectionLies l.resolved.layout.now) (laid_sections l.resolved.layout.now l.file l.next (drop l.i l.section-items));
 }

@@ -1,13 +1,11 @@
-use Rattle.std.proofs.Common.{◌≡◌, ◌++◌, ◌∙◌, true, List, ℕ, sym, ap, subst}
-use Rattle.std.specs.Prelude.{OnOk}
-use Rattle.std.proofs.lemmas.List.{append-nil}
-use Rattle.wild_types.specs.Lookups.{is_read}
+use Rattle.std.proofs.Common.{◌≡◌, ◌∙◌, true, sym, ap, subst}
+use Rattle.std.proofs.lemmas.Result.{on_ok_weaker}
+use Rattle.wild_types.specs.Lookups.{is_read, is_frame}
 use Rattle.wild_laid.specs.Stood.{Stood, inputs}
-use Rattle.wild_layout.specs.Content.{frame_bytes_of}
 use Rattle.wild_layout.specs.SectionPlaces.{SectionLies}
 use Rattle.wild_image.specs.Stood.{IsWhole, HasOrigins, StoodApart}
 use Rattle.wild_image.specs.Append.{IsOfKind}
-use Rattle.wild_image.proofs.StoodLemmas.{sorted_whole, sorted_apart, sorted_kind, sorted_origins, sorted_no_frames, one_stands}
+use Rattle.wild_image.proofs.StoodLemmas.{sorted_whole, sorted_apart, sorted_kind, sorted_origins, sorted_plain, one_stands}
 use Rattle.wild_image.proofs.buffer.add_sorted_section.Goals as goal
 
 pub add_stood-requires-clause-whole : goal.add_stood-requires-clause-whole
@@ -33,11 +31,8 @@ add_stood-requires-clause-lies g c κs within =
 
 pub returns-in_ok-laid-in-Some-clause-frames : goal.returns-in_ok-laid-in-Some-clause-frames
 returns-in_ok-laid-in-Some-clause-frames g c =
-    let l = c.args.resolved.now.layout.now in
-    let f = c.in-Some.input.file.now in
-    let old = c.args.bytes.now.frames in
-    let none = ap (λ (x : Stood). frame_bytes_of l f x.section) c.in_ok-laid-in-Some.ensures ∙ sorted_no_frames l f c.in-Some.input.section.now in
-    subst (λ (ys : List ℕ). OnOk c.add_stood.result (c.add_stood.new.bytes.frames ≡ ys)) (ap (λ (ys : List ℕ). old ++ ys) none ∙ append-nil old) c.add_stood.ensures.frames
+    let plain = ap (λ (x : Stood). is_frame x.section.slot) c.in_ok-laid-in-Some.ensures ∙ sorted_plain c.args.resolved.now.layout.now c.in-Some.input.section.now in
+    on_ok_weaker c.add_stood.result (λ h. h plain) c.add_stood.ensures.plain
 
 pub add_stood-requires-clause-kind : goal.add_stood-requires-clause-kind
 add_stood-requires-clause-kind g c κs within =

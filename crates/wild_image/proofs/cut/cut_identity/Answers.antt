@@ -1,6 +1,6 @@
 use Rattle.std.proofs.Common.{◌∙◌, ◌++◌, [], List, ℕ, get_or, ap, sym, subst}
 use Rattle.wild_image.specs.Append.{SomeLies}
-use Rattle.wild_image.specs.Pieces.{in_part}
+use Rattle.wild_image.specs.Pieces.{front_in}
 use Rattle.wild_image.proofs.AppendLemmas.{cut_off}
 use Rattle.wild_image.proofs.cut.cut_identity.Goals as goal
 
@@ -15,7 +15,7 @@ add_front-requires-clause-lies c =
 pub returns-clause-owned : goal.returns-clause-owned
 returns-clause-owned c =
     let cut = cut_off c.args.layout.now.identity.bytes c.args.bytes.now _ (sym c.len.ensures) c.requires.own in
-    λ k low. c.in_ok-add_front.ensures k low ∙ ap (λ (own : List ℕ). get_or c.args.parts.now k [] ++ in_part k c.args.layout.now.identity.part own) (c.split_at.ensures.front ∙ cut.front)
+    λ k low. c.in_ok-add_front.ensures k low ∙ ap (λ (own : List ℕ). get_or c.args.parts.now k [] ++ front_in c.args.layout.now k c.args.layout.now.identity.part own) (c.split_at.ensures.front ∙ cut.front)
 
 pub returns-clause-rest : goal.returns-clause-rest
 returns-clause-rest c =

@@ -1,7 +1,7 @@
 use Rattle.std.proofs.Common.{◌∙◌, ◌++◌, [], List, ℕ, get_or, ap, sym, subst}
 use Rattle.wild_layout.specs.Image.{merged_bytes}
 use Rattle.wild_image.specs.Append.{SomeLies}
-use Rattle.wild_image.specs.Pieces.{in_part}
+use Rattle.wild_image.specs.Pieces.{front_in}
 use Rattle.wild_image.proofs.AppendLemmas.{cut_off}
 use Rattle.wild_image.proofs.cut.cut_merged.Goals as goal
 
@@ -16,7 +16,7 @@ add_front-requires-clause-lies c =
 pub returns-clause-owned : goal.returns-clause-owned
 returns-clause-owned c =
     let cut = cut_off (merged_bytes c.args.merged.now) c.args.bytes.now _ (sym c.merged_size.ensures) c.requires.own in
-    λ k low. c.in_ok-add_front.ensures k low ∙ ap (λ (own : List ℕ). get_or c.args.parts.now k [] ++ in_part k c.args.merged.now.part own) (c.split_at.ensures.front ∙ cut.front)
+    λ k low. c.in_ok-add_front.ensures k low ∙ ap (λ (own : List ℕ). get_or c.args.parts.now k [] ++ front_in c.args.layout.now k c.args.merged.now.part own) (c.split_at.ensures.front ∙ cut.front)
 
 pub returns-clause-rest : goal.returns-clause-rest
 returns-clause-rest c =

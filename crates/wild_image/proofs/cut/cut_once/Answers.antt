@@ -2,7 +2,7 @@ use Rattle.std.proofs.Common.{ℕ}
 use Rattle.std.specs.List.{flat_map}
 use Rattle.std.proofs.lemmas.Result.{IfOk-weaker}
 use Rattle.wild_layout.specs.Image.{merged_bytes}
-use Rattle.wild_image.specs.Pieces.{merged_in, in_part}
+use Rattle.wild_image.specs.Pieces.{merged_in, front_in}
 use Rattle.wild_image.proofs.AppendLemmas.{both_begin, both_go_on, both_end}
 use Rattle.wild_image.proofs.OwnedLemmas.{owned_twice}
 use Rattle.wild_image.proofs.cut.cut_once.Goals as goal
@@ -16,7 +16,7 @@ cut_identity-requires-clause-own c = both_go_on (flat_map merged_bytes c.args.la
 pub returns-clause-owned : goal.returns-clause-owned
 returns-clause-owned c =
     let l = c.args.layout.now in
-    owned_twice c.cut_identity.result (λ (k : ℕ). flat_map (merged_in k) l.merged) (λ (k : ℕ). in_part k l.identity.part l.identity.bytes) c.args.parts.now c.cut_strings.new.parts c.cut_identity.new.parts c.cut_strings.auto.parts c.in_ok-rest.ensures.owned c.cut_identity.ensures.owned
+    owned_twice c.cut_identity.result (λ (k : ℕ). flat_map (merged_in l k) l.merged) (λ (k : ℕ). front_in l k l.identity.part l.identity.bytes) c.args.parts.now c.cut_strings.new.parts c.cut_identity.new.parts c.cut_strings.auto.parts c.in_ok-rest.ensures.owned c.cut_identity.ensures.owned
 
 pub returns-clause-rest : goal.returns-clause-rest
 returns-clause-rest c =

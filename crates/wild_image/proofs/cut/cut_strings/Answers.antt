@@ -22,6 +22,6 @@ pub loop-merged-preserved : goal.loop-merged-preserved
 loop-merged-preserved c =
     let h = rw c.as_slice-merged-items.ensures at c.loop-merged-test.true in
     let read = rw c.as_slice-merged-items.ensures at c.merged-item.is in (
-      owned_read (merged_in) c.args.layout.now.merged c.loop-merged.merged-index c.merged-item.result c.args.parts.now c.loop-merged.parts c.cut_merged.new.parts h read c.cut_merged.auto.parts c.loop-merged.invariant.0 c.in_ok-rest.ensures.owned,
+      owned_read (merged_in c.args.layout.now) c.args.layout.now.merged c.loop-merged.merged-index c.merged-item.result c.args.parts.now c.loop-merged.parts c.cut_merged.new.parts h read c.cut_merged.auto.parts c.loop-merged.invariant.0 c.in_ok-rest.ensures.owned,
       stands_more (merged_bytes) c.args.layout.now.merged c.loop-merged.merged-index c.merged-item.result c.args.bytes.now c.loop-merged.rest.now _ h read c.loop-merged.invariant.1 c.in_ok-rest.ensures.rest,
     )

@@ -7,5 +7,5 @@ use Rattle.wild_image.proofs.cut.cut_strings.Given as goal
 
 abbrev pub invariant-loop-merged : goal.invariant-loop-merged
 invariant-loop-merged l =
-    ((k : ℕ) → k < length l.parts → get_or l.parts k [] ≡ get_or l.initial.parts k [] ++ flat_map (merged_in k) (take l.merged-index l.layout.merged))
+    ((k : ℕ) → k < length l.parts → get_or l.parts k [] ≡ get_or l.initial.parts k [] ++ flat_map (merged_in l.layout k) (take l.merged-index l.layout.merged))
     × StandsBehind (merged_bytes) l.layout.merged l.bytes l.rest l.merged-index

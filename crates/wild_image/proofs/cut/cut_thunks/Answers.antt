@@ -1,15 +1,48 @@
-use Rattle.wild_layout.specs.Thunks.{thunk_bytes}
+use Rattle.std.proofs.Common.{◌≡◌, true, false, List, ℕ, ◌++◌, [], get_or, sym, ap, ◌∙◌, subst}
+use Rattle.std.specs.List.{flat_map}
+use Rattle.std.proofs.lemmas.List.{append-nil}
+use Rattle.std.proofs.lemmas.Result.{on_ok_weaker, IfOk-weaker}
+use Rattle.wild_types.specs.FileThunks.{thunks_of}
+use Rattle.wild_types.specs.Lookups.{is_hollow_part}
+use Rattle.wild_layout.specs.Thunks.{file_thunks}
+use Rattle.wild_image.specs.Append.{BeginsWith, GoesOn}
 use Rattle.wild_image.specs.Pieces.{thunk_in}
-use Rattle.wild_image.proofs.AppendLemmas.{next_begins, stands_more}
-use Rattle.wild_image.proofs.OwnedLemmas.{owned_read}
+use Rattle.wild_image.proofs.AppendLemmas.{all_written, none_written}
 use Rattle.wild_image.proofs.cut.cut_thunks.Goals as goal
 
-pub cut_thunk-requires-clause-own : goal.cut_thunk-requires-clause-own
-cut_thunk-requires-clause-own c =
-    next_begins (thunk_bytes c.args.layout.now) c.thunks_of-thunk-items.result.now c.loop-thunk.thunk-index c.thunk-item.result c.args.bytes.now c.loop-thunk.rest.now c.loop-thunk-test.true c.thunk-item.is (rw c.thunks_of-thunk-items.ensures c.requires.own) c.loop-thunk.invariant.1
+pub returns-then-is_hollow_part-clause-owned : goal.returns-then-is_hollow_part-clause-owned
+returns-then-is_hollow_part-clause-owned c = λ k low.
+    let l = c.args.layout.now in
+    let hollow : is_hollow_part l l.primary_part ≡ true = sym c.is_hollow_part.ensures ∙ c.if-is_hollow_part.true in
+    let none = none_written l l.primary_part (flat_map (thunk_in l k) (thunks_of l c.args.file.now)) hollow in
+    sym (append-nil (get_or c.args.parts.now k [])) ∙ ap (λ (bs : List ℕ). get_or c.args.parts.now k [] ++ bs) (sym none)
 
-pub loop-thunk-preserved : goal.loop-thunk-preserved
-loop-thunk-preserved c = (
-  owned_read (thunk_in c.args.layout.now) c.thunks_of-thunk-items.result.now c.loop-thunk.thunk-index c.thunk-item.result c.args.parts.now c.loop-thunk.parts c.cut_thunk.new.parts c.loop-thunk-test.true c.thunk-item.is c.cut_thunk.auto.parts c.loop-thunk.invariant.0 c.in_ok-rest.ensures.owned,
-  stands_more (thunk_bytes c.args.layout.now) c.thunks_of-thunk-items.result.now c.loop-thunk.thunk-index c.thunk-item.result c.args.bytes.now c.loop-thunk.rest.now _ c.loop-thunk-test.true c.thunk-item.is c.loop-thunk.invariant.1 c.in_ok-rest.ensures.rest,
-)
+pub returns-then-is_hollow_part-clause-rest : goal.returns-then-is_hollow_part-clause-rest
+returns-then-is_hollow_part-clause-rest c =
+    let l = c.args.layout.now in
+    let hollow : is_hollow_part l l.primary_part ≡ true = sym c.is_hollow_part.ensures ∙ c.if-is_hollow_part.true in
+    subst (λ (own : List ℕ). GoesOn own c.args.bytes.now c.args.bytes.now) (sym (none_written l l.primary_part (file_thunks l c.args.file.now) hollow)) (λ rest e. e)
+
+pub cut_all_thunks-requires-clause-lies : goal.cut_all_thunks-requires-clause-lies
+cut_all_thunks-requires-clause-lies c =
+    let l = c.args.layout.now in
+    let written : is_hollow_part l l.primary_part ≡ false = sym c.is_hollow_part.ensures ∙ c.if-is_hollow_part.false in
+    c.requires.lies written
+
+pub cut_all_thunks-requires-clause-own : goal.cut_all_thunks-requires-clause-own
+cut_all_thunks-requires-clause-own c =
+    let l = c.args.layout.now in
+    let written : is_hollow_part l l.primary_part ≡ false = sym c.is_hollow_part.ensures ∙ c.if-is_hollow_part.false in
+    subst (λ (own : List ℕ). BeginsWith own c.args.bytes.now) (all_written l l.primary_part (file_thunks l c.args.file.now) written) c.requires.own
+
+pub returns-clause-owned : goal.returns-clause-owned
+returns-clause-owned c =
+    let l = c.args.layout.now in
+    let written : is_hollow_part l l.primary_part ≡ false = sym c.is_hollow_part.ensures ∙ c.if-is_hollow_part.false in
+    on_ok_weaker c.cut_all_thunks.result (λ h k low. h k low ∙ ap (λ (bs : List ℕ). get_or c.args.parts.now k [] ++ bs) (sym (all_written l l.primary_part (flat_map (thunk_in l k) (thunks_of l c.args.file.now)) written))) c.cut_all_thunks.ensures.owned
+
+pub returns-clause-rest : goal.returns-clause-rest
+returns-clause-rest c =
+    let l = c.args.layout.now in
+    let written : is_hollow_part l l.primary_part ≡ false = sym c.is_hollow_part.ensures ∙ c.if-is_hollow_part.false in
+    IfOk-weaker c.cut_all_thunks.result _ _ (λ r h. subst (λ (own : List ℕ). GoesOn own c.args.bytes.now r.now) (sym (all_written l l.primary_part (file_thunks l c.args.file.now) written)) h) c.cut_all_thunks.ensures.rest

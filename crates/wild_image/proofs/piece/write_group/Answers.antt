@@ -5,7 +5,7 @@ use Rattle.wild_types.specs.declared.part.Role.TheVariants as role
 use Rattle.wild_types.specs.declared.file.Group.{Group}
 use Rattle.wild_types.specs.declared.layout.Layout.{Layout}
 use Rattle.wild_layout.specs.Geometry.{IsLaidOut}
-use Rattle.wild_image.specs.Append.{GivesItsShares, FileLies, GroupStands}
+use Rattle.wild_image.specs.Append.{GivesItsShares, HasRolesOnce, FileLies, GroupStands}
 use Rattle.wild_image.specs.Jobs.{GivesPiece}
 use Rattle.wild_image.proofs.GatherLemmas.{section_below}
 use Rattle.wild_image.proofs.OutputLemmas.{FieldsFit-IsLaidOut, role_address}
@@ -42,6 +42,9 @@ piece_of-requires-clause-gives g c κs within =
     let at : slice_get l.groups c.args.group ≡ Some found = slice_get_read l.groups (length l.groups) c.args.group found (search rules) c.requires.group (search rules) in
     let gives = gives_its_shares l c.args.group found (c.layouts_are_laid_out.ensures l c.requires.clauses c.requires.shares).parts at in
     subst (λ (m : Layout). GivesItsShares m found) (sym c.in_ok-resolved.ensures) gives
+
+pub piece_of-requires-clause-once : goal.piece_of-requires-clause-once
+piece_of-requires-clause-once g c κs within = subst HasRolesOnce (sym c.in_ok-resolved.ensures) (c.layouts_are_laid_out.ensures c.args.layout.now c.requires.clauses c.requires.shares).once
 
 pub piece_of-requires-clause-sections : goal.piece_of-requires-clause-sections
 piece_of-requires-clause-sections g c κs within = λ part.

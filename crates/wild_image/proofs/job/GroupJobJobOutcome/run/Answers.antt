@@ -39,6 +39,9 @@ bytes_of_batch-bytes-requires-clause-few g c κs within =
     let within = batches_within l.groups l.groups 0 bs c.args.group found refl (cut_of l.groups bs c.args.self.now.batches_are) at in
     holds_within NeedsFit l.groups found within (needs_fit l (c.layouts_are_laid_out.ensures l c.args.self.now.clauses c.args.self.now.shares))
 
+pub bytes_of_batch-bytes-requires-clause-once : goal.bytes_of_batch-bytes-requires-clause-once
+bytes_of_batch-bytes-requires-clause-once g c κs within = (c.layouts_are_laid_out.ensures c.args.self.now.resolved.layout.now c.args.self.now.clauses c.args.self.now.shares).once
+
 pub bytes_of_batch-bytes-requires-clause-small : goal.bytes_of_batch-bytes-requires-clause-small
 bytes_of_batch-bytes-requires-clause-small g c κs within =
     let l = c.args.self.now.resolved.layout.now in

@@ -4,7 +4,7 @@ use Rattle.wild_words.specs.Overlay.{overlay}
 use Rattle.wild_layout.specs.Thunks.{thunk_bytes}
 use Rattle.wild_layout.specs.Image.{thunk_piece}
 use Rattle.wild_image.proofs.AppendLemmas.{StandsBehind}
-use Rattle.wild_image.proofs.append.append_thunks.Given as goal
+use Rattle.wild_image.proofs.append.append_all_thunks.Given as goal
 
 abbrev pub invariant-loop-thunk : goal.invariant-loop-thunk
 invariant-loop-thunk l =

@@ -2,7 +2,7 @@ use Rattle.std.proofs.Common.{◌≡◌, [], ◌++◌, take}
 use Rattle.std.specs.List.{flat_map}
 use Rattle.wild_layout.specs.Faults.{at_file, thunk_error}
 use Rattle.wild_layout.specs.Thunks.{thunk_bytes}
-use Rattle.wild_contents.proofs.thunks.add_thunks.Given as goal
+use Rattle.wild_contents.proofs.thunks.add_all_thunks.Given as goal
 
 abbrev pub invariant-loop-thunk : goal.invariant-loop-thunk
 invariant-loop-thunk g l =

@@ -3,7 +3,7 @@ use Rattle.std.specs.List.{flat_map}
 use Rattle.wild_layout.specs.Thunks.{thunk_bytes}
 use Rattle.wild_image.specs.Pieces.{thunk_in}
 use Rattle.wild_image.proofs.AppendLemmas.{StandsBehind}
-use Rattle.wild_image.proofs.cut.cut_thunks.Given as goal
+use Rattle.wild_image.proofs.cut.cut_all_thunks.Given as goal
 
 abbrev pub invariant-loop-thunk : goal.invariant-loop-thunk
 invariant-loop-thunk l =

@@ -1,0 +1,37 @@
+-- What an answer unfolds to compute the faults of a layout of x86-64 that is written out.
+use Rattle.std.specs.Prelude.{⊤}
+use Rattle.wild_words.specs.Extents.{least_extent}
+use Rattle.wild_words.specs.Words.{word, number, place}
+use Rattle.wild_reloc.specs.TableX86_64.{x86_64_row}
+use Rattle.wild_types.specs.Addresses.{raw_value}
+use Rattle.wild_types.specs.Flags.{has_flag}
+use Rattle.wild_types.specs.Lookups.{bit, image_size}
+use Rattle.wild_types.specs.Rows.{row_of}
+use Rattle.wild_slot.specs.Treatment.{row_treatment, treatment}
+use Rattle.wild_slot.specs.SymbolWords.{slots_of}
+use Rattle.wild_slot.specs.Slots.{slot}
+use Rattle.wild_needs.specs.SlotShares.{slot_share, group_block}
+use Rattle.wild_needs.specs.Needs.{needs}
+use Rattle.wild_needs.specs.DynamicPlaces.{section_named, first_entries, entries_bytes, need_number}
+use Rattle.wild_needs.specs.TableSymbols.{file_items, table_strings}
+use Rattle.wild_needs.specs.Entries.{listed_places, packed_places, left_relocations, general_count}
+use Rattle.wild_needs.specs.Dynamic.{dynamic_number, dynamic_flags, dynamic_flags_1, dynamic_entry, all_tags, tag_entries, dynamic_entries}
+use Rattle.wild_needs.specs.DynamicStrings.{named_strings, string_entries, file_strings, needed_entries, string_start}
+use Rattle.wild_needs.specs.EntryPoint.{text_start, entry_point}
+use Rattle.wild_clauses.specs.WellFormed.{first_clause}
+use Rattle.wild_clauses.specs.SlotPlaces.{walk}
+use Rattle.wild_clauses.specs.ClauseTests.{check_sizes, check_counts, check_order, check_roles, check_sections, check_entries, check_segments, check_shares, check_inputs, check_indexes, check_fields, check_slots, check_thunks, check_dynsyms, check_slot_flags, check_tls, check_starts, check_hashes, check_versions, check_names, check_reversed, check_partial, check_fronts}
+use Rattle.wild_laid.specs.Turned.{as_turned}
+use Rattle.wild_laid.specs.Laid.{laid_section, laid_files}
+use Rattle.wild_layout.specs.Sites.{site, section_bytes}
+use Rattle.wild_layout.specs.Merged.{merged_strings, address_for}
+use Rattle.wild_layout.specs.SearchTable.{search_table_faults}
+use Rattle.wild_layout.specs.Choice.{choice_by, choice_around_by}
+use Rattle.wild_layout.specs.Decide.{reached, decided, decide}
+use Rattle.wild_layout.specs.Faults.{relocation_errors, section_errors, slot_errors, thunk_errors, file_errors, listed_errors, table_errors, group_errors, errors}
+use Rattle.wild_relax.specs.Rows.{rows_x86_64, applies, standing_x86_64, chosen_x86_64}
+use Rattle.wild_relr.specs.Packed.{packed_on, packed, block}
+
+unfoldable pub errors_on_literals : ⊤
+unfolding least_extent word number place x86_64_row raw_value has_flag bit image_size row_of row_treatment treatment slots_of slot slot_share group_block needs section_named first_entries entries_bytes need_number file_items table_strings listed_places packed_places left_relocations general_count dynamic_number dynamic_flags dynamic_flags_1 dynamic_entry all_tags tag_entries dynamic_entries named_strings string_entries file_strings needed_entries string_start text_start entry_point first_clause walk check_sizes check_counts check_order check_roles check_sections check_entries check_segments check_shares check_inputs check_indexes check_fields check_slots check_thunks check_dynsyms check_slot_flags check_tls check_starts check_hashes check_versions check_names check_reversed check_partial check_fronts as_turned laid_section laid_files site section_bytes merged_strings address_for search_table_faults choice_by choice_around_by reached decided decide relocation_errors section_errors slot_errors thunk_errors file_errors listed_errors table_errors group_errors errors rows_x86_64 applies standing_x86_64 chosen_x86_64 packed_on packed block
+errors_on_literals = tt
