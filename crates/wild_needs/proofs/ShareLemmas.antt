@@ -1,6 +1,6 @@
 -- What files have to write where nothing is needed.
-use Rattle.std.proofs.Common.{◌≡◌, ℕ, ◌+◌, ◌-◌, ◌*◌, ◌^◌, min, inl, inr, Bool, true, false, List, [], ◌∷◌, length, refl, sym, ap, ◌∙◌, arith}
-use Rattle.std.specs.Prelude.{if◌then◌else◌, not, ◌&&◌, ◌==◌, Option}
+use Rattle.std.proofs.Common.{◌≡◌, ℕ, ◌+◌, ◌-◌, ◌*◌, ◌^◌, ◌⊎◌, min, inl, inr, Bool, true, false, List, [], ◌∷◌, length, refl, sym, ap, ◌∙◌, subst, arith}
+use Rattle.std.specs.Prelude.{if◌then◌else◌, not, ◌&&◌, ◌||◌, ◌==◌, Option, Some, None, is_some}
 use Rattle.std.specs.List.{list_all, list_any, flat_map}
 use Rattle.std.proofs.lemmas.Bool.{cases_Bool, and_parts, eqb-true}
 use Rattle.wild_relr.specs.Packed.{packed, block}
@@ -9,6 +9,7 @@ use Rattle.wild_types.specs.declared.file.Group.{Group}
 use Rattle.wild_types.specs.declared.input.InputRelocation.{InputRelocation}
 use Rattle.wild_types.specs.declared.input.InputSection.{InputSection}
 use Rattle.wild_types.specs.declared.layout.Layout.{Layout}
+use Rattle.wild_types.specs.declared.layout.Property.{Property}
 use Rattle.wild_types.specs.declared.part.Role.{Role}
 use Rattle.wild_types.specs.declared.part.Role.TheVariants as role
 use Rattle.wild_needs.specs.Dynamic.{tag_entries, dynamic_entries, dynamic_count}
@@ -18,17 +19,17 @@ use Rattle.wild_types.specs.Kinds.{is_position_independent, needs_dynamic}
 use Rattle.wild_types.specs.Lists.{total}
 use Rattle.wild_types.specs.Lookups.{has_table}
 use Rattle.wild_needs.specs.TableSymbols.{has_long, file_items, local_count, global_count, table_strings}
-use Rattle.wild_laid.specs.Laid.{behind, file_frames, frames_at, laid_file, laid_from, laid_files, processed}
-use Rattle.wild_needs.specs.Needs.{last_of, build_id_room, properties_room, frames_room, whole_of, long_room, own_of, is_static, share, last_share, group_share, has_plain_role, is_plain, total_share}
+use Rattle.wild_laid.specs.Laid.{behind, file_frames, frames_at, laid_file, laid_from, laid_files, processed, sorted_sections}
+use Rattle.wild_needs.specs.Needs.{last_of, build_id_room, properties_room, frames_room, whole_of, long_room, own_of, is_static, share, last_share, group_share, has_plain_role, is_plain, has_last, total_share}
 use Rattle.wild_types.specs.FileRoles.{is_prelude, is_epilogue}
 use Rattle.wild_types.specs.SymbolSlots.{is_without}
 use Rattle.wild_types.specs.FileSymbols.{own_symbols}
 use Rattle.wild_types.proofs.LookupLemmas.{plain_still}
 use Rattle.wild_types.proofs.ListLemmas.{total-none}
-use Rattle.wild_needs.specs.SlotShares.{is_of_slots, header_share, block_places, group_block, block_share}
+use Rattle.wild_needs.specs.SlotShares.{is_of_slots, header_share, takes_none, slot_share, block_places, group_block, block_share}
 use Rattle.wild_needs.proofs.EntryLemmas.{packed_none}
 use Rattle.wild_needs.proofs.SlotBlockLemmas.{places_without}
-use Rattle.wild_needs.proofs.SlotShareLemmas.{slots_plain, others_share}
+use Rattle.wild_needs.proofs.SlotShareLemmas.{slots_plain, own_without, others_share}
 
 -- ---- an output that does not move has no entries and no words
 
@@ -117,44 +118,86 @@ own_none l role.BuildId f d t g = g
 own_none l role.Property f d t g = g
 own_none l other f d t g = refl
 
--- parts of other roles have none of them
-none_of_others : (l : Layout) (r : Role) (f : File) → is_of_slots r ≡ false → is_static r ≡ false → static_of l r f ≡ 0
-none_of_others l role.RelaDynGeneral f h k = cc
-none_of_others l role.EhFrame f h k = cc
-none_of_others l role.BuildId f h k = cc
-none_of_others l role.Property f h k = cc
-none_of_others l other f h k = refl
+-- notes that are not there
+no_build_id : (o : Option (List ℕ)) (last : Bool) → is_some o ≡ false → (if last then build_id_room o else 0) ≡ 0
+no_build_id None true h = refl
+no_build_id None false h = refl
+no_build_id (Some id) last h = cc
 
--- what stands once beside slots
+no_properties : (ps : List Property) (none last : Bool) → none ≡ (length ps == 0) → not none ≡ false → (if last then properties_room ps else 0) ≡ 0
+no_properties ps true true e h = rw (← e) refl
+no_properties ps true false e h = refl
+no_properties ps false last e h = cc
+
+-- parts of other roles have none of them
+none_of_others : (l : Layout) (r : Role) (f : File) → is_static l r ≡ false → static_of l r f ≡ 0
+none_of_others l role.RelaDynGeneral f k = cc
+none_of_others l role.EhFrame f k = cc
+none_of_others l role.BuildId f k = no_build_id l.build_id (is_epilogue f.role) k
+none_of_others l role.Property f k = no_properties l.properties (length l.properties == 0) (is_epilogue f.role) refl k
+none_of_others l other f k = refl
+
+-- slots take nothing of parts of the role
+pub record TakesNone (l : Layout) (r : Role) : Type 0 where
+  pub header : header_share l r ≡ 0
+  pub slots : (f : File) → slot_share l r f ≡ 0
+  pub block : (g : Group) → block_share l r g ≡ 0
+
+no_places : (l : Layout) (files : List File) → list_all is_without l.symbols ≡ true → flat_map (λ (f : File). flat_map (block_places l) (own_symbols l f)) files ≡ []
+no_places l [] h = refl
+no_places l (f ∷ files) h = rw (places_without l (own_symbols l f) (own_without l f h)) (no_places l files h)
+
+no_block : (l : Layout) (r : Role) (g : Group) → (is_of_slots r ≡ false) ⊎ (list_all is_without l.symbols ≡ true) → block_share l r g ≡ 0
+unfolding group_block block
+no_block l role.RelrDyn g (inl h) = cc
+no_block l role.RelrDyn g (inr h) = let e = no_places l g.files h in rw e refl
+no_block l other g h = refl
+
 no_header : (l : Layout) (r : Role) → is_of_slots r ≡ false → header_share l r ≡ 0
 no_header l role.Got h = cc
 no_header l role.RelaDynGeneral h = cc
 no_header l other h = refl
 
-no_block : (l : Layout) (r : Role) (g : Group) → is_of_slots r ≡ false → block_share l r g ≡ 0
-no_block l role.RelrDyn g h = cc
-no_block l other g h = refl
+none_taken : (l : Layout) (r : Role) → takes_none l r ≡ true → TakesNone l r
+none_taken l r h =
+    elim (cases_Bool (is_of_slots r)) [
+      | inl of ↦
+          let p = and_parts (header_share l r == 0) (list_all is_without l.symbols) (subst (λ (b : Bool). (not b || (header_share l r == 0 && list_all is_without l.symbols)) ≡ true) of h) in
+          record { header = eqb-true _ _ p.0; slots = λ f. slots_plain l r f (own_without l f p.1); block = λ g. no_block l r g (inr p.1) }
+      | inr none ↦ record { header = no_header l r none; slots = λ f. others_share l r f none; block = λ g. no_block l r g (inl none) }
+    ]
 
-no_last : (l : Layout) (r : Role) (g : Group) → is_of_slots r ≡ false → last_share l r g ≡ 0
-no_last l role.RelrDyn g h = cc
+-- nothing stands behind all else, where nothing moves
+sorted_none : (l : Layout) (ss : List InputSection) → is_position_independent l.kind ≡ false → flat_map (words_of l) ss ≡ []
+unfolding packed_places
+sorted_none l [] h = refl
+sorted_none l (s ∷ ss) h = rw (ap packed (no_moved l s (packed_place l s) h) ∙ packed_none) (sorted_none l ss h)
+
+no_last : (l : Layout) (r : Role) (g : Group) → is_position_independent l.kind ≡ false → last_share l r g ≡ 0
+no_last l role.RelrDyn g h = let e = sorted_none l (sorted_sections l) h in by_last (has_last g) e
+  where
+    by_last : (b : Bool) → flat_map (words_of l) (sorted_sections l) ≡ [] → (if b then 8 * length (flat_map (words_of l) (sorted_sections l)) else 0) ≡ 0
+    by_last true e = rw e refl
+    by_last false e = refl
 no_last l other g h = refl
 
-share_none : (l : Layout) (r : Role) (f : File) → needs_dynamic l.kind ≡ false → has_table l ≡ false → is_of_slots r ≡ false → is_static r ≡ false → whole_of l r ≡ 0 → share l r f ≡ 0
+share_none : (l : Layout) (r : Role) (f : File) → needs_dynamic l.kind ≡ false → has_table l ≡ false → TakesNone l r → is_static l r ≡ false → whole_of l r ≡ 0 → share l r f ≡ 0
 share_none l r f d t s k w =
-    let own = own_none l r f d t (none_of_others l r f s k) in
-    let slots = others_share l r f s in
-    let header = no_header l r s in
+    let own = own_none l r f d t (none_of_others l r f k) in
+    let slots = s.slots f in
+    let header = s.header in
     elim (cases_Bool (is_prelude f.role)) [
       | inl first ↦ rw (first, w, own, slots, header) refl
       | inr later ↦ rw (later, own, slots) refl
     ]
 
--- where nothing stands once in the image, an output without a dynamic section and a table of all symbols needs nothing but for slots, frames
--- and notes
-pub no_share : (l : Layout) (r : Role) (n : ℕ) → n ≡ min (2 ^ 64 - 1) (whole_of l r) → needs_dynamic l.kind ≡ false → has_table l ≡ false → is_of_slots r ≡ false → is_static r ≡ false → n ≡ 0 → total_share l r ≡ 0
-no_share l r n is d t s k none =
+-- where nothing stands once in the image and slots take nothing, an output without a dynamic section and a table of all symbols needs nothing
+-- but for entries of resolvers, frames and notes
+pub no_share : (l : Layout) (r : Role) (n : ℕ) → n ≡ min (2 ^ 64 - 1) (whole_of l r) → needs_dynamic l.kind ≡ false → has_table l ≡ false → is_static l r ≡ false → takes_none l r ≡ true → n ≡ 0 → total_share l r ≡ 0
+no_share l r n is d t k s none =
     let w : whole_of l r ≡ 0 = least (whole_of l r) n is none in
-    total-none (group_share l r) l.groups (λ g. let files = total-none (share l r) (laid_files l g) (λ f. share_none l r f d t s k w) in let block = no_block l r g s in let last = no_last l r g s in rw (files, block, last) refl)
+    let slots = none_taken l r s in
+    total-none (group_share l r) l.groups (λ g. let files = total-none (share l r) (laid_files l g) (λ f. share_none l r f d t slots k w) in let block = slots.block g in let last = no_last l r g (plain_still l.kind d) in rw (files, block, last) refl)
   where
     least : (k n : ℕ) → n ≡ min (2 ^ 64 - 1) k → n ≡ 0 → k ≡ 0
     least k n e z = omega (arith, e, z)

@@ -1,8 +1,8 @@
 -- What slots take of the parts: a symbol without a slot takes nothing.
-use Rattle.std.proofs.Common.{◌≡◌, ℕ, ◌+◌, inl, inr, true, false, List, [], ◌∷◌, ◌++◌, length, refl, sym, ap, ◌∙◌, arith}
-use Rattle.std.specs.Prelude.{if◌then◌else◌, not, Option, Some, None, is_some, unwrap_or, replicate}
+use Rattle.std.proofs.Common.{◌≡◌, ℕ, zero, suc, ◌+◌, ◌-◌, inl, inr, Bool, true, false, List, [], ◌∷◌, ◌++◌, length, take, drop, refl, sym, ap, ◌∙◌, arith}
+use Rattle.std.specs.Prelude.{if◌then◌else◌, not, Option, Some, None, is_some, unwrap_or, replicate, slice_range}
 use Rattle.std.specs.List.{list_all}
-use Rattle.std.proofs.lemmas.Bool.{cases_Bool, and_parts}
+use Rattle.std.proofs.lemmas.Bool.{cases_Bool, and_parts, and_from}
 use Rattle.std.proofs.lemmas.List.{length-append, length-replicate}
 use Rattle.wild_types.specs.declared.file.File.{File}
 use Rattle.wild_types.specs.declared.layout.Layout.{Layout}
@@ -13,6 +13,7 @@ use Rattle.wild_slot.specs.declared.slot_parts.WordPart.TheVariants as words
 use Rattle.wild_types.specs.declared.symbol.Resolution.{Resolution}
 use Rattle.wild_types.specs.declared.symbol.Symbol.{Symbol}
 use Rattle.wild_types.specs.Kinds.{is_executable}
+use Rattle.wild_types.specs.FileRoles.{writes_slots}
 use Rattle.wild_types.specs.Lists.{total}
 use Rattle.wild_slot.specs.SlotParts.{slot_words}
 use Rattle.wild_types.specs.SymbolSlots.{is_without, resolved_got}
@@ -83,6 +84,30 @@ none_of_others l r (s ∷ ss) h =
 pub others_share : (l : Layout) (r : Role) (f : File) → is_of_slots r ≡ false → slot_share l r f ≡ 0
 unfolding slot_share
 others_share l r f h = none_of_others l r (own_symbols l f) h
+
+-- ---- no symbol of the layout has a slot
+
+without_taken : (n : ℕ) (ss : List Symbol) → list_all is_without ss ≡ true → list_all is_without (take n ss) ≡ true
+without_taken zero ss h = refl
+without_taken (suc n) [] h = refl
+without_taken (suc n) (s ∷ ss) h =
+    let p = and_parts (is_without s) (list_all is_without ss) h in
+    and_from (is_without s) (list_all is_without (take n ss)) p.0 (without_taken n ss p.1)
+
+without_left : (n : ℕ) (ss : List Symbol) → list_all is_without ss ≡ true → list_all is_without (drop n ss) ≡ true
+without_left zero ss h = h
+without_left (suc n) [] h = refl
+without_left (suc n) (s ∷ ss) h = let p = and_parts (is_without s) (list_all is_without ss) h in without_left n ss p.1
+
+without_range : (a b : ℕ) (ss : List Symbol) → list_all is_without ss ≡ true → list_all is_without (slice_range ss a b) ≡ true
+without_range a b ss h = without_taken (b - a) (drop a ss) (without_left a ss h)
+
+pub own_without : (l : Layout) (f : File) → list_all is_without l.symbols ≡ true → list_all is_without (own_symbols l f) ≡ true
+own_without l f h = by_role (writes_slots f.role) (without_range f.first_symbol (f.first_symbol + f.symbol_count) l.symbols h)
+  where
+    by_role : (b : Bool) → list_all is_without (slice_range l.symbols f.first_symbol (f.first_symbol + f.symbol_count)) ≡ true → list_all is_without (if b then slice_range l.symbols f.first_symbol (f.first_symbol + f.symbol_count) else []) ≡ true
+    by_role true e = e
+    by_role false e = refl
 
 -- ---- what stands once
 

@@ -3,7 +3,7 @@
 --   needs l part group  the group's share of the part, at most 2^64 - 1
 --   is_plain l f        the file writes nothing in any part but raw ones, as far as its role and its symbols' slots tell
 --   total_share l r      what all groups need of the part of a role
-use Rattle.std.specs.Prelude.{ℕ, ◌-◌, ◌^◌, ◌==◌, Bool, true, false, ◌&&◌, List, length, ◌+◌, ◌*◌, if◌then◌else◌, not, min, Option, Some, None, slice_get, slice_index_or}
+use Rattle.std.specs.Prelude.{ℕ, ◌-◌, ◌^◌, ◌==◌, Bool, true, false, ◌&&◌, List, length, ◌+◌, ◌*◌, if◌then◌else◌, not, min, Option, Some, None, is_some, slice_get, slice_index_or}
 use Rattle.std.specs.List.{list_all, list_any}
 use Rattle.wild_types.specs.declared.layout.Layout.{Layout}
 use Rattle.wild_types.specs.declared.part.Role.{Role}
@@ -163,12 +163,13 @@ reads_places l role.RelaDynRelative = is_position_independent l.kind && l.option
 reads_places l role.RelrDyn = is_position_independent l.kind && l.options.relr
 reads_places l other = false
 
--- frames and notes: an output that no loader relocates has such parts too
-abbrev pub is_static : Role → Bool
-is_static role.EhFrame = true
-is_static role.BuildId = true
-is_static role.Property = true
-is_static other = false
+-- what an output that no loader relocates may have beside slots: entries for resolvers, and frames, which its sections tell, and notes
+abbrev pub is_static : Layout → Role → Bool
+is_static l role.RelaDynGeneral = true
+is_static l role.EhFrame = true
+is_static l role.BuildId = is_some l.build_id
+is_static l role.Property = not (length l.properties == 0)
+is_static l other = false
 
 -- what the first file writes: what stands once
 abbrev pub first_share : Layout → Role → ℕ

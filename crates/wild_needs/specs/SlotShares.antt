@@ -1,10 +1,11 @@
 -- What the slots and stubs of a file's symbols take of the parts (x86-64 psABI, "Global Offset Table (GOT)", "Procedure
 -- Linkage Table").
 --   header_words l       the words that stand once, at the start of the table
+--   takes_none l r       slots take nothing of parts of that role
 --   slot_share l r f     what a file's symbols take of the part of a role
 --   block_words l g      the packed words for a group's block of slots
 --   block_share l r g    what they take
-use Rattle.std.specs.Prelude.{ℕ, ◌+◌, ◌*◌, Bool, true, false, if◌then◌else◌, List, [], ◌∷◌, ◌++◌, min, ◌-◌, ◌^◌, length, replicate, Option, Some, None, unwrap_or}
+use Rattle.std.specs.Prelude.{ℕ, ◌+◌, ◌*◌, ◌==◌, Bool, true, false, not, ◌&&◌, ◌||◌, if◌then◌else◌, List, [], ◌∷◌, ◌++◌, min, ◌-◌, ◌^◌, length, replicate, Option, Some, None, unwrap_or}
 use Rattle.wild_records.specs.Relocations.{rela_size, relr_size}
 use Rattle.wild_relr.specs.Packed.{block}
 use Rattle.wild_types.specs.declared.part.Role.{Role}
@@ -21,9 +22,9 @@ use Rattle.wild_slot.specs.declared.slot_parts.WordPart.{WordPart}
 use Rattle.wild_slot.specs.declared.slot_parts.WordPart.TheVariants as words
 use Rattle.wild_slot.specs.declared.slot_parts.EntryPart.{EntryPart}
 use Rattle.wild_slot.specs.declared.slot_parts.EntryPart.TheVariants as entries
-use Rattle.std.specs.List.{flat_map}
+use Rattle.std.specs.List.{flat_map, list_all}
 use Rattle.wild_types.specs.Lists.{total}
-use Rattle.wild_types.specs.SymbolSlots.{slots_at}
+use Rattle.wild_types.specs.SymbolSlots.{slots_at, is_without}
 use Rattle.wild_slot.specs.Slots.{setting_of, storage_pair}
 use Rattle.wild_slot.specs.SlotParts.{at_places, slot_words, slot_entries, flat_places}
 use Rattle.wild_types.specs.FileSymbols.{own_symbols}
@@ -95,6 +96,10 @@ abbrev pub header_share : Layout → Role → ℕ
 header_share l role.Got = word_size * length (header_words l)
 header_share l role.RelaDynGeneral = rela_size * header_entries l
 header_share l other = 0
+
+-- slots take nothing of parts of that role: it is none of theirs, or nothing stands once there and no symbol has a slot
+abbrev pub takes_none : Layout → Role → Bool
+takes_none l r = not (is_of_slots r) || (header_share l r == 0 && list_all is_without l.symbols)
 
 -- the place of a word, where it is one of the block
 abbrev pub block_place : ℕ → SlotWord → Option ℕ

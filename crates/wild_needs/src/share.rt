@@ -13,7 +13,7 @@ use crate::dynamic::dynamic_count;
 use crate::dynsyms::table_length;
 use crate::entries::{entry_count, general_count, sorted_word_count, word_count};
 use crate::rooms::{build_id_share, frames_room, property_share, search_table_room};
-use crate::slot_shares::{block_share, header_share, is_of_slots, slot_share};
+use crate::slot_shares::{block_share, header_share, slot_share, takes_none};
 use crate::strings::{entry_name_count, needed_count, strings_room};
 use crate::table::{global_count, has_long, local_count, table_room};
 use crate::versions::{definitions_room, needs_room};
@@ -359,11 +359,17 @@ pub fn needs(layout: &Layout, part: usize, group: usize) -> u64
     }
 }
 
-/// Whether a part of that role has frames or notes: an output that no loader relocates has such parts too.
-fn is_static(role: Role) -> bool
-    ensures { result ≡ is_static role }
+/// Whether an output that no loader relocates may have something in a part of that role beside slots: entries for resolvers, and frames,
+/// which its sections tell, and notes.
+fn is_static(layout: &Layout, role: Role) -> bool
+    ensures { result ≡ is_static layout.now role }
 {
-    matches!(role, Role::EhFrame | Role::BuildId | Role::Property)
+    match role {
+        Role::RelaDynGeneral | Role::EhFrame => true,
+        Role::BuildId => layout.build_id.is_some(),
+        Role::Property => layout.properties.len() != 0,
+        _ => false,
+    }
 }
 
 /// Whether no group has anything to write in a part of that role, as far as that is known without a look at the files.
@@ -373,8 +379,8 @@ fn needs_nothing(layout: &Layout, role: Role) -> bool
 {
     !layout.kind.needs_dynamic()
         && !layout.has_table()
-        && !is_of_slots(role)
-        && !is_static(role)
+        && !is_static(layout, role)
+        && takes_none(layout, role)
         && whole_of(layout, role) == 0
 }
 

@@ -5,7 +5,7 @@ ghost use Rattle.std.specs.List.{flat_map};
 ghost use Rattle.wild_types.specs.FileSymbols.{own_symbols};
 ghost use Rattle.wild_slot.specs.SymbolWords.{slots_of};
 ghost use Rattle.wild_types.specs.SymbolSlots.{slots_at};
-ghost use Rattle.wild_needs.specs.SlotShares.{words_in, entries_in, header_words, header_entries, symbol_share, is_of_slots, slot_share, header_share, block_places, group_block, block_of, block_share};
+ghost use Rattle.wild_needs.specs.SlotShares.{words_in, entries_in, header_words, header_entries, symbol_share, is_of_slots, slot_share, header_share, takes_none, block_places, group_block, block_of, block_share};
 ghost use Rattle.wild_types.specs.Kinds.{is_position_independent};
 ghost use Rattle.wild_slot.specs.SlotParts.{flat_places, begins_block};
 ghost use Rattle.wild_types.specs.declared.part.Role.TheVariants.{PltGot};
@@ -16,7 +16,7 @@ use wild_slot::{
     EntryPart, STUB_SIZE, Setting, SymbolSlots, WORD_SIZE, WordPart, begins_block, count_entries,
     count_flat, count_words, storage_pair,
 };
-use wild_types::{File, Group, Layout, Role, Symbol, is_without};
+use wild_types::{File, Group, IsWithout, Layout, Role, Symbol, all_pass, is_without};
 
 /// How many words a symbol has in a part.
 pub fn words_in(part: WordPart, layout: &Layout, symbol: &Symbol) -> usize
@@ -155,6 +155,14 @@ pub(crate) fn header_share(layout: &Layout, role: Role) -> u64
         Role::RelaDynGeneral => (Rela::SIZE * header_entries(layout)) as u64,
         _ => 0,
     }
+}
+
+/// Whether slots take nothing of parts of that role, as far as that is known without a look at the files.
+pub(crate) fn takes_none(layout: &Layout, role: Role) -> bool
+    ensures { result ≡ takes_none layout.now role }
+{
+    !is_of_slots(role)
+        || (header_share(layout, role) == 0 && all_pass(&IsWithout, layout.symbols.as_slice()))
 }
 
 /// Slots of eight bytes, one behind the other, whose places a group packs at once.
