@@ -21,7 +21,7 @@ use Rattle.wild_symbols.specs.TableLaws.{names_of, NamesOfFiles}
 use Rattle.wild_contents.specs.Walks.{taken_bytes, sunk, Walks, Written, with_entry, Writes, WritesSection}
 use Rattle.wild_needs.specs.declared.table.TablePart.{TablePart}
 use Rattle.wild_needs.specs.declared.table.TablePart.TheVariants.{Side, Long, Strings}
-use Rattle.wild_needs.specs.Runs.{Ran, none, more, stop}
+use Rattle.wild_walk.specs.Runs.{Ran, none, more, stop}
 
 -- ---- steps
 

@@ -22,10 +22,11 @@ use wild_needs::{Named, TablePart, TableSink, give_table, has_long, is_on, prefi
 use wild_relax::Arch;
 use wild_sections::{Resolved, section_in_file};
 use wild_symbols::{
-    SectionSink, TableFields, entry_at, give_section_symbols, names_are_strings, no_fields,
-    null_table_fields, section_fields, table_fields,
+    TableFields, entry_at, give_section_symbols, names_are_strings, no_fields, null_table_fields,
+    section_fields, table_fields,
 };
 use wild_types::{Fault, File, Group, Role, Symbol, SymbolIndex};
+use wild_walk::Sink;
 
 /// What the entry of a symbol of a file says, or of the name of its slot, its stub or a thunk to it; or what it lacks.
 pub(crate) fn fields_of<A: Arch>(
@@ -140,7 +141,7 @@ impl<'r, 'l, 'f, A: Arch> TableSink for TableBytes<'r, 'l, 'f, A> {
     }
 }
 
-impl<'r, 'l, 'f, A: Arch> SectionSink for TableBytes<'r, 'l, 'f, A> {
+impl<'r, 'l, 'f, A: Arch> Sink<usize> for TableBytes<'r, 'l, 'f, A> {
     ghost use Rattle.wild_contents.specs.Walks.{WritesSection};
 
     type Error = AllocError;

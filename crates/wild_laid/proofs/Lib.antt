@@ -1,4 +1,3 @@
-pub mod RunLemmas
 pub mod LaidFiles
 pub mod FrameLemmas
 pub mod PlainLemmas

@@ -2,5 +2,4 @@ pub mod Turned
 pub mod FrameInputs
 pub mod Laid
 pub mod Stood
-pub mod Runs
 pub mod Plain

@@ -7,7 +7,7 @@ ghost use Rattle.wild_laid.specs.Turned.{turned_offset, as_turned};
 ghost use Rattle.wild_laid.specs.FrameInputs.{frames_of};
 ghost use Rattle.wild_laid.specs.Laid.{moved_by, laid_relocations, laid_section, unread, target_relocations};
 ghost use Rattle.wild_laid.specs.Stood.{StaysLow, StayLow, found_moved, found_laid, placed_at};
-ghost use Rattle.wild_laid.specs.Runs.{Ran};
+ghost use Rattle.wild_walk.specs.Runs.{Ran};
 
 use crate::frames::FileFrames;
 use crate::kept::moved_by;
@@ -15,31 +15,12 @@ use crate::tables::{placed_at, target_of};
 use crate::words::turned_offset;
 use wild_frames::{Found, FrameSource, KeptEntry, Pass, goes_on};
 use wild_types::{File, InputRelocation, InputSection, Layout, Slot};
-
-/// Where relocations go, one after another.
-pub trait RelocationSink {
-    ghost use Rattle.std.specs.Prelude.{[], ◌∷◌};
-    ghost use Rattle.wild_types.specs.declared.input.InputRelocation.{InputRelocation};
-    ghost use Rattle.wild_laid.specs.Runs.{Ran};
-
-    /// Why a relocation is refused.
-    type Error: Drop;
-
-    /// From one state to another, with the relocation taken.
-    ghost goes: { Self → InputRelocation → Self → Type 0 };
-
-    /// In a state the relocation is refused for a reason, which leaves a state.
-    ghost refuses: { Self → InputRelocation → Self.Error → Self → Type 0 };
-
-    /// Takes the relocation, or refuses it.
-    fn take(&mut self, relocation: InputRelocation) -> Result<(), Self::Error>
-        ensures { Ran goes refuses self.old (relocation ∷ []) result self.new };
-}
+use wild_walk::Sink;
 
 /// Gives relocations as they are.
 #[inline(always)]
-#[tactic(auto, using(crate::proofs::RunLemmas::item_loops))]
-fn give_all<S: RelocationSink>(
+#[tactic(auto, using(wild_walk::proofs::RunLemmas::item_loops))]
+fn give_all<S: Sink<InputRelocation>>(
     relocations: &[InputRelocation],
     sink: &mut S,
 ) -> Result<(), S::Error>
@@ -53,8 +34,8 @@ fn give_all<S: RelocationSink>(
 
 /// Gives relocations at the new places of their words, of a section of `size` bytes.
 #[inline(always)]
-#[tactic(auto, using(crate::proofs::RunLemmas::mapped_loops))]
-fn give_reversed<S: RelocationSink>(
+#[tactic(auto, using(wild_walk::proofs::RunLemmas::mapped_loops))]
+fn give_reversed<S: Sink<InputRelocation>>(
     size: u64,
     relocations: &[InputRelocation],
     sink: &mut S,
@@ -70,7 +51,10 @@ fn give_reversed<S: RelocationSink>(
 /// Gives the relocations of a section that debuggers read, as it stands.
 #[inline(always)]
 #[tactic(auto, unfolding(crate::specs::Turned::as_turned))]
-fn give_words<S: RelocationSink>(section: &InputSection, sink: &mut S) -> Result<(), S::Error>
+fn give_words<S: Sink<InputRelocation>>(
+    section: &InputSection,
+    sink: &mut S,
+) -> Result<(), S::Error>
     ensures { Ran S.goes S.refuses sink.old (as_turned section.now).relocations result sink.new }
 {
     let relocations = section.relocations.as_slice();
@@ -83,8 +67,8 @@ fn give_words<S: RelocationSink>(section: &InputSection, sink: &mut S) -> Result
 
 /// Gives the relocations of a section that is loaded or sorted, as it stands: in a relocatable object none.
 #[inline(always)]
-#[tactic(auto, using(crate::proofs::RunLemmas::runs, crate::proofs::TableLemmas::none_read))]
-pub fn give_turned<S: RelocationSink>(
+#[tactic(auto, using(wild_walk::proofs::RunLemmas::runs, crate::proofs::TableLemmas::none_read))]
+pub fn give_turned<S: Sink<InputRelocation>>(
     layout: &Layout,
     section: &InputSection,
     sink: &mut S,
@@ -100,8 +84,8 @@ pub fn give_turned<S: RelocationSink>(
 
 /// Gives the relocations of the target of a table, as the table has them.
 #[inline(always)]
-#[tactic(auto, using(crate::proofs::RunLemmas::mapped_loops))]
-fn give_placed<S: RelocationSink>(
+#[tactic(auto, using(wild_walk::proofs::RunLemmas::mapped_loops))]
+fn give_placed<S: Sink<InputRelocation>>(
     target: &InputSection,
     relocations: &[InputRelocation],
     sink: &mut S,
@@ -116,7 +100,7 @@ fn give_placed<S: RelocationSink>(
 
 /// Gives those of a table of relocations.
 #[inline(always)]
-fn give_table<S: RelocationSink>(
+fn give_table<S: Sink<InputRelocation>>(
     file: &File,
     section: &InputSection,
     sink: &mut S,
@@ -131,8 +115,8 @@ fn give_table<S: RelocationSink>(
 
 /// Gives relocations of a kept entry at its new place.
 #[inline(always)]
-#[tactic(auto, using(crate::proofs::RunLemmas::mapped_loops))]
-fn give_moved<S: RelocationSink>(
+#[tactic(auto, using(wild_walk::proofs::RunLemmas::mapped_loops))]
+fn give_moved<S: Sink<InputRelocation>>(
     entry: &KeptEntry,
     relocations: &[InputRelocation],
     sink: &mut S,
@@ -148,8 +132,8 @@ fn give_moved<S: RelocationSink>(
 
 /// Gives those of what was found.
 #[inline(always)]
-#[tactic(auto, using(crate::proofs::RunLemmas::runs))]
-fn give_found<S: RelocationSink>(
+#[tactic(auto, using(wild_walk::proofs::RunLemmas::runs))]
+fn give_found<S: Sink<InputRelocation>>(
     found: &Found,
     relocations: &[InputRelocation],
     sink: &mut S,
@@ -165,7 +149,7 @@ fn give_found<S: RelocationSink>(
 
 /// Gives those of the entries from the start of a walk on.
 #[inline(always)]
-fn give_kept<S: RelocationSink>(
+fn give_kept<S: Sink<InputRelocation>>(
     frames: &FileFrames<'_>,
     first: Pass,
     sink: &mut S,
@@ -188,7 +172,10 @@ fn give_kept<S: RelocationSink>(
 
 /// Gives those of frames.
 #[inline(always)]
-fn give_frames<S: RelocationSink>(frames: &FileFrames<'_>, sink: &mut S) -> Result<(), S::Error>
+fn give_frames<S: Sink<InputRelocation>>(
+    frames: &FileFrames<'_>,
+    sink: &mut S,
+) -> Result<(), S::Error>
     ensures { Ran S.goes S.refuses sink.old (laid_relocations (frames_of frames.now.layout.now frames.now.file.now frames.now.section.now)) result sink.new }
 {
     match Pass::start(frames) {
@@ -200,7 +187,7 @@ fn give_frames<S: RelocationSink>(frames: &FileFrames<'_>, sink: &mut S) -> Resu
 /// Gives the relocations of a section of a file as it stands in the output, one after another, without taking memory.
 #[inline(always)]
 #[tactic(auto, unfolding(crate::specs::Laid::laid_section))]
-pub fn give_relocations<S: RelocationSink>(
+pub fn give_relocations<S: Sink<InputRelocation>>(
     layout: &Layout,
     file: &File,
     section: &InputSection,

@@ -13,7 +13,7 @@ mod words;
 
 pub use counts::{all_fdes, fde_count, file_frames, frames_at, kept_size};
 pub use frames::FileFrames;
-pub use give::{RelocationSink, give_relocations, give_turned};
+pub use give::{give_relocations, give_turned};
 pub use kept::frame_flags;
 pub use laws::plain_files_stand;
 pub use placed::{LaidSection, lay, lay_sorted};

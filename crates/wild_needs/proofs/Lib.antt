@@ -1,7 +1,6 @@
 pub mod DynamicLemmas
 pub mod EntryLemmas
 pub mod RoomLemmas
-pub mod RunLemmas
 pub mod SectionSymbolLemmas
 pub mod ShareLemmas
 pub mod SlotBlockLemmas

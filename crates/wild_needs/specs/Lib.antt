@@ -6,7 +6,6 @@ pub mod Entries
 pub mod EntryPoint
 pub mod HashShapes
 pub mod Needs
-pub mod Runs
 pub mod SectionSymbols
 pub mod SlotShares
 pub mod TableCounts

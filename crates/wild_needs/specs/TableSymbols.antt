@@ -39,6 +39,7 @@ use Rattle.wild_types.specs.FileThunks.{thunks_of}
 use Rattle.wild_types.specs.SymbolSlots.{names_slot, names_stub}
 use Rattle.wild_types.specs.Kinds.{is_partial_link}
 use Rattle.wild_types.specs.Lookups.{has_table, has_many_sections, files_of}
+use Rattle.wild_walk.specs.Runs.{numbered}
 
 -- ---- symbols
 
@@ -78,8 +79,7 @@ symbol_items l p i s = (if p.slots then slot_items l i s else []) ++ own_item p.
 
 -- what symbols give, from number i on
 abbrev pub pass_items : Layout → Pass → ℕ → List Symbol → List TableSymbol
-pass_items l p i [] = []
-pass_items l p i (s ∷ ss) = symbol_items l p i s ++ pass_items l p (i + 1) ss
+pass_items l p i ss = numbered (symbol_items l p) i ss
 
 -- a file from elsewhere has all in one pass; the linker's own has its symbols first, and then the names of their slots
 abbrev pub linked_passes : FileRole → List Pass

@@ -12,11 +12,10 @@ ghost use Rattle.wild_relr.specs.declared.run.Run.TheVariants.{Closed};
 
 use crate::entries::{count_place, is_left_by, is_listed_at, packed_at};
 use std::convert::Infallible;
-use wild_laid::{
-    RelocationSink, frame_flags, give_relocations, give_turned, kept_size, sorted_input,
-};
+use wild_laid::{frame_flags, give_relocations, give_turned, kept_size, sorted_input};
 use wild_relr::{Run, runs_are_counted};
 use wild_types::{File, InputRelocation, InputSection, Layout, SortedSection, is_allocated};
+use wild_walk::Sink;
 
 /// What is counted.
 #[derive(Clone, Copy)]
@@ -148,7 +147,7 @@ impl<'a> Tally<'a> {
     }
 }
 
-impl RelocationSink for Tally<'_> {
+impl Sink<InputRelocation> for Tally<'_> {
     ghost use Rattle.wild_needs.specs.Tallies.{Tallies};
 
     type Error = Infallible;

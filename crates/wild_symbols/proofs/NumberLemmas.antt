@@ -13,7 +13,7 @@ use Rattle.wild_types.specs.declared.file.File.{File}
 use Rattle.wild_types.specs.declared.file.Group.{Group}
 use Rattle.wild_types.specs.declared.layout.Layout.{Layout}
 use Rattle.wild_types.specs.Kinds.{is_partial_link}
-use Rattle.wild_needs.specs.Runs.{Ran, none, more, stop}
+use Rattle.wild_walk.specs.Runs.{Ran, none, more, stop}
 use Rattle.wild_needs.specs.declared.table.Named.{Named}
 use Rattle.wild_needs.specs.TableSymbols.{TableSymbol, file_items, item, is_local, is_local_symbol, side, asked_from, kept_alone, section_symbols}
 use Rattle.wild_symbols.specs.SectionSymbols.{all_items, is_own_entry, place_from, front_count, entry_by, entry_index, number_from}

@@ -2,7 +2,7 @@
 use Rattle.std.proofs.Common.{◌≡◌, ℕ, List, [], ◌∷◌, map, refl, sym, ap, ◌∙◌, subst, Ok, Err, Result}
 use Rattle.std.proofs.Common.{Bool, true, false, if◌then◌else◌}
 use Rattle.wild_types.specs.declared.fault.Error.{Error}
-use Rattle.wild_needs.specs.Runs.{Ran, none, more, stop}
+use Rattle.wild_walk.specs.Runs.{Ran, none, more, stop}
 use Rattle.wild_symbols.specs.TableRoom.{and_then}
 use Rattle.wild_symbols.specs.TableEntries.{NamedEntry, section_entry}
 use Rattle.wild_symbols.specs.Runs.{is_ok, called}

@@ -24,7 +24,7 @@ pub use laws::{
 };
 pub use map::{build_sym_index_map, named_index};
 pub use prefix::{KeptBehind, SymbolTablePrefix};
-pub use section_walk::{SectionSink, give_section_symbols};
+pub use section_walk::give_section_symbols;
 pub use strtab::StrTabWriter;
 pub use symbol_table::SymbolTable;
 pub use table::{TableFields, null_table_fields, section_fields, table_fields};

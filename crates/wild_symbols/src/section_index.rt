@@ -7,10 +7,11 @@ ghost use Rattle.wild_symbols.specs.SectionSymbols.{number_from, section_at, sec
 ghost use Rattle.wild_symbols.specs.SymbolNumbers.{SectionNumbered, SectionSought, HasAskedNumbers, HasAloneNumbers, told_of};
 
 use crate::numbers::note;
-use crate::section_walk::{SectionSink, give_asked_sections, give_kept_alone};
+use crate::section_walk::{give_asked_sections, give_kept_alone};
 use std::alloc::{AllocError, Global};
 use wild_records::abi::symbol::STT_SECTION;
 use wild_types::{File, InputSection, Layout, Place, Symbol};
+use wild_walk::Sink;
 
 /// The number behind a number. One without is more than memory has room for.
 fn behind(number: usize) -> Result<usize, AllocError>
@@ -47,7 +48,7 @@ impl SectionTable {
     }
 }
 
-impl SectionSink for SectionTable {
+impl Sink<usize> for SectionTable {
     ghost use Rattle.wild_symbols.specs.SymbolNumbers.{SectionNumbered};
 
     type Error = AllocError;
@@ -94,7 +95,7 @@ impl SectionSearch {
     }
 }
 
-impl SectionSink for SectionSearch {
+impl Sink<usize> for SectionSearch {
     ghost use Rattle.wild_symbols.specs.SymbolNumbers.{SectionSought};
 
     type Error = AllocError;

@@ -2,34 +2,16 @@
 //! each is a sink's.
 ghost use Rattle.std.specs.Prelude.{◌≡◌, [], ◌∷◌, if◌then◌else◌, option_to_list};
 ghost use Rattle.std.specs.List.{flat_map};
-ghost use Rattle.wild_needs.specs.Runs.{Ran};
+ghost use Rattle.wild_walk.specs.Runs.{Ran};
 ghost use Rattle.wild_needs.specs.TableSymbols.{asked_from, kept_alone, section_symbols};
 ghost use Rattle.wild_symbols.specs.SectionWalk.{alone_in, alone_in_groups};
 
 use wild_types::{File, Group, Layout, Section, SectionIndex};
-
-/// Where the header indexes of such sections go, one after another.
-pub trait SectionSink {
-    ghost use Rattle.std.specs.Prelude.{ℕ, [], ◌∷◌};
-    ghost use Rattle.wild_needs.specs.Runs.{Ran};
-
-    /// Why a section is refused.
-    type Error: Drop;
-
-    /// From one state to another, with the section taken.
-    ghost goes: { Self → ℕ → Self → Type 0 };
-
-    /// In a state the section is refused for a reason, which leaves a state.
-    ghost refuses: { Self → ℕ → Self.Error → Self → Type 0 };
-
-    /// Takes the section with that header index, or refuses it.
-    fn take(&mut self, header: usize) -> Result<(), Self::Error>
-        ensures { Ran goes refuses self.old (header ∷ []) result self.new };
-}
+use wild_walk::Sink;
 
 /// Gives a section, where that is asked for.
-#[tactic(auto, using(wild_needs::proofs::RunLemmas::runs))]
-fn give_asked<S: SectionSink>(asked: bool, header: usize, sink: &mut S) -> Result<(), S::Error>
+#[tactic(auto, using(wild_walk::proofs::RunLemmas::runs))]
+fn give_asked<S: Sink<usize>>(asked: bool, header: usize, sink: &mut S) -> Result<(), S::Error>
     ensures { Ran S.goes S.refuses sink.old (if asked then header ∷ [] else []) result sink.new }
 {
     if asked { sink.take(header) } else { Ok(()) }
@@ -37,7 +19,7 @@ fn give_asked<S: SectionSink>(asked: bool, header: usize, sink: &mut S) -> Resul
 
 /// Gives the sections that ask for a symbol.
 #[tactic(auto, using(crate::proofs::WalkLemmas::asked_loops))]
-pub fn give_asked_sections<S: SectionSink>(
+pub fn give_asked_sections<S: Sink<usize>>(
     sections: &[Section],
     sink: &mut S,
 ) -> Result<(), S::Error>
@@ -50,8 +32,8 @@ pub fn give_asked_sections<S: SectionSink>(
 }
 
 /// Gives the section that an input section is, where the object keeps it by itself.
-#[tactic(auto, using(wild_needs::proofs::RunLemmas::runs))]
-fn give_alone<S: SectionSink>(alone: Option<SectionIndex>, sink: &mut S) -> Result<(), S::Error>
+#[tactic(auto, using(wild_walk::proofs::RunLemmas::runs))]
+fn give_alone<S: Sink<usize>>(alone: Option<SectionIndex>, sink: &mut S) -> Result<(), S::Error>
     ensures { Ran S.goes S.refuses sink.old (option_to_list alone) result sink.new }
 {
     match alone {
@@ -61,8 +43,8 @@ fn give_alone<S: SectionSink>(alone: Option<SectionIndex>, sink: &mut S) -> Resu
 }
 
 /// Gives those of a file.
-#[tactic(auto, using(wild_needs::proofs::RunLemmas::listed_loops))]
-fn give_alone_in<S: SectionSink>(file: &File, sink: &mut S) -> Result<(), S::Error>
+#[tactic(auto, using(wild_walk::proofs::RunLemmas::listed_loops))]
+fn give_alone_in<S: Sink<usize>>(file: &File, sink: &mut S) -> Result<(), S::Error>
     ensures { Ran S.goes S.refuses sink.old (alone_in file.now) result sink.new }
 {
     for section in file.sections.as_slice() {
@@ -72,8 +54,8 @@ fn give_alone_in<S: SectionSink>(file: &File, sink: &mut S) -> Result<(), S::Err
 }
 
 /// Gives those of a group.
-#[tactic(auto, using(wild_needs::proofs::RunLemmas::listed_loops))]
-fn give_alone_among<S: SectionSink>(group: &Group, sink: &mut S) -> Result<(), S::Error>
+#[tactic(auto, using(wild_walk::proofs::RunLemmas::listed_loops))]
+fn give_alone_among<S: Sink<usize>>(group: &Group, sink: &mut S) -> Result<(), S::Error>
     ensures { Ran S.goes S.refuses sink.old (flat_map alone_in group.now.files) result sink.new }
 {
     for file in group.files.as_slice() {
@@ -83,8 +65,8 @@ fn give_alone_among<S: SectionSink>(group: &Group, sink: &mut S) -> Result<(), S
 }
 
 /// Gives those of all groups.
-#[tactic(auto, using(wild_needs::proofs::RunLemmas::listed_loops))]
-fn give_alone_in_groups<S: SectionSink>(layout: &Layout, sink: &mut S) -> Result<(), S::Error>
+#[tactic(auto, using(wild_walk::proofs::RunLemmas::listed_loops))]
+fn give_alone_in_groups<S: Sink<usize>>(layout: &Layout, sink: &mut S) -> Result<(), S::Error>
     ensures { Ran S.goes S.refuses sink.old (alone_in_groups layout.now) result sink.new }
 {
     for group in layout.groups.as_slice() {
@@ -95,15 +77,15 @@ fn give_alone_in_groups<S: SectionSink>(layout: &Layout, sink: &mut S) -> Result
 
 /// Gives the sections that the object keeps by themselves, in the order of processing.
 #[tactic(auto, using(crate::proofs::WalkLemmas::alone_is))]
-pub fn give_kept_alone<S: SectionSink>(layout: &Layout, sink: &mut S) -> Result<(), S::Error>
+pub fn give_kept_alone<S: Sink<usize>>(layout: &Layout, sink: &mut S) -> Result<(), S::Error>
     ensures { Ran S.goes S.refuses sink.old (kept_alone layout.now) result sink.new }
 {
     give_alone_in_groups(layout, sink)
 }
 
 /// Gives the sections that the object has symbols for, in the order of these.
-#[tactic(auto, using(wild_needs::proofs::RunLemmas::runs), unfolding(wild_needs::specs::TableSymbols::section_symbols))]
-pub fn give_section_symbols<S: SectionSink>(layout: &Layout, sink: &mut S) -> Result<(), S::Error>
+#[tactic(auto, using(wild_walk::proofs::RunLemmas::runs), unfolding(wild_needs::specs::TableSymbols::section_symbols))]
+pub fn give_section_symbols<S: Sink<usize>>(layout: &Layout, sink: &mut S) -> Result<(), S::Error>
     ensures { Ran S.goes S.refuses sink.old (section_symbols layout.now) result sink.new }
 {
     if !layout.kind.is_partial_link() {

@@ -18,7 +18,7 @@ ghost use Rattle.wild_symbols.specs.Runs.{defined, undefined, called};
 
 use crate::dynamic::{NamedSections, SymbolFields};
 use crate::index_table::IndexTable;
-use crate::section_walk::{SectionSink, give_section_symbols};
+use crate::section_walk::give_section_symbols;
 use crate::strtab::StrTabWriter;
 use crate::symbol_table::SymbolTable;
 use crate::table::{TableFields, section_fields, slot_fields};
@@ -28,6 +28,7 @@ use wild_records::abi::section::{SHN_ABS, SHN_UNDEF};
 use wild_records::abi::symbol::STB_LOCAL;
 use wild_records::{SymbolSection, SymtabEntry};
 use wild_types::{At, Error, Layout, Role, SectionIndex, Symbol, part_of, share_of};
+use wild_walk::Sink;
 
 /// What a symbol says of itself, wherever it lies.
 #[derive(Clone, Copy)]
@@ -192,7 +193,7 @@ fn no_indexes(
 }
 
 /// The symbol of a section is written as a local one without a name.
-impl SectionSink for SymbolTableWriter {
+impl Sink<usize> for SymbolTableWriter {
     ghost use Rattle.wild_symbols.specs.SectionCalls.{SectionWritten, SectionRefused};
 
     type Error = Error;

@@ -2,8 +2,8 @@ use Rattle.std.proofs.Common.{List, map, subst, sym, ap, ◌∙◌}
 use Rattle.std.specs.Prelude.{option_copied}
 use Rattle.wild_types.specs.declared.input.InputRelocation.{InputRelocation}
 use Rattle.wild_laid.specs.Stood.{placed_at}
-use Rattle.wild_laid.specs.Runs.{Ran}
-use Rattle.wild_laid.proofs.RunLemmas.{ran_none}
+use Rattle.wild_walk.specs.Runs.{Ran}
+use Rattle.wild_walk.proofs.RunLemmas.{ran_none}
 use Rattle.wild_laid.proofs.TableLemmas.{target_placed, target_missing}
 use Rattle.wild_laid.proofs.give.give_table.Goals as goal
 
@@ -11,7 +11,7 @@ pub returns-in-Some : goal.returns-in-Some
 returns-in-Some g c =
     let is = sym c.target_of.ensures ∙ ap option_copied c.in-Some.is in
     let same = ap (map (placed_at c.in-Some.target.now)) c.as_slice.ensures ∙ target_placed _ c.in-Some.target.now is in
-    subst (λ (rs : List InputRelocation). Ran g.S.RelocationSink.goes g.S.RelocationSink.refuses c.args.sink.now rs c.give_placed.result c.give_placed.new.sink) same c.give_placed.ensures
+    subst (λ (rs : List InputRelocation). Ran g.S.Sink.goes g.S.Sink.refuses c.args.sink.now rs c.give_placed.result c.give_placed.new.sink) same c.give_placed.ensures
 
 pub returns-in-None : goal.returns-in-None
 returns-in-None g c = ran_none _ (target_missing _ (sym c.target_of.ensures ∙ ap option_copied c.in-None.is))

@@ -2,9 +2,9 @@ use Rattle.std.proofs.Common.{drop}
 use Rattle.std.specs.Prelude.{option_to_list}
 use Rattle.std.specs.List.{flat_map}
 use Rattle.wild_types.specs.declared.input.InputSection.{InputSection}
-use Rattle.wild_needs.specs.Runs.{Left}
+use Rattle.wild_walk.specs.Runs.{Left}
 use Rattle.wild_symbols.specs.SectionWalk.{alone_in}
 use Rattle.wild_symbols.proofs.section_walk.give_alone_in.Given as goal
 
 abbrev pub invariant-loop-section : goal.invariant-loop-section
-invariant-loop-section g l = Left g.S.SectionSink.goes g.S.SectionSink.refuses l.initial.sink (alone_in l.file) l.sink (flat_map (λ (s : InputSection). option_to_list s.singleton) (drop l.section-index l.section-items))
+invariant-loop-section g l = Left g.S.Sink.goes g.S.Sink.refuses l.initial.sink (alone_in l.file) l.sink (flat_map (λ (s : InputSection). option_to_list s.singleton) (drop l.section-index l.section-items))
