@@ -53,7 +53,7 @@ apart_at ps qs same apart = λ i j d lt m.
     let beside : AreBeside (extent_of (get_or ps i d)) (extent_of (get_or ps j d)) = apart i j d lt low in
     subst (λ (x : Extent). AreBeside x (extent_of (get_or qs j d))) first (subst (λ (y : Extent). AreBeside (extent_of (get_or ps i d)) y) second beside)
 
-same_items : {X Y : Type 0} (f g : X → List Y) (xs : List X) → All (λ x. f x ≡ g x) xs → flat_map f xs ≡ flat_map g xs
+pub same_items : {X Y : Type 0} (f g : X → List Y) (xs : List X) → All (λ x. f x ≡ g x) xs → flat_map f xs ≡ flat_map g xs
 same_items f g [] a = refl
 same_items {X} {Y} f g (x ∷ xs) a =
     let head : f x ≡ g x = All-head (λ (y : X). f y ≡ g y) x xs a in

@@ -1,6 +1,6 @@
 -- Where what files own stands, whatever its bytes are: sections as the room that they take of the image.
-use Rattle.std.proofs.Common.{◌≡◌, ℕ, ◌+◌, ◌<◌, ◌≤◌, ◌⊎◌, Bool, true, false, if◌then◌else◌, List, [], ◌∷◌, ◌++◌, length, map, get_or, All, AllPairs, replicate, slice_get, flat_map, refl, sym, ap, ◌∙◌, arith, subst}
-use Rattle.std.proofs.lemmas.List.{length-replicate, length-map, get_or-map, map-append, append_assoc}
+use Rattle.std.proofs.Common.{◌≡◌, ℕ, ◌+◌, Bool, true, false, if◌then◌else◌, List, [], ◌∷◌, ◌++◌, length, map, All, slice_get, flat_map, refl, sym, ap, ◌∙◌}
+use Rattle.std.proofs.lemmas.List.{map-append, append_assoc}
 use Rattle.std.proofs.lemmas.List.Concat.{flat_map-append}
 use Rattle.std.proofs.lemmas.List.Elements.{All-head, All-tail, All-weaker}
 use Rattle.wild_words.specs.declared.extents.Extent.{Extent}
@@ -16,50 +16,14 @@ use Rattle.wild_laid.specs.Laid.{Input, laid_files, sorted_inputs, sorted_sectio
 use Rattle.wild_layout.specs.SectionPlaces.{SectionLies}
 use Rattle.wild_layout.specs.Geometry.{EachSection}
 use Rattle.wild_layout.specs.Image.{offset_in, section_piece, section_pieces, sorted_piece, thunk_pieces, of_first_file, once_pieces, file_pieces, owned_pieces}
-use Rattle.wild_words.specs.Overlay.{Piece, Apart}
+use Rattle.wild_words.specs.Overlay.{Piece}
 use Rattle.wild_layout.specs.Sites.{section_bytes, extent_of}
+use Rattle.wild_geometry.proofs.Rooms.{length-room, same_items, room_of, section_room}
 
 -- ---- pieces at the same places
 
-abbrev AreBeside : Extent → Extent → Type 0
-AreBeside x y = (x.end ≤ y.start) ⊎ (y.end ≤ x.start)
-
-same_length : (ps qs : List Piece) → map extent_of ps ≡ map extent_of qs → length ps ≡ length qs
-same_length ps qs same = sym (length-map ps extent_of) ∙ ap (λ (es : List Extent). length es) same ∙ length-map qs extent_of
-
-same_extent : (ps qs : List Piece) (k : ℕ) (d : Piece) → map extent_of ps ≡ map extent_of qs → k < length ps → k < length qs → extent_of (get_or ps k d) ≡ extent_of (get_or qs k d)
-same_extent ps qs k d same lp lq = sym (get_or-map extent_of ps k d (extent_of d) lp) ∙ ap (λ (es : List Extent). get_or es k (extent_of d)) same ∙ get_or-map extent_of qs k d (extent_of d) lq
-
-pub apart_at : (ps qs : List Piece) → map extent_of ps ≡ map extent_of qs → AllPairs Apart ps → AllPairs Apart qs
-apart_at ps qs same apart = λ i j d lt m.
-    let long = same_length ps qs same in
-    let low : j < length ps = omega (arith, long, m) in
-    let first = same_extent ps qs i d same (omega (arith, lt, low)) (omega (arith, lt, m)) in
-    let second = same_extent ps qs j d same low m in
-    let beside : AreBeside (extent_of (get_or ps i d)) (extent_of (get_or ps j d)) = apart i j d lt low in
-    subst (λ (x : Extent). AreBeside x (extent_of (get_or qs j d))) first (subst (λ (y : Extent). AreBeside (extent_of (get_or ps i d)) y) second beside)
-
-same_items : {X Y : Type 0} (f g : X → List Y) (xs : List X) → All (λ x. f x ≡ g x) xs → flat_map f xs ≡ flat_map g xs
-same_items f g [] a = refl
-same_items {X} {Y} f g (x ∷ xs) a =
-    let head : f x ≡ g x = All-head (λ (y : X). f y ≡ g y) x xs a in
-    let tail = same_items f g xs (All-tail (λ (y : X). f y ≡ g y) x xs a) in
-    ap (λ (ys : List Y). ys ++ flat_map f xs) head ∙ ap (λ (ys : List Y). g x ++ ys) tail
-
 same_places : {X : Type 0} (f g : X → List Piece) (xs : List X) → All (λ x. map extent_of (f x) ≡ map extent_of (g x)) xs → map extent_of (flat_map f xs) ≡ map extent_of (flat_map g xs)
 same_places {X} f g xs a = map-flat_map extent_of f xs ∙ same_items (λ (x : X). map extent_of (f x)) (λ (x : X). map extent_of (g x)) xs a ∙ sym (map-flat_map extent_of g xs)
-
--- ---- the room of a section
-
-abbrev pub room_of : Layout → InputSection → Piece
-room_of l s = record { at = offset_in (slice_get l.parts s.part) s.address; bytes = replicate s.size 0 }
-
-pub length-room : (l : Layout) (s : InputSection) → length (room_of l s).bytes ≡ s.size
-length-room l s = length-replicate s.size 0
-
--- that of one that owns bytes
-abbrev pub section_room : Layout → InputSection → List Piece
-section_room l s = if is_filled l s then room_of l s ∷ [] else []
 
 -- a section that owns bytes has as many as its size
 abbrev pub HasSize : Layout → InputSection → Type 0

@@ -1,5 +1,5 @@
 -- No two kept sections share a byte of the file.
-use Rattle.std.proofs.Common.{◌≡◌, ◌+◌, ◌<◌, ◌≤◌, inl, inr, Bool, true, false, [], ◌∷◌, length, sym, ap, ◌∙◌, arith, subst}
+use Rattle.std.proofs.Common.{◌≡◌, inl, inr, Bool, true, false, [], ◌∷◌, length, sym, ap, ◌∙◌, arith, subst}
 use Rattle.std.specs.Prelude.{All, AllPairs, slice_get, if◌then◌else◌, not}
 use Rattle.std.specs.List.{flat_map}
 use Rattle.std.proofs.lemmas.Bool.{and_parts}
@@ -25,7 +25,8 @@ use Rattle.wild_loaded.specs.Memory.{IsStored}
 use Rattle.wild_loaded.proofs.Homes.{Home, HasHome, HomesApart}
 use Rattle.wild_loaded.proofs.PairLemmas.{AllPairs-behind, AllPairs-first, AllPairs-across, All-second}
 use Rattle.wild_geometry.proofs.StoodSections.{all_sections, by_files}
-use Rattle.wild_loaded.proofs.Rooms.{HasSize, lies_size, room_of, length-room, section_room, rooms_in, file_rooms, once_and_thunks, stood_files, rooms_stand, apart_at}
+use Rattle.wild_geometry.proofs.Rooms.{room_of, length-room, section_room, apart_at}
+use Rattle.wild_loaded.proofs.Rooms.{HasSize, lies_size, rooms_in, file_rooms, once_and_thunks, stood_files, rooms_stand}
 
 -- ---- rooms
 

@@ -24,7 +24,7 @@ use Rattle.wild_geometry.specs.Laid.{file_place}
 use Rattle.wild_loaded.specs.Memory.{IsStored, HasPlace, Filled, Framed}
 use Rattle.wild_loaded.proofs.Homes.{Home, HomesApart, homes_back}
 use Rattle.wild_geometry.proofs.StoodSections.{all_sections, each_at, input_of}
-use Rattle.wild_loaded.proofs.Rooms.{section_room}
+use Rattle.wild_geometry.proofs.Rooms.{section_room}
 use Rattle.wild_loaded.proofs.SectionsApart.{section_home, section_rooms_apart, filled_apart}
 use Rattle.wild_loaded.proofs.FramesStand.{FramesBeside, FrameWithin, frames_lie, frames_beside, part_base}
 use Rattle.wild_loaded.proofs.TableHomes.{role_home, home_of, roles_apart, filled_apart_from, table_ends}

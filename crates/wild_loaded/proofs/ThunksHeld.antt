@@ -4,7 +4,8 @@ use Rattle.wild_laid.specs.Laid.{laid_file, laid_files, processed, of_last_file,
 use Rattle.wild_geometry.specs.Laid.{file_place}
 use Rattle.wild_loaded.proofs.SectionsAside.{inside_apart, frame_inside}
 use Rattle.wild_geometry.proofs.StoodSections.{all_sections, input_of, in_processed, laid_of, laid_same_all}
-use Rattle.wild_loaded.proofs.Rooms.{room_of, length-room, section_room, rooms_in, stood_files}
+use Rattle.wild_geometry.proofs.Rooms.{room_of, length-room, section_room}
+use Rattle.wild_loaded.proofs.Rooms.{rooms_in, stood_files}
 use Rattle.std.proofs.Common.{◌≡◌, ℕ, ◌+◌, ◌<◌, inl, inr, Bool, true, if◌then◌else◌, List, [], ◌∷◌, length, Some, flat_map, refl, sym, ap, ◌∙◌, arith, subst, ◌++◌}
 use Rattle.std.specs.Prelude.{All, Contains, Result, slice_index, slice_get}
 use Rattle.std.proofs.lemmas.List.Elements.{All-contains, Contains-append_right}

@@ -10,7 +10,7 @@ use Rattle.wild_types.specs.declared.layout.Layout.{Layout}
 use Rattle.wild_types.specs.Kinds.{needs_dynsym}
 use Rattle.wild_types.specs.Lookups.{files_of, file_of}
 use Rattle.wild_sections.specs.declared.home.Home.{Home}
-use Rattle.wild_sections.specs.Placed.{found}
+use Rattle.wild_symbols.specs.SymbolNumbers.{found}
 use Rattle.wild_sections.specs.Homes.{home_of, home_in, HasHomes}
 
 none_found : (l : Layout) (i : ℕ) (o : Option File) → None ≡ option_map (home_in l i) o → o ≡ None

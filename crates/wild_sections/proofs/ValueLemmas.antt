@@ -1,23 +1,20 @@
 -- Laws of the table of the symbols' values.
-use Rattle.std.proofs.Common.{inl, inr, replicate, ◌≡◌, ℕ, [], ◌∷◌, ◌++◌, ◌&&◌, Bool, true, false, nat_lt, nat_le, if◌then◌else◌, take, set, subst, ◌+◌, ◌<◌, ◌≤◌, List, length, get_or, map, Option, Some, None, refl, sym, ap, ◌∙◌, arith}
+use Rattle.std.proofs.Common.{◌≡◌, ℕ, [], ◌∷◌, ◌++◌, ◌+◌, ◌<◌, ◌≤◌, List, length, get_or, map, Option, Some, None, refl, sym, ap, ◌∙◌, arith}
 use Rattle.std.specs.Prelude.{slice_get, option_map, option_and_then}
 use Rattle.std.specs.Option.{option_or, option_flatten}
 use Rattle.std.specs.List.{range_with_len}
-use Rattle.std.proofs.lemmas.Bool.{cases_eq, cases_lt, le-leb, lt-ltb, le-ltb}
-use Rattle.std.proofs.lemmas.List.{length-set, get_or-set_same, get_or-set_other, take_more, get_or-replicate}
 use Rattle.std.proofs.lemmas.Option.{slice_get_past}
 use Rattle.std.proofs.lemmas.List.FromFn.{get_or-map-range_with_len, length-map-range_with_len, map-range_with_len_more}
-use Rattle.wild_words.proofs.ListLemmas.{flat_map-more}
 use Rattle.wild_types.specs.declared.symbol.Place.{Place}
 use Rattle.wild_types.specs.declared.symbol.Place.TheVariants as at
 use Rattle.wild_types.specs.declared.symbol.Symbol.{Symbol}
 use Rattle.wild_types.specs.declared.file.File.{File}
-use Rattle.wild_types.specs.declared.file.Group.{Group}
 use Rattle.wild_types.specs.declared.layout.Layout.{Layout}
 use Rattle.wild_types.specs.Lookups.{file_of, files_of}
 use Rattle.wild_types.specs.Addresses.{raw_value, resolved_or, placed_value, address_at}
 use Rattle.wild_sections.specs.Values.{HasValues}
-use Rattle.wild_sections.specs.Placed.{stands_in, address_in, found, decided}
+use Rattle.wild_symbols.specs.SymbolNumbers.{found}
+use Rattle.wild_sections.specs.Placed.{stands_in, address_in, decided}
 
 -- an entry of the table
 pub table_at : (l : Layout) (values : List (Option ℕ)) (i : ℕ) (d : Option ℕ) → HasValues l values → i < length values → get_or values i d ≡ raw_value l i
@@ -36,65 +33,6 @@ table_past l values i h m =
     sym (raw_value_past l i (omega arith))
 
 pub ruleset table_values = (table_at, table_past)
-
--- one more symbol of a file, placed
-pub place_more : {T : Type 0} (told : ℕ → File → T) (f : File) (first i : ℕ) (before now : List (Option T)) (v : Option T) → first ≤ i → i < length now
-    → ((k : ℕ) → k < length now → get_or now k None ≡ (if nat_le first k && nat_lt k i then option_or (get_or before k None) (Some (told k f)) else get_or before k None))
-    → v ≡ option_or (get_or now i None) (Some (told i f))
-    → (k : ℕ) → k < length (set now i v) → get_or (set now i v) k None ≡ (if nat_le first k && nat_lt k (i + 1) then option_or (get_or before k None) (Some (told k f)) else get_or before k None)
-place_more {T} told f first i before now v low h inv is k m =
-    let n = length-set now i v in
-    elim (cases_eq k i) [
-      | inl same ↦
-          (let a = le-leb first k (omega arith) in
-          let b = lt-ltb k (i + 1) (omega arith) in
-          let d : nat_lt i i ≡ false = le-ltb i i (omega arith) in
-          let was : get_or now i None ≡ get_or before i None = inv i h ∙ (rw d (rw (le-leb first i low) refl)) in
-          rw (a, b) (ap (λ (j : ℕ). get_or (set now i v) j None) same ∙ get_or-set_same now i v None h ∙ is ∙ ap (λ (o : Option T). option_or o (Some (told i f))) was ∙ ap (λ (j : ℕ). option_or (get_or before j None) (Some (told j f))) (sym same)))
-      | inr other ↦
-          (let e : nat_lt k (i + 1) ≡ nat_lt k i = one_apart k i other in
-          rw e (get_or-set_other now i k v None other ∙ inv k (omega arith)))
-    ]
-  where
-    one_apart : (k i : ℕ) → (k ≡ i → ⊥) → nat_lt k (i + 1) ≡ nat_lt k i
-    one_apart k i other =
-        elim (cases_lt k i) [
-          | inl low ↦ lt-ltb k (i + 1) (omega arith) ∙ sym (lt-ltb k i low)
-          | inr from ↦ le-ltb k (i + 1) (omega arith) ∙ sym (le-ltb k i from)
-        ]
-
-found_head : {T : Type 0} (told : ℕ → File → T) (f : File) (k : ℕ) (b : Bool) (rest : Option File) → option_map (told k) (if b then Some f else rest) ≡ option_or (option_map (told k) (if b then Some f else None)) (option_map (told k) rest)
-found_head told f k true rest = refl
-found_head told f k false rest = refl
-
-or_assoc : {A : Type 0} (a b c : Option A) → option_or (option_or a b) c ≡ option_or a (option_or b c)
-or_assoc (Some x) b c = refl
-or_assoc None b c = refl
-
-found-append : {T : Type 0} (told : ℕ → File → T) (fs gs : List File) (k : ℕ) → found told (fs ++ gs) k ≡ option_or (found told fs k) (found told gs k)
-found-append told [] gs k = refl
-found-append {T} told (f ∷ fs) gs k =
-    let b = nat_le f.first_symbol k && nat_lt k (f.first_symbol + f.symbol_count) in
-    found_head told f k b (file_of (fs ++ gs) k)
-    ∙ ap (option_or (found told (f ∷ []) k)) (found-append told fs gs k)
-    ∙ sym (or_assoc (found told (f ∷ []) k) (found told fs k) (found told gs k))
-    ∙ ap (λ (o : Option T). option_or o (found told gs k)) (sym (found_head told f k b (file_of fs k)))
-
--- some more files
-pub found_more : {T : Type 0} (told : ℕ → File → T) (fs gs hs : List File) (k : ℕ) (before now next : Option T) → hs ≡ fs ++ gs → now ≡ option_or before (found told fs k) → next ≡ option_or now (found told gs k) → next ≡ option_or before (found told hs k)
-found_more {T} told fs gs hs k before now next is e h =
-    h ∙ ap (λ (o : Option T). option_or o (found told gs k)) e ∙ or_assoc before (found told fs k) (found told gs k)
-    ∙ ap (option_or before) (sym (found-append told fs gs k)) ∙ ap (λ (xs : List File). option_or before (found told xs k)) (sym is)
-
--- one more file
-pub one_file_more : (fs : List File) (i : ℕ) (f : File) → i < length fs → f ≡ get_or fs i f → take (i + 1) fs ≡ take i fs ++ f ∷ []
-one_file_more fs i f h read = take_more fs i f h ∙ ap (λ (g : File). take i fs ++ g ∷ []) (sym read)
-
--- one more group
-pub one_group_more : (gs : List Group) (i : ℕ) (g : Group) (files : List File) → i < length gs → g ≡ get_or gs i g → files ≡ g.files → files_of (take (i + 1) gs) ≡ files_of (take i gs) ++ files
-one_group_more gs i g files h read is =
-    let P : Group → Type 0 = λ x. files_of (take (i + 1) gs) ≡ files_of (take i gs) ++ x.files in
-    rw is (subst P (sym read) (flat_map-more (λ (x : Group). x.files) gs i g h))
 
 place_is : (l : Layout) (p : Place) (v i : ℕ) (o : Option File) → file_of (files_of l.groups) i ≡ o → address_at l i v p ≡ option_flatten (option_map (stands_in l p v) o)
 place_is l (at.Section k) v i None e = rw e refl
@@ -133,7 +71,3 @@ value_more l i values next placed v before pushed is e =
     pushed ∙ ap (λ (xs : List (Option ℕ)). xs ++ v ∷ []) before
     ∙ ap (λ (x : Option ℕ). map (raw_value l) (range_with_len 0 i) ++ x ∷ []) (e ∙ ap (λ (o : Option (Option ℕ)). option_or (decided l i) (option_flatten o)) is ∙ sym (raw_value_is l i))
     ∙ sym (map-range_with_len_more (raw_value l) 0 i i (omega arith))
-
--- a symbol of a table in which none was placed
-pub first_placed : {T : Type 0} (n k : ℕ) (before : List (Option T)) (now : Option T) (is : Option T) → before ≡ replicate n None → k < n → now ≡ option_or (get_or before k None) is → now ≡ is
-first_placed {T} n k before now is none h e = e ∙ ap (λ (o : Option T). option_or o is) (ap (λ (xs : List (Option T)). get_or xs k None) none ∙ get_or-replicate n k None None h)

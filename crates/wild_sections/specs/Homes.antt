@@ -13,7 +13,7 @@ use Rattle.wild_types.specs.Kinds.{needs_dynsym}
 use Rattle.wild_types.specs.Lookups.{files_of}
 use Rattle.wild_symbols.specs.DynamicFields.{role_of}
 use Rattle.wild_sections.specs.declared.home.Home.{Home}
-use Rattle.wild_sections.specs.Placed.{found}
+use Rattle.wild_symbols.specs.SymbolNumbers.{found}
 
 -- of a symbol at a place in a file
 abbrev pub home_of : Layout → Place → Option File → Home

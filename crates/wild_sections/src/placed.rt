@@ -3,7 +3,8 @@
 ghost use Rattle.std.specs.Prelude.{◌≡◌, ℕ, ◌<◌, [], ◌∷◌, length, None, slice_index_or};
 ghost use Rattle.std.specs.Option.{option_or};
 ghost use Rattle.wild_types.specs.Lookups.{files_of};
-ghost use Rattle.wild_sections.specs.Placed.{stands_in, found};
+ghost use Rattle.wild_symbols.specs.SymbolNumbers.{found};
+ghost use Rattle.wild_sections.specs.Placed.{stands_in};
 
 use wild_types::{File, Layout, Place, Symbol};
 

@@ -66,7 +66,7 @@ use Rattle.wild_worlds.specs.Worlds.{IsRoomy, Others, AreNumbers, IsTold, HasWor
 use Rattle.wild_worlds.specs.DebugFile.{function, note_distance, note_address, note_bytes, note, code_call, code, note_part, code_part, note_section, code_section, debug_sections, debug_segments, debug_object, debug_files, debug_group, debug_file}
 use Rattle.wild_worlds.specs.Joined.{HasNote, HasHollow, IsJoinedForDebuggers, IsMetForDebuggers}
 use Rattle.wild_worlds.proofs.Answers.{raw_is}
-use Rattle.wild_worlds.proofs.OnLiterals.{errors_on_literals}
+use Rattle.wild_made.proofs.OnLiterals.{errors_on_literals}
 use Rattle.wild_worlds.proofs.Premises.{few_alone}
 use Rattle.wild_worlds.proofs.Worlds.{worlds_there}
 

@@ -6,6 +6,5 @@ mod Resolvers
 mod Indirect
 mod Answers
 mod Worlds
-mod OnLiterals
 mod DebugFile
 mod Joined

@@ -1,5 +1,5 @@
 use Rattle.std.proofs.Common.{arith, ◌∷◌, [], take}
-use Rattle.wild_sections.proofs.ValueLemmas.{found_more, one_file_more}
+use Rattle.wild_symbols.proofs.NoteLemmas.{found_more, one_file_more}
 use Rattle.wild_sections.proofs.placed.place_files.Goals as goal
 
 pub loop-file-preserved : goal.loop-file-preserved

@@ -1,6 +1,6 @@
 use Rattle.std.proofs.Common.{◌≡◌, ℕ, ◌<◌, length, get_or, take, None}
 use Rattle.std.specs.Option.{option_or}
-use Rattle.wild_sections.specs.Placed.{found}
+use Rattle.wild_symbols.specs.SymbolNumbers.{found}
 use Rattle.wild_sections.proofs.placed.place_files.Given as goal
 
 abbrev pub invariant-loop-file : goal.invariant-loop-file

@@ -1,6 +1,6 @@
 use Rattle.std.proofs.Common.{arith, take}
 use Rattle.wild_types.specs.Lookups.{files_of}
-use Rattle.wild_sections.proofs.ValueLemmas.{found_more, one_group_more}
+use Rattle.wild_symbols.proofs.NoteLemmas.{found_more, one_group_more}
 use Rattle.wild_sections.proofs.placed.place_groups.Goals as goal
 
 pub loop-group-preserved : goal.loop-group-preserved

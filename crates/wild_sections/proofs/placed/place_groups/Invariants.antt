@@ -1,7 +1,7 @@
 use Rattle.std.proofs.Common.{◌≡◌, ℕ, ◌<◌, length, get_or, take, None}
 use Rattle.wild_types.specs.Lookups.{files_of}
 use Rattle.std.specs.Option.{option_or}
-use Rattle.wild_sections.specs.Placed.{found}
+use Rattle.wild_symbols.specs.SymbolNumbers.{found}
 use Rattle.wild_sections.proofs.placed.place_groups.Given as goal
 
 abbrev pub invariant-loop-group : goal.invariant-loop-group
