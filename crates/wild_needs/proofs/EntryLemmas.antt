@@ -27,7 +27,7 @@ use Rattle.wild_types.specs.Lookups.{allocated, writable}
 use Rattle.wild_types.specs.Rows.{row_of}
 use Rattle.wild_types.specs.Flags.{has_flag, interposable, dynamic, ifunc}
 use Rattle.wild_types.specs.Kinds.{is_position_independent, is_shared_object}
-use Rattle.wild_slot.specs.Treatment.{flags_at, suits, suited, row_treatment, treatment}
+use Rattle.wild_slot.specs.Treatment.{flags_at, suited, row_treatment, treatment}
 use Rattle.wild_slot.proofs.TreatmentLemmas.{IsLeftBy, Says, row_said, suited_is}
 
 -- a place more, in front
@@ -168,3 +168,30 @@ row_plain l flags n o (Some row) h = never _ (λ e. (let both : true ≡ false =
 pub plain_stay : (l : Layout) (flags : ℕ) (r : InputRelocation) → may_have_entry l r.symbol ≡ false → is_left_to_entry (treatment l flags r) ≡ false
 unfolding treatment
 plain_stay l flags r h = row_plain l flags r.number r.symbol (suited l.machine r (row_of l.machine r.number)) h
+
+-- ---- fields that the program does not write to
+
+third_true : (a b c : Bool) → (a && b && c) ≡ true → c ≡ true
+third_true true true c h = h
+third_true true false c h = cc
+third_true false b c h = cc
+
+-- there an entry names a symbol only for a size: of one that another module defines, or in a library
+untouched : (l : Layout) (flags : ℕ) (symbol : Option ℕ) (row : RelocationKindInfo) (t : Treatment) → writable flags ≡ false → ((i : ℕ) → (has_flag (flags_at l i) dynamic || is_shared_object l.kind) ≡ false) → Says l flags symbol row t → is_left_to_entry t ≡ false
+untouched l flags symbol row (Symbolic i) w own h = sym (writes_there (allocated flags) (writable flags) (field_width row == 8) (interposable (flags_at l i)) h.1) ∙ w
+untouched l flags symbol row (Indirect i) w own h = sym (writes_there (allocated flags) (writable flags) (is_position_independent l.kind) (has_flag (flags_at l i) ifunc) h.1.chosen) ∙ w
+untouched l flags symbol row (Extent r i) w own h = sym (third_true (allocated flags) (interposable (flags_at l i)) (has_flag (flags_at l i) dynamic || is_shared_object l.kind) h.1.sized) ∙ own i
+untouched l flags symbol row other w own h = refl
+
+row_untouched : (l : Layout) (flags : ℕ) (n : ℕ) (o : Option ℕ) (row : Option RelocationKindInfo) → writable flags ≡ false → ((i : ℕ) → (has_flag (flags_at l i) dynamic || is_shared_object l.kind) ≡ false) → is_left_to_entry (row_treatment l flags n o row) ≡ false
+unfolding row_treatment
+row_untouched l flags n o None w own = refl
+row_untouched l flags n o (Some row) w own = untouched l flags o row (row_treatment l flags n o (Some row)) w own (row_said l flags n o row)
+
+fixed_stays : (l : Layout) (flags : ℕ) (r : InputRelocation) → writable flags ≡ false → ((i : ℕ) → (has_flag (flags_at l i) dynamic || is_shared_object l.kind) ≡ false) → is_left_to_entry (treatment l flags r) ≡ false
+unfolding treatment
+fixed_stays l flags r w own = row_untouched l flags r.number r.symbol (suited l.machine r (row_of l.machine r.number)) w own
+
+pub fixed_stay : (l : Layout) (flags : ℕ) (rs : List InputRelocation) → writable flags ≡ false → ((i : ℕ) → (has_flag (flags_at l i) dynamic || is_shared_object l.kind) ≡ false) → length (filter (λ r. is_left_to_entry (treatment l flags r)) rs) ≡ 0
+fixed_stay l flags [] w own = refl
+fixed_stay l flags (r ∷ rs) w own = let e = fixed_stays l flags r w own in rw e (fixed_stay l flags rs w own)

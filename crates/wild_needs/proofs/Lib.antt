@@ -1,3 +1,4 @@
+pub mod BareLemmas
 pub mod DynamicLemmas
 pub mod EntryLemmas
 pub mod RoomLemmas

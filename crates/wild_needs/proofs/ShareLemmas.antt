@@ -286,7 +286,7 @@ unfolding laid_files
 last_plain l role.RelrDyn g h = let e = none_last l (frames_at l g) g.files h in rw e refl
 last_plain l other g h = refl
 
-group_plain : (l : Layout) (r : Role) (g : Group) → list_all (is_plain l) (laid_files l g) ≡ true → group_share l r g ≡ 0
+pub group_plain : (l : Layout) (r : Role) (g : Group) → list_all (is_plain l) (laid_files l g) ≡ true → group_share l r g ≡ 0
 group_plain l r g h =
     let files = total_plain l r (laid_files l g) h in
     let block = block_plain l r g h in

@@ -1,5 +1,5 @@
 -- How many entries `.symtab` has of symbols, and how many bytes their names have.
-use Rattle.std.proofs.Common.{◌≡◌, ℕ, ◌+◌, ◌-◌, ◌^◌, ◌<◌, inl, inr, min, Bool, List, [], ◌∷◌, ◌++◌, length, map, refl, ap, ◌∙◌, arith, Ok, Err, Result}
+use Rattle.std.proofs.Common.{◌≡◌, ◌+◌, ◌-◌, ◌^◌, ◌<◌, inl, inr, min, Bool, List, [], ◌∷◌, ◌++◌, length, map, refl, ap, arith, Ok}
 use Rattle.std.specs.declared.convert.Infallible.{Infallible}
 use Rattle.std.proofs.lemmas.Bool.{cases_Bool}
 use Rattle.std.proofs.lemmas.List.{length-append}
@@ -10,9 +10,9 @@ use Rattle.wild_needs.specs.declared.table.TablePart.{TablePart}
 use Rattle.wild_needs.specs.declared.table.TablePart.TheVariants.{Side, Strings}
 use Rattle.wild_needs.specs.declared.table.Count.{Count}
 use Rattle.wild_needs.specs.DynamicStrings.{text_room}
-use Rattle.wild_needs.specs.TableSymbols.{TableSymbol, item, item_name, is_on, side, prefix, suffix, full_name}
+use Rattle.wild_needs.specs.TableSymbols.{TableSymbol, item_name, is_on, side, prefix, suffix, full_name}
 use Rattle.wild_needs.specs.TableCounts.{taken, Counts}
-use Rattle.wild_walk.specs.Runs.{Ran, none, more, stop}
+use Rattle.wild_walk.specs.Runs.{Ran, none, more}
 
 -- a name's bytes, with the zero behind it
 pub name_room : (named : Named) (s : Symbol) → text_room (full_name named s.name) ≡ text_room s.name + (length (prefix named) + length (suffix named))

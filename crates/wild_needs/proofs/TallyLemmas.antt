@@ -1,5 +1,5 @@
 -- What is counted of the relocations of sections as they stand.
-use Rattle.std.proofs.Common.{◌≡◌, ℕ, ◌+◌, ◌-◌, ◌^◌, ◌<◌, ◌≤◌, inl, inr, min, Bool, true, false, List, [], ◌∷◌, ◌++◌, length, drop, get_or, map, refl, sym, subst, ap, ◌∙◌, arith, ◌%◌, Option, Some, None, Ok, Err, Result}
+use Rattle.std.proofs.Common.{◌≡◌, ℕ, ◌+◌, ◌-◌, ◌^◌, ◌<◌, ◌≤◌, inl, inr, min, Bool, true, false, List, [], ◌∷◌, ◌++◌, length, drop, get_or, map, refl, sym, subst, ap, ◌∙◌, arith, Option, Some, None, Ok}
 use Rattle.std.specs.Prelude.{◌&&◌, not, if◌then◌else◌, option_to_list, is_some}
 use Rattle.std.specs.declared.convert.Infallible.{Infallible}
 use Rattle.std.specs.List.{flat_map, filter}
@@ -20,7 +20,7 @@ use Rattle.wild_types.specs.Lists.{total}
 use Rattle.wild_types.specs.Lookups.{is_frame, is_read, has_relocations, allocated}
 use Rattle.wild_types.proofs.ListLemmas.{total-append}
 use Rattle.wild_slot.specs.Treatment.{treatment}
-use Rattle.wild_walk.specs.Runs.{Ran, none, more, stop}
+use Rattle.wild_walk.specs.Runs.{Ran, none, more}
 use Rattle.wild_laid.specs.Turned.{as_turned}
 use Rattle.wild_laid.specs.Laid.{Input, sorted_input, as_loaded, unread, tabled, laid_by, framed, frame_flags, behind, laid_section, laid_sections}
 use Rattle.wild_laid.specs.FrameInputs.{kept_size}

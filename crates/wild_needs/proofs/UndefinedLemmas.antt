@@ -5,7 +5,6 @@ use Rattle.std.proofs.lemmas.Bool.{cases_Bool}
 use Rattle.std.proofs.lemmas.List.{length-append, length-map}
 use Rattle.wild_types.specs.declared.symbol.Symbol.{Symbol}
 use Rattle.wild_types.specs.declared.file.FileRole.{FileRole}
-use Rattle.wild_types.specs.declared.file.FileRole.TheVariants as file_role
 use Rattle.wild_types.specs.declared.file.File.{File}
 use Rattle.wild_types.specs.declared.file.Group.{Group}
 use Rattle.wild_types.specs.declared.layout.DynamicSymbol.{DynamicSymbol}
@@ -14,8 +13,6 @@ use Rattle.std.proofs.lemmas.Grind.{flat_map-append}
 use Rattle.wild_types.specs.FileSymbols.{range_of}
 use Rattle.wild_types.specs.Lists.{total}
 use Rattle.wild_types.specs.Lookups.{files_of}
-use Rattle.wild_types.specs.declared.symbol.Place.{Place}
-use Rattle.wild_types.specs.declared.symbol.Place.TheVariants as at
 use Rattle.wild_needs.specs.DynamicSymbols.{is_undefined_entry, places_where, undefined_in, undefined_entries, dynamic_symbols, listed}
 use Rattle.wild_needs.specs.UndefinedCounts.{count_in, undefined_of, undefined_of_group, undefined_count}
 

@@ -2,6 +2,8 @@
 --   share l role f      what one file has to write in a part of that role
 --   needs l part group  the group's share of the part, at most 2^64 - 1
 --   is_plain l f        the file writes nothing in any part but raw ones, as far as its role and its symbols' slots tell
+--   is_bare l           no symbol of the output has a slot or is another module's, and it has no dynamic section and no table of all symbols
+--   is_bare_file f       of such an output, a file that is plain by its role and its sections alone
 --   total_share l r      what all groups need of the part of a role
 use Rattle.std.specs.Prelude.{ℕ, ◌-◌, ◌^◌, ◌==◌, Bool, true, false, ◌&&◌, List, length, ◌+◌, ◌*◌, if◌then◌else◌, not, min, Option, Some, None, is_some, slice_get, slice_index_or}
 use Rattle.std.specs.List.{list_all, list_any}
@@ -29,7 +31,7 @@ use Rattle.wild_types.specs.declared.layout.Property.{Property}
 use Rattle.wild_types.specs.declared.layout.PropertyValue.{PropertyValue}
 use Rattle.wild_types.specs.declared.layout.PropertyValue.TheVariants as values
 use Rattle.wild_types.specs.declared.input.InputSection.{InputSection}
-use Rattle.wild_types.specs.Lookups.{is_frame}
+use Rattle.wild_types.specs.Lookups.{is_frame, writable}
 use Rattle.wild_laid.specs.Laid.{laid_files, all_fdes}
 use Rattle.wild_types.specs.declared.layout.SysvHash.{SysvHash}
 use Rattle.wild_types.specs.declared.layout.GnuHash.{GnuHash}
@@ -37,7 +39,9 @@ use Rattle.wild_types.specs.Kinds.{is_position_independent, needs_dynamic, needs
 use Rattle.wild_types.specs.FileRoles.{is_prelude, is_epilogue}
 use Rattle.wild_needs.specs.Entries.{entry_count, word_count, sorted_words, general_count}
 use Rattle.wild_needs.specs.SlotShares.{slot_share, header_share, block_share}
-use Rattle.wild_types.specs.FileSymbols.{own_symbols}
+use Rattle.wild_types.specs.FileSymbols.{own_symbols, copies_of}
+use Rattle.wild_types.specs.declared.symbol.Symbol.{Symbol}
+use Rattle.wild_types.specs.Flags.{has_flag, dynamic}
 use Rattle.wild_types.specs.SymbolSlots.{is_without}
 use Rattle.wild_needs.specs.Dynamic.{dynamic_count}
 use Rattle.wild_types.specs.Lookups.{has_table}
@@ -186,6 +190,22 @@ has_plain_role l f = not (needs_dynamic l.kind) && not (has_table l) && not (is_
 -- such a file without entries and frames, none of whose symbols has a slot: it writes nothing in any part but raw ones
 abbrev pub is_plain : Layout → File → Bool
 is_plain l f = has_plain_role l f && (list_all is_without (own_symbols l f) && (general_count l f == 0 && frames_room l f == 0))
+
+-- a symbol without a slot that no other module defines
+abbrev pub is_alone : Symbol → Bool
+is_alone s = is_without s && not (has_flag s.flags dynamic)
+
+-- an output without a dynamic section and without a table of all symbols, each of whose symbols is one
+abbrev pub is_bare : Layout → Bool
+is_bare l = not (needs_dynamic l.kind) && not (has_table l) && list_all is_alone l.symbols
+
+-- a section that the program does not write to, none of frames: in such an output no entry names a symbol for one of its fields
+abbrev pub is_fixed : InputSection → Bool
+is_fixed s = not (is_frame s.slot) && not (writable s.flags)
+
+-- a file of such sections, neither the first nor the last, that has nothing copied
+abbrev pub is_bare_file : File → Bool
+is_bare_file f = not (is_prelude f.role) && not (is_epilogue f.role) && length (copies_of f) == 0 && list_all is_fixed f.sections
 
 -- the group has the last file
 abbrev pub has_last : Group → Bool

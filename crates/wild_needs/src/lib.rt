@@ -1,6 +1,7 @@
 //! What each group needs of each part: slots, entries, names, symbols, versions, the dynamic section; and where the program begins.
 #![tactic(auto)]
 
+mod bare;
 mod dynamic;
 mod dynsyms;
 mod entries;
@@ -15,6 +16,7 @@ mod tally;
 mod versions;
 mod walk;
 
+pub use bare::is_bare;
 pub use dynamic::{DynamicTag, dynamic_count, dynamic_entries_fit, dynamic_entry};
 pub use dynsyms::{dynsym_of, is_undefined_entry, table_length, undefined_count};
 pub use entries::{
@@ -23,7 +25,9 @@ pub use entries::{
 };
 pub use entry::elf_entry_address;
 pub use section_symbols::section_symbol_count;
-pub use share::{has_last, is_plain_group, name_bytes, needs, total_share, whole_of};
+pub use share::{
+    has_last, is_plain_group, name_bytes, needs, needs_nothing_in, total_share, whole_of,
+};
 pub use slot_shares::{Block, group_block, pair_words, words_in};
 pub use strings::{
     behind_file, entry_name_count, entry_room, epilogue_string_bytes, lead_room, needed_count,

@@ -2,13 +2,14 @@
 ghost use Rattle.std.specs.Prelude.{◌≡◌, ℕ, ◌+◌, ◌-◌, ◌^◌, min, true, false, if◌then◌else◌};
 ghost use Rattle.std.specs.List.{list_all};
 ghost use Rattle.wild_types.specs.declared.part.Role.{Role};
-ghost use Rattle.wild_needs.specs.Needs.{total_share, name_bytes, whole_of, dynsym_count, version_count, last_of, sysv_room, gnu_room, last_dynamic, reads_sections, reads_places, own_of, is_static, first_share, share, has_last, last_share, group_share, needs_of, needs, is_plain};
+ghost use Rattle.wild_needs.specs.Needs.{total_share, name_bytes, whole_of, dynsym_count, version_count, last_of, sysv_room, gnu_room, last_dynamic, reads_sections, reads_places, own_of, is_static, first_share, share, has_last, last_share, group_share, needs_of, needs, is_plain, is_bare};
 ghost use Rattle.wild_laid.specs.Laid.{behind, file_frames, laid_file, laid_files};
 ghost use Rattle.wild_types.specs.Lists.{total};
 ghost use Rattle.wild_needs.specs.Dynamic.{dynamic_count};
 ghost use Rattle.wild_needs.specs.DynamicStrings.{needed_count};
 ghost use Rattle.wild_types.specs.FileRoles.{is_prelude};
 
+use crate::bare::{is_bare, is_bare_group};
 use crate::dynamic::dynamic_count;
 use crate::dynsyms::table_length;
 use crate::entries::{entry_count, general_count, sorted_word_count, word_count};
@@ -250,6 +251,14 @@ impl Test<File> for IsPlain<'_> {
     }
 }
 
+/// Whether a group is known to need nothing, of an output that is bare where `bare` says so: then its files' relocations are not read.
+pub fn needs_nothing_in(layout: &Layout, bare: bool, group: &Group) -> bool
+    requires { bare ≡ true → is_bare layout.now ≡ true }
+    ensures { result ≡ true → (r : Role) → group_share layout.now r group.now ≡ 0 }
+{
+    bare && is_bare_group(group) || is_plain_group(layout, group)
+}
+
 /// Whether all files of a group are plain, as their sections stand. Then the group needs nothing.
 pub fn is_plain_group(layout: &Layout, group: &Group) -> bool
     ensures plain { result ≡ list_all (is_plain layout.now) (laid_files layout.now group.now) }
@@ -384,6 +393,18 @@ fn needs_nothing(layout: &Layout, role: Role) -> bool
         && whole_of(layout, role) == 0
 }
 
+/// What a group has to write in a part of that role, at most 2^64 - 1, of an output that is bare where `bare` says so.
+fn share_of_group(layout: &Layout, bare: bool, role: Role, group: &Group) -> u64
+    requires { bare ≡ true → is_bare layout.now ≡ true }
+    ensures { result ≡ min (2 ^ 64 - 1) (group_share layout.now role group.now) }
+{
+    if bare && is_bare_group(group) {
+        0
+    } else {
+        group_share(layout, role, group)
+    }
+}
+
 /// How many bytes all groups have to write in a part of that role, at most 2^64 - 1.
 pub fn total_share(layout: &Layout, role: Role) -> u64
     ensures { result ≡ min (2 ^ 64 - 1) (total_share layout.now role) }
@@ -391,9 +412,10 @@ pub fn total_share(layout: &Layout, role: Role) -> u64
     if needs_nothing(layout, role) {
         return 0;
     }
+    let bare = is_bare(layout);
     let mut sum: u64 = 0;
     for group in layout.groups.as_slice() {
-        sum = sum.saturating_add(group_share(layout, role, group));
+        sum = sum.saturating_add(share_of_group(layout, bare, role, group));
     }
     sum
 }
