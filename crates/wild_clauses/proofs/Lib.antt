@@ -3,6 +3,7 @@ pub mod BlockLemmas
 pub mod CopyLemmas
 pub mod CoverLemmas
 pub mod DynsymLemmas
+pub mod EarlierLemmas
 pub mod FieldLemmas
 pub mod MisplacedLemmas
 pub mod OrderedLemmas

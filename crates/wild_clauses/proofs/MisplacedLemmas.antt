@@ -1,5 +1,5 @@
 -- The first group with an input section out of its place, part by part.
-use Rattle.std.proofs.Common.{true, false, ◌≡◌, ℕ, ◌+◌, ◌≤◌, inl, inr, List, [], ◌∷◌, ◌++◌, ◌-◌, refl, sym, ap, ◌∙◌, arith, min, drop, length, get_or, ◌<◌}
+use Rattle.std.proofs.Common.{true, false, ◌≡◌, ℕ, ◌+◌, ◌≤◌, inl, inr, List, [], ◌∷◌, ◌++◌, ◌-◌, refl, sym, ap, ◌∙◌, arith, drop, length, get_or, ◌<◌}
 use Rattle.std.specs.Prelude.{Option, Some, None}
 use Rattle.std.proofs.lemmas.Bool.{cases_Bool}
 use Rattle.std.proofs.lemmas.List.{drop_all, drop_more, length-map, length-drop, length-take-le, map-append}
@@ -11,19 +11,11 @@ use Rattle.wild_types.specs.declared.layout.Layout.{Layout}
 use Rattle.wild_types.specs.FilePlaces.{given}
 use Rattle.wild_clauses.specs.Contents.{addresses, ends_of, part_placed, parts_placed, section_misplaced}
 use Rattle.wild_clauses.specs.Misplaced.{earlier, part_misplaced, misplaced}
+use Rattle.wild_clauses.proofs.EarlierLemmas.{AtLeast, at_least_less, earlier-first, earlier-second, earlier_none, earlier-assoc}
 
 pub misplaced-all : (l : Layout) (starts : List ℕ) (i : ℕ) (gs : List Group) → section_misplaced l starts i gs ≡ misplaced l 0 starts i gs
 misplaced-all l starts i [] = refl
 misplaced-all l starts i (g ∷ gs) = rw (misplaced-all l (ends_of g 0 starts) (i + 1) gs)
-
--- the place is not before i
-abbrev AtLeast : ℕ → Option ℕ → Type 0
-AtLeast i None = Unit {0}
-AtLeast i (Some j) = i ≤ j
-
-at_least_less : (i : ℕ) (o : Option ℕ) → AtLeast (i + 1) o → AtLeast i o
-at_least_less i None h = tt
-at_least_less i (Some j) h = omega arith
 
 part-at_least : (l : Layout) (part start i : ℕ) (gs : List Group) → AtLeast i (part_misplaced l part start i gs)
 part-at_least l part start i [] = tt
@@ -40,14 +32,6 @@ misplaced-at_least l part starts i (g ∷ gs) =
       | inl t ↦ rw t (at_least_less i _ (misplaced-at_least l part (ends_of g part starts) (i + 1) gs))
       | inr f ↦ rw f (omega arith)
     ]
-
-earlier-first : (i : ℕ) (o : Option ℕ) → AtLeast i o → earlier (Some i) o ≡ Some i
-earlier-first i None h = refl
-earlier-first i (Some j) h = let e : min i j ≡ i = omega arith in ap Some e
-
-earlier-second : (i : ℕ) (o : Option ℕ) → AtLeast i o → earlier o (Some i) ≡ Some i
-earlier-second i None h = refl
-earlier-second i (Some j) h = let e : min j i ≡ i = omega arith in ap Some e
 
 pub misplaced-none : (l : Layout) (part i : ℕ) (gs : List Group) → misplaced l part [] i gs ≡ None
 misplaced-none l part i [] = refl
@@ -66,16 +50,6 @@ misplaced-one l part start starts i (g ∷ gs) =
       ]
       | inr f ↦ rw f (sym (earlier-first i _ (misplaced-at_least l (part + 1) starts i (g ∷ gs))))
     ]
-
-earlier_none : (a : Option ℕ) → earlier a None ≡ a
-earlier_none None = refl
-earlier_none (Some i) = refl
-
-pub earlier-assoc : (a b c : Option ℕ) → earlier (earlier a b) c ≡ earlier a (earlier b c)
-earlier-assoc None b c = refl
-earlier-assoc (Some i) None c = refl
-earlier-assoc (Some i) (Some j) None = refl
-earlier-assoc (Some i) (Some j) (Some k) = let e : min (min i j) k ≡ min i (min j k) = omega arith in ap Some e
 
 -- the first group is out of its place
 pub misplaced-here : (l : Layout) (part i : ℕ) (starts : List ℕ) (gs : List Group) (g : Group) → i < length gs → g ≡ get_or gs i g → parts_placed l g part starts ≡ false → misplaced l part starts i (drop i gs) ≡ Some i

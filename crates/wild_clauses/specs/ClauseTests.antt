@@ -5,7 +5,6 @@
 --   check_sizes l    clause 1, and so on
 use Rattle.std.specs.Prelude.{ℕ, true, [], drop, length, if◌then◌else◌, Option, Some, None, Result, Ok, Err}
 use Rattle.std.specs.Int.{is_power_of_two}
-use Rattle.wild_records.specs.FileHeader.{file_header_size}
 use Rattle.wild_types.specs.declared.fault.Clause.{Clause}
 use Rattle.wild_types.specs.declared.part.Role.TheVariants as role
 use Rattle.wild_clauses.specs.declared.loaded.Side.TheVariants as side

@@ -1,29 +1,55 @@
--- Copies, one after another: a bound of their definitions tells most of them from those ahead.
---   copied_of l f         the definitions of the symbols that a file has copied
---   ahead l gs fs cs      those of groups, of files of the next group, and of copies of its next file
---   are_below bound xs    each number is below the bound
---   GoesOn earlier more o   no number of more is there twice, nor among the earlier ones, and o is a bound of all; or o is none
-use Rattle.std.specs.Prelude.{◌≡◌, ℕ, Bool, true, false, nat_lt, List, ◌++◌, map, flat_map, Option, Some, None}
-use Rattle.std.specs.List.{list_all}
+-- Copies, one after another: their definitions are marked window by window.
+--   copied_of l f                the definitions of the symbols that a file has copied
+--   windows_of n xs              how many windows of 65536 numbers there are up to the last of these, and n at least
+--   marked start marks d         the marks of the numbers from start on, with that of d; none where it is marked
+--   first_marked l start ..      the first group with a definition that was marked
+--   lies_between a b d           whether a number lies from a on and below b
+--   new_between a b earlier xs   no two of those that lie so are one, nor is one among the earlier ones
+--   again_between l a b ..       the first group that copies a symbol again whose number lies so
+use Rattle.std.specs.Prelude.{ℕ, ◌+◌, ◌-◌, ◌/◌, ◌==◌, Bool, true, false, not, ◌&&◌, nat_le, nat_lt, max, if◌then◌else◌, List, [], ◌∷◌, ◌++◌, length, get_or, slice_set, map, Option, Some, None}
+use Rattle.std.specs.List.{fold, list_any}
 use Rattle.wild_types.specs.declared.file.File.{File}
 use Rattle.wild_types.specs.declared.file.Group.{Group}
 use Rattle.wild_types.specs.declared.layout.Layout.{Layout}
-use Rattle.wild_types.specs.FileSymbols.{copied_in, are_new}
+use Rattle.wild_types.specs.FileSymbols.{copied_in}
+use Rattle.wild_types.specs.Lists.{through}
 use Rattle.wild_types.specs.Lookups.{canonical}
+use Rattle.wild_clauses.specs.Indexes.{or_place}
 
 -- the definitions of the symbols that a file has copied
 abbrev pub copied_of : Layout → File → List ℕ
 copied_of l f = map (canonical l) f.copies
 
--- those of groups, of files of the next group, and of copies of its next file
-abbrev pub ahead : Layout → List Group → List File → List ℕ → List ℕ
-ahead l gs fs cs = (flat_map (copied_in l) gs ++ flat_map (copied_of l) fs) ++ map (canonical l) cs
+-- how many windows there are up to the last of these, and n at least
+abbrev pub windows_of : ℕ → List ℕ → ℕ
+windows_of n xs = fold (λ m d. max m (d / 65536 + 1)) n xs
 
--- each number is below the bound
-unfoldable pub are_below : ℕ → List ℕ → Bool
-are_below bound xs = list_all (λ d. nat_lt d bound) xs
+-- the marks with that of d; none where it is marked
+abbrev pub marked : ℕ → List Bool → ℕ → Option (List Bool)
+marked start marks d =
+    if nat_lt d start
+    then Some marks
+    else if nat_le (length marks) (d - start)
+    then Some marks
+    else if get_or marks (d - start) false
+    then None
+    else Some (slice_set marks (d - start) true)
 
--- a walk behind earlier numbers answers a bound of all, or none where one is there twice
-abbrev pub GoesOn : List ℕ → List ℕ → Option ℕ → Type 0
-GoesOn earlier more None = are_new earlier more ≡ false
-GoesOn earlier more (Some bound) = (are_new earlier more ≡ true) × (are_below bound (earlier ++ more) ≡ true)
+-- the first group with a definition that was marked
+abbrev pub first_marked : Layout → ℕ → List Bool → ℕ → List Group → Option ℕ
+first_marked l start marks i [] = None
+first_marked l start marks i (g ∷ gs) = or_place i (through (marked start) marks (copied_in l g)) (λ next. first_marked l start next (i + 1) gs)
+
+-- whether a number lies from a on and below b
+abbrev pub lies_between : ℕ → ℕ → ℕ → Bool
+lies_between a b d = nat_le a d && nat_lt d b
+
+-- no two of those that lie from a on and below b are one, nor is one among the earlier ones
+abbrev pub new_between : ℕ → ℕ → List ℕ → List ℕ → Bool
+new_between a b earlier [] = true
+new_between a b earlier (c ∷ cs) = not (lies_between a b c && list_any (λ d. d == c) earlier) && new_between a b (earlier ++ c ∷ []) cs
+
+-- the first group that copies a symbol again whose number lies from a on and below b
+abbrev pub again_between : Layout → ℕ → ℕ → List ℕ → ℕ → List Group → Option ℕ
+again_between l a b earlier i [] = None
+again_between l a b earlier i (g ∷ gs) = if new_between a b earlier (copied_in l g) then again_between l a b (earlier ++ copied_in l g) (i + 1) gs else Some i

@@ -25,7 +25,7 @@ use Rattle.wild_types.specs.Kinds.{is_partial_link}
 use Rattle.wild_types.specs.Lookups.{kind_at, is_hollow_at}
 use Rattle.wild_types.specs.Parts.{has_role}
 use Rattle.wild_types.specs.FilePlaces.{given}
-use Rattle.wild_types.specs.Lists.{first_failing, unless}
+use Rattle.wild_types.specs.Lists.{first_failing}
 use Rattle.wild_types.specs.Rows.{field_bytes}
 
 -- ---- clause 20: reversed sections

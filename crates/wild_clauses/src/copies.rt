@@ -1,134 +1,125 @@
-//! The first group that copies a symbol again. Copies whose definitions ascend are gone through once; for each other copy, all
-//! that stand ahead of it are looked at.
-ghost use Rattle.std.specs.Prelude.{◌≡◌, ◌==◌, ◌++◌, [], ◌∷◌, true, map};
-ghost use Rattle.std.specs.List.{list_any, flat_map};
-ghost use Rattle.wild_clauses.specs.Copies.{copied_of, ahead, are_below, GoesOn};
+//! The first group that copies a symbol again. Definitions are marked, one window of symbols after another, so that the marks stand on the
+//! stack: the copies are gone through once to count the windows, and once for each.
+ghost use Rattle.std.specs.Prelude.{◌≡◌, ◌≤◌, ◌+◌, ◌^◌, [], map, Some, None, if◌then◌else◌};
+ghost use Rattle.std.specs.List.{flat_map};
+ghost use Rattle.wild_clauses.specs.Copies.{copied_of, windows_of, marked, first_marked, again_between};
 ghost use Rattle.wild_types.specs.FileSymbols.{copied_in, copied_again};
+ghost use Rattle.wild_types.specs.Lists.{through};
 ghost use Rattle.wild_types.specs.Lookups.{canonical};
 
+use crate::places::earlier;
 use wild_types::{File, Group, Layout, SymbolIndex};
 
-/// Whether one of the copies has that symbol for its definition.
-fn copies_have(layout: &Layout, copies: &[SymbolIndex], symbol: SymbolIndex) -> bool
-    ensures { result ≡ list_any (λ d. d == symbol) (map (canonical layout.now) copies.now) }
+/// How many symbols are marked side by side.
+const WINDOW: usize = 1 << 16;
+
+/// How many windows there are up to the last definition of these copies, and so many at least.
+fn windows_of_copies(layout: &Layout, windows: usize, copies: &[SymbolIndex]) -> usize
+    requires few { windows ≤ 2 ^ 48 }
+    ensures is { result ≡ windows_of windows (map (canonical layout.now) copies.now) }
+    ensures few { result ≤ 2 ^ 48 }
 {
+    let mut windows = windows;
     for copy in copies {
-        if layout.canonical(*copy) == symbol {
-            return true;
-        }
+        windows = windows.max(layout.canonical(*copy).0 / WINDOW + 1);
     }
-    false
+    windows
 }
 
 /// The same for the copies of files.
-#[tactic(auto, using(crate::proofs::CopyLemmas::any_append))]
-fn files_have(layout: &Layout, files: &[File], symbol: SymbolIndex) -> bool
-    ensures { result ≡ list_any (λ d. d == symbol) (flat_map (copied_of layout.now) files.now) }
+fn windows_of_files(layout: &Layout, windows: usize, files: &[File]) -> usize
+    requires few { windows ≤ 2 ^ 48 }
+    ensures is { result ≡ windows_of windows (flat_map (copied_of layout.now) files.now) }
+    ensures few { result ≤ 2 ^ 48 }
+{
+    let mut windows = windows;
+    for file in files {
+        windows = windows_of_copies(layout, windows, file.copies.as_slice());
+    }
+    windows
+}
+
+/// How many windows there are up to the last definition of the copies of groups; 0 without copies.
+fn windows_of_groups(layout: &Layout, groups: &[Group]) -> usize
+    ensures is { result ≡ windows_of 0 (flat_map (copied_in layout.now) groups.now) }
+    ensures few { result ≤ 2 ^ 48 }
+{
+    let mut windows = 0;
+    for group in groups {
+        windows = windows_of_files(layout, windows, group.files.as_slice());
+    }
+    windows
+}
+
+/// Marks a definition that lies in the window from number `start` on; false where it was marked.
+fn mark(start: usize, symbol: SymbolIndex, marks: &mut [bool]) -> bool
+    ensures { marked start marks.old symbol ≡ (if result then Some marks.new else None) }
+{
+    if symbol.0 < start || symbol.0 - start >= marks.len() {
+        return true;
+    }
+    let free = !marks[symbol.0 - start];
+    marks[symbol.0 - start] = true;
+    free
+}
+
+/// The same for the definitions of copies, one after another.
+fn mark_copies(layout: &Layout, start: usize, copies: &[SymbolIndex], marks: &mut [bool]) -> bool
+    ensures { through (marked start) marks.old (map (canonical layout.now) copies.now) ≡ (if result then Some marks.new else None) }
+{
+    for copy in copies {
+        if !mark(start, layout.canonical(*copy), marks) {
+            return false;
+        }
+    }
+    true
+}
+
+/// The same for the copies of files.
+fn mark_files(layout: &Layout, start: usize, files: &[File], marks: &mut [bool]) -> bool
+    ensures { through (marked start) marks.old (flat_map (copied_of layout.now) files.now) ≡ (if result then Some marks.new else None) }
 {
     for file in files {
-        if copies_have(layout, file.copies.as_slice(), symbol) {
-            return true;
+        if !mark_copies(layout, start, file.copies.as_slice(), marks) {
+            return false;
         }
     }
-    false
+    true
 }
 
-/// The same for the copies of groups.
-#[tactic(auto, using(crate::proofs::CopyLemmas::any_append))]
-fn groups_have(layout: &Layout, groups: &[Group], symbol: SymbolIndex) -> bool
-    ensures { result ≡ list_any (λ d. d == symbol) (flat_map (copied_in layout.now) groups.now) }
-{
-    for group in groups {
-        if files_have(layout, group.files.as_slice(), symbol) {
-            return true;
-        }
-    }
-    false
-}
-
-/// Whether the symbol is the definition of a copy ahead: of groups, of files of the next one, or of the next file of these.
-#[tactic(auto, using(crate::proofs::CopyLemmas::any_append))]
-fn is_copied(
+/// The place of the first group with a definition that was marked.
+fn first_marked(
     layout: &Layout,
     groups: &[Group],
-    files: &[File],
-    copies: &[SymbolIndex],
-    symbol: SymbolIndex,
-) -> bool
-    ensures { result ≡ list_any (λ d. d == symbol) (ahead layout.now groups.now files.now copies.now) }
+    start: usize,
+    marks: &mut [bool],
+) -> Option<usize>
+    ensures { result ≡ first_marked layout.now start marks.old 0 groups.now }
 {
-    copies_have(layout, copies, symbol)
-        || files_have(layout, files, symbol)
-        || groups_have(layout, groups, symbol)
-}
-
-/// The bound of all definitions ahead and of the next one; none where that is among them.
-#[tactic(auto, using(crate::proofs::CopyLemmas::ascends, crate::proofs::CopyLemmas::stays, crate::proofs::CopyLemmas::is_again))]
-fn bound_behind(
-    layout: &Layout,
-    groups: &[Group],
-    files: &[File],
-    copies: &[SymbolIndex],
-    bound: u128,
-    symbol: SymbolIndex,
-) -> Option<u128>
-    requires bound { are_below bound (ahead layout.now groups.now files.now copies.now) ≡ true }
-    ensures { GoesOn (ahead layout.now groups.now files.now copies.now) (symbol ∷ []) result }
-{
-    let number = symbol.0 as u128;
-    if bound <= number {
-        Some(number + 1)
-    } else if is_copied(layout, groups, files, copies, symbol) {
-        None
-    } else {
-        Some(bound)
-    }
-}
-
-/// The bound of all definitions ahead and of those of the file's copies; none where one is there twice.
-fn walk_file(
-    layout: &Layout,
-    groups: &[Group],
-    files: &[File],
-    bound: u128,
-    file: &File,
-) -> Option<u128>
-    requires bound { are_below bound (flat_map (copied_in layout.now) groups.now ++ flat_map (copied_of layout.now) files.now) ≡ true }
-    ensures { GoesOn (flat_map (copied_in layout.now) groups.now ++ flat_map (copied_of layout.now) files.now) (copied_of layout.now file.now) result }
-{
-    let copies = file.copies.as_slice();
-    let mut bound = bound;
-    for (i, copy) in copies.iter().enumerate() {
-        let symbol = layout.canonical(*copy);
-        bound = bound_behind(layout, groups, files, &copies[..i], bound, symbol)?;
-    }
-    Some(bound)
-}
-
-/// The same for the group's files.
-fn walk_group(layout: &Layout, groups: &[Group], bound: u128, group: &Group) -> Option<u128>
-    requires bound { are_below bound (flat_map (copied_in layout.now) groups.now) ≡ true }
-    ensures { GoesOn (flat_map (copied_in layout.now) groups.now) (copied_in layout.now group.now) result }
-{
-    let files = group.files.as_slice();
-    let mut bound = bound;
-    for (i, file) in files.iter().enumerate() {
-        bound = walk_file(layout, groups, &files[..i], bound, file)?;
-    }
-    Some(bound)
-}
-
-/// The place of the first group with a copy whose definition is that of a copy ahead.
-#[tactic(auto, using(crate::proofs::CopyLemmas::none_below, crate::proofs::CopyLemmas::group_new, crate::proofs::CopyLemmas::group_again))]
-pub(crate) fn copied_again(layout: &Layout, groups: &[Group]) -> Option<usize>
-    ensures { result ≡ copied_again layout.now [] 0 groups.now }
-{
-    let mut bound = 0;
     for (i, group) in groups.iter().enumerate() {
-        match walk_group(layout, &groups[..i], bound, group) {
-            Some(next) => bound = next,
-            None => return Some(i),
+        if !mark_files(layout, start, group.files.as_slice(), marks) {
+            return Some(i);
         }
     }
     None
+}
+
+/// The place of the first group that copies a symbol of the window again.
+fn again_in_window(layout: &Layout, groups: &[Group], start: usize) -> Option<usize>
+    ensures { result ≡ again_between layout.now start (start + 2 ^ 16) [] 0 groups.now }
+{
+    let mut marks = [false; WINDOW];
+    first_marked(layout, groups, start, &mut marks)
+}
+
+/// The place of the first group with a copy whose definition is that of a copy ahead.
+#[tactic(auto, using(crate::proofs::CopyLemmas::no_window, crate::proofs::CopyLemmas::next_window, crate::proofs::CopyLemmas::all_windows))]
+pub(crate) fn copied_again(layout: &Layout, groups: &[Group]) -> Option<usize>
+    ensures { result ≡ copied_again layout.now [] 0 groups.now }
+{
+    let mut first = None;
+    for window in 0..windows_of_groups(layout, groups) {
+        first = earlier(first, again_in_window(layout, groups, window * WINDOW));
+    }
+    first
 }

@@ -11,7 +11,7 @@ use wild_laid::sorted_input;
 use wild_types::{File, Group, InputSection, Layout, Part, SortedSection, wide_sum};
 
 /// The smaller of two places, where both are there.
-fn earlier(left: Option<usize>, right: Option<usize>) -> Option<usize>
+pub(crate) fn earlier(left: Option<usize>, right: Option<usize>) -> Option<usize>
     ensures { result ≡ earlier left right }
 {
     match (left, right) {

@@ -21,7 +21,6 @@ use Rattle.wild_needs.specs.HashShapes.{bucket_of}
 use Rattle.wild_needs.specs.EntryPoint.{text_start, entry_point}
 use Rattle.wild_clauses.specs.WellFormed.{first_clause}
 use Rattle.wild_clauses.specs.SlotPlaces.{walk}
-use Rattle.wild_clauses.specs.Copies.{are_below}
 use Rattle.wild_clauses.specs.ClauseTests.{check_sizes, check_counts, check_order, check_roles, check_sections, check_entries, check_segments, check_shares, check_inputs, check_indexes, check_fields, check_slots, check_thunks, check_dynsyms, check_slot_flags, check_tls, check_starts, check_hashes, check_versions, check_names, check_reversed, check_partial, check_fronts}
 use Rattle.wild_laid.specs.Turned.{as_turned}
 use Rattle.wild_laid.specs.FrameInputs.{kept_size}
@@ -44,7 +43,7 @@ use Rattle.wild_relr.specs.Packed.{packed_on, packed, bitmaps, block, counted}
 
 -- what an answer unfolds to compute the clauses of a layout that is written out
 unfoldable pub clauses_on_literals : ⊤
-unfolding least_extent scanned word number place x86_64_row static_row thread_row raw_value has_flag bit image_size row_of row_treatment treatment slots_of slot slot_share group_block needs section_named first_entries entries_bytes need_number file_items table_strings listed_places packed_places left_relocations general_count dynamic_number dynamic_flags dynamic_flags_1 dynamic_entry all_tags tag_entries dynamic_entries named_strings string_entries file_strings needed_entries string_start bucket_of text_start entry_point first_clause walk are_below check_sizes check_counts check_order check_roles check_sections check_entries check_segments check_shares check_inputs check_indexes check_fields check_slots check_thunks check_dynsyms check_slot_flags check_tls check_starts check_hashes check_versions check_names check_reversed check_partial check_fronts as_turned kept_size laid_section laid_files sorted_input packed_on packed bitmaps block counted
+unfolding least_extent scanned word number place x86_64_row static_row thread_row raw_value has_flag bit image_size row_of row_treatment treatment slots_of slot slot_share group_block needs section_named first_entries entries_bytes need_number file_items table_strings listed_places packed_places left_relocations general_count dynamic_number dynamic_flags dynamic_flags_1 dynamic_entry all_tags tag_entries dynamic_entries named_strings string_entries file_strings needed_entries string_start bucket_of text_start entry_point first_clause walk check_sizes check_counts check_order check_roles check_sections check_entries check_segments check_shares check_inputs check_indexes check_fields check_slots check_thunks check_dynsyms check_slot_flags check_tls check_starts check_hashes check_versions check_names check_reversed check_partial check_fronts as_turned kept_size laid_section laid_files sorted_input packed_on packed bitmaps block counted
 clauses_on_literals = tt
 
 -- and to compute its faults
