@@ -11,3 +11,4 @@ pub mod AscendingLemmas
 pub mod HomeLemmas
 pub mod StringLemmas
 pub mod OwnerLemmas
+pub mod TargetLemmas

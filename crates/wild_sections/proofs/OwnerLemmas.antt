@@ -139,6 +139,14 @@ or_true false b h = rw h refl
 asked : (l : Layout) → are_unmerged l ≡ false → asks_owners l ≡ true
 asked l h = or_true (is_partial_link l.kind) (are_unmerged l) h
 
+-- where no file is looked for, no symbol stands for merged strings
+pub unasked : (l : Layout) (o : Option ℕ) → asks_owners l ≡ false → names_merged l o ≡ false
+unasked l o h =
+    elim (cases_Bool (are_unmerged l)) [
+      | inl t ↦ none_named l o (all_unmerged l.groups t)
+      | inr n ↦ (let e = asked l n in cc)
+    ]
+
 or_left : (a b : Bool) → a ≡ true → (a || b) ≡ true
 or_left a b h = rw h refl
 
@@ -203,8 +211,8 @@ pub merged_ascend : (l : Layout) (i : ℕ) (ss : List MergedString) → merged_s
 unfolding merged_strings
 merged_ascend l i ss h all = of_symbol (files_of l.groups) i (slice_get l.symbols i) ss (all_files (λ (f : File). list_all section_ascends f.sections) l.groups all) (if_some (is_plain_own (flags_at l i)) (option_and_then (strings_told (files_of l.groups) i) (slice_get l.symbols i)) ss h)
 
-pub its_strings_ascend : (l : Layout) (i : ℕ) (s : InputSection) (o : Option InputSection) (ascend : Bool) → option_map (λ (x : InputSection). x.strings) o ≡ merged_strings l i → o ≡ Some s → ascend ≡ all_ascend l → ascend ≡ true → offsets_ascend 0 s.strings ≡ true
-its_strings_ascend l i s o ascend is some told h = merged_ascend l i s.strings (sym is ∙ ap (option_map (λ (x : InputSection). x.strings)) some) (sym told ∙ h)
+pub its_strings_ascend : (l : Layout) (i : ℕ) (s : InputSection) (o : Option InputSection) (ascend : Bool) → option_map (λ (x : InputSection). x.strings) o ≡ merged_strings l i → o ≡ Some s → (ascend ≡ true → all_ascend l ≡ true) → ascend ≡ true → offsets_ascend 0 s.strings ≡ true
+its_strings_ascend l i s o ascend is some told h = merged_ascend l i s.strings (sym is ∙ ap (option_map (λ (x : InputSection). x.strings)) some) (told h)
 
 -- ---- the strings of a symbol
 

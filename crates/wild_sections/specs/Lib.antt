@@ -6,4 +6,5 @@ pub mod Origins
 pub mod Owners
 pub mod Placed
 pub mod Strings
+pub mod Targets
 pub mod Values

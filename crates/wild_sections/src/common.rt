@@ -1,14 +1,19 @@
 //! The most common relocations, which are decided without a look at anything else.
-ghost use Rattle.std.specs.Prelude.{◌≡◌, ℕ, ◌<◌, length, Ok, Some};
+ghost use Rattle.std.specs.Prelude.{◌≡◌, ℕ, ◌<◌, length, true, Ok, Some};
 ghost use Rattle.wild_records.specs.Abi.Relocation.{r_x86_64_pc32};
 ghost use Rattle.wild_reloc.specs.declared.info.RelocationSize.TheVariants.{ByteSize};
 ghost use Rattle.wild_reloc.specs.declared.info.Width.TheVariants.{Four};
+ghost use Rattle.wild_reloc.specs.declared.range.Sign.TheVariants.{Signed};
+ghost use Rattle.wild_reloc.specs.Range.{of_bits, contains};
+ghost use Rattle.wild_layout.specs.SymbolValues.{displacement};
 ghost use Rattle.wild_layout.specs.declared.decision.Decision.TheVariants.{Field};
 ghost use Rattle.wild_layout.specs.Decide.{decided, decide};
+ghost use Rattle.wild_types.specs.Lookups.{place_of};
 ghost use Rattle.wild_types.specs.Item.{item_now};
 
 use crate::choice::may_be_partner;
 use crate::relocation::{distance_for, is_fixed_distance};
+use crate::resolve::displacement;
 use crate::values::Resolved;
 use wild_layout::Decision;
 use wild_records::abi::relocation::R_X86_64_PC32;
@@ -35,9 +40,37 @@ fn in_four(decided: Result<Decision, Fault>) -> Option<u64>
     }
 }
 
-/// The same, of a relocation that has the most common type.
+/// The distance from a relocation to an address, where it is in the range of a field of four bytes.
 #[inline(always)]
-fn value_of_common<A: Arch>(
+fn near(target: u64, start: u64, relocation: &InputRelocation) -> Option<u64>
+    ensures is { (value : ℕ) → result ≡ Some value → value ≡ displacement target relocation.now.addend (place_of start relocation.now) }
+    ensures fits { (value : ℕ) → result ≡ Some value → contains (of_bits 32 Signed) value ≡ true }
+{
+    let value = displacement(target, relocation.addend, relocation.place_from(start));
+    if value < 1 << 31 || u64::MAX - value < 1 << 31 {
+        Some(value)
+    } else {
+        None
+    }
+}
+
+/// The value of a relocation that has the most common type, where its symbol alone tells it.
+#[inline(always)]
+fn value_to_target<A: Arch>(
+    resolved: &Resolved<A>,
+    item: &ItemRef,
+    relocation: &InputRelocation,
+) -> Option<u64>
+    requires { relocation.now.number ≡ r_x86_64_pc32 }
+    ensures { (value : ℕ) → result ≡ Some value → decided resolved.now.layout.now (item_now item.now) relocation.now ≡ Ok (Field (ByteSize Four) value) }
+{
+    let target = resolved.target(relocation.symbol?)?;
+    near(target, item.address, relocation)
+}
+
+/// The same by the row of the type, of any symbol.
+#[inline(never)]
+fn value_by_row<A: Arch>(
     resolved: &Resolved<A>,
     item: &ItemRef,
     relocation: &InputRelocation,
@@ -51,6 +84,22 @@ fn value_of_common<A: Arch>(
             in_four(distance_for(resolved, item, relocation, found))
         }
         _ => None,
+    }
+}
+
+/// The value, where it is one in a field of four bytes, of a relocation that has the most common type.
+#[inline(always)]
+fn value_of_common<A: Arch>(
+    resolved: &Resolved<A>,
+    item: &ItemRef,
+    relocation: &InputRelocation,
+) -> Option<u64>
+    requires { relocation.now.number ≡ r_x86_64_pc32 }
+    ensures { (value : ℕ) → result ≡ Some value → decided resolved.now.layout.now (item_now item.now) relocation.now ≡ Ok (Field (ByteSize Four) value) }
+{
+    match value_to_target(resolved, item, relocation) {
+        Some(value) => Some(value),
+        None => value_by_row(resolved, item, relocation),
     }
 }
 

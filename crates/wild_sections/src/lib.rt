@@ -17,6 +17,7 @@ mod relocation;
 mod resolve;
 mod rewritten;
 mod section;
+mod target;
 mod thunk;
 mod values;
 

@@ -99,11 +99,18 @@ pub(crate) fn is_plain_own(flags: ValueFlags) -> bool
         && !flags.is_undefined_weak()
 }
 
+/// Whether the symbol stands for its section.
+pub(crate) fn is_section_symbol(symbol: &Symbol) -> bool
+    ensures { result ≡ is_section_symbol symbol.now }
+{
+    symbol.info % 16 == STT_SECTION
+}
+
 /// The merged section of a file that the symbol, one of the file's, is the section symbol of.
 pub(crate) fn merged_section<'f>(file: &'f File, symbol: &Symbol) -> Option<&'f InputSection>
     ensures { option_map (λ (s : InputSection). s.strings) (option_copied result) ≡ strings_in file.now symbol.now }
 {
-    if symbol.info % 16 != STT_SECTION {
+    if !is_section_symbol(symbol) {
         return None;
     }
     let Place::Section(index) = symbol.place else {

@@ -104,6 +104,7 @@ fn write_decisions(item: &ItemRef, decisions: &[Decision], room: &mut [u8])
 
 /// Decides a relocation and writes it, where its bytes begin at `reach` or behind: where they end then; none where they
 /// begin before.
+#[inline(never)]
 fn write_decided<A: Arch>(
     resolved: &Resolved<A>,
     origin: &Origin,

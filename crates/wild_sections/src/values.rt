@@ -17,12 +17,14 @@ ghost use Rattle.wild_types.specs.declared.input.MergedString.{MergedString};
 ghost use Rattle.wild_types.specs.declared.input.InputSection.{InputSection};
 ghost use Rattle.wild_sections.specs.Strings.{are_unmerged, all_ascend, section_ascends};
 ghost use Rattle.wild_sections.specs.Owners.{HasOwners, owner_among, asks_owners};
+ghost use Rattle.wild_sections.specs.Targets.{HasTargets, IsTarget};
 ghost use Rattle.wild_sections.specs.Indexes.{HasIndexes};
 
 use crate::home::Home;
 use crate::merged::{IsUnmerged, StringsAscend, is_plain_own, merged_section, string_place};
 use crate::owner::{Owner, file_at, own_groups};
 use crate::placed::place_groups;
+use crate::target::targets_of;
 use std::alloc::{AllocError, Global};
 use std::marker::PhantomData;
 use wild_relax::Arch;
@@ -103,15 +105,14 @@ fn asks_owners(layout: &Layout) -> bool
 }
 
 /// Where the files of symbols are; of a layout in which none is looked for nothing is kept.
-fn owners_of(alloc: Global, layout: &Layout) -> Result<Vec<Option<Owner>>, AllocError>
+fn owners_of(alloc: Global, layout: &Layout, asks: bool) -> Result<Vec<Option<Owner>>, AllocError>
+    requires { asks ≡ asks_owners layout.now }
     ensures { IfOk result (λ v. HasOwners layout.now v.items) }
 {
-    let count = if asks_owners(layout) {
-        layout.symbols.len()
-    } else {
-        0
-    };
-    let mut owners = vec![in alloc; None; count]?;
+    if !asks {
+        return Ok(Vec::new(alloc));
+    }
+    let mut owners = vec![in alloc; None; layout.symbols.len()]?;
     own_groups(layout.groups.as_slice(), &mut owners);
     Ok(owners)
 }
@@ -134,6 +135,7 @@ pub struct Resolved<'a, A: Arch> {
     /// The sections of listed symbols that no input section has.
     pub named: NamedSections,
     values: Vec<Option<u64>>,
+    targets: Vec<Option<u64>>,
     homes: Vec<Option<Home>>,
     owners: Vec<Option<Owner>>,
     indexes: Vec<Option<usize>>,
@@ -142,10 +144,11 @@ pub struct Resolved<'a, A: Arch> {
     ghost machine: { layout.now.machine ≡ A.machine },
     ghost named_are: { named ≡ named_sections layout.now },
     ghost values_are: { HasValues layout.now values.items },
+    ghost targets_are: { HasTargets layout.now targets.items },
     ghost homes_are: { HasHomes layout.now homes.items },
     ghost owners_are: { HasOwners layout.now owners.items },
     ghost indexes_are: { HasIndexes layout.now indexes.items },
-    ghost ascend_is: { ascend ≡ all_ascend layout.now },
+    ghost ascend_is: { ascend ≡ true → all_ascend layout.now ≡ true },
     ghost fits: { FieldsFit layout.now },
 }
 
@@ -157,17 +160,20 @@ impl<'a, A: Arch> Resolved<'a, A> {
         ensures { IfOk result (λ r. r.layout.now ≡ layout.now) }
     {
         let values = values_of(alloc, layout)?;
+        let asks = asks_owners(layout);
+        let targets = targets_of(alloc, layout, &values, asks)?;
         let homes = homes_of(alloc, layout)?;
-        let owners = owners_of(alloc, layout)?;
+        let owners = owners_of(alloc, layout, asks)?;
         let indexes = indexes_of(alloc, layout)?;
         Ok(Resolved {
             layout,
             named: NamedSections::of(layout),
             values,
+            targets,
             homes,
             owners,
             indexes,
-            ascend: all_ascend(layout),
+            ascend: asks && all_ascend(layout),
             arch: PhantomData,
         })
     }
@@ -180,6 +186,19 @@ impl<'a, A: Arch> Resolved<'a, A> {
     {
         if symbol.0 < self.values.len() {
             self.values[symbol.0]
+        } else {
+            None
+        }
+    }
+
+    /// What a distance to the symbol is counted to, where nothing but the symbol tells it.
+    #[inline(always)]
+    #[tactic(auto, using(crate::proofs::TargetLemmas::target_at))]
+    pub(crate) fn target(&self, symbol: SymbolIndex) -> Option<u64>
+        ensures { (a : ℕ) → result ≡ Some a → IsTarget self.now.layout.now symbol a }
+    {
+        if symbol.0 < self.targets.len() {
+            self.targets[symbol.0]
         } else {
             None
         }

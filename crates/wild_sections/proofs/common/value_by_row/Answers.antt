@@ -4,7 +4,7 @@ use Rattle.wild_types.specs.declared.kind.Machine.{Machine}
 use Rattle.wild_types.specs.Rows.{row_of}
 use Rattle.wild_types.specs.Item.{item_now}
 use Rattle.wild_sections.proofs.DistanceLemmas.{fixed_decided}
-use Rattle.wild_sections.proofs.common.value_of_common.Goals as goal
+use Rattle.wild_sections.proofs.common.value_by_row.Goals as goal
 
 pub returns-in-Some : goal.returns-in-Some
 returns-in-Some g c = λ value e.

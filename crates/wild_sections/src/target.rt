@@ -1,0 +1,65 @@
+//! The addresses that distances are counted to, where nothing but the symbol tells them.
+ghost use Rattle.std.specs.Prelude.{◌≡◌, ◌<◌, length, IfOk, slice_get};
+ghost use Rattle.wild_sections.specs.Owners.{asks_owners};
+ghost use Rattle.wild_sections.specs.Targets.{has_targets, may_be_merged, target_of, HasTargets};
+ghost use Rattle.wild_sections.specs.Values.{HasValues};
+
+use crate::indirect::is_chosen;
+use crate::merged::is_section_symbol;
+use std::alloc::{AllocError, Global};
+use wild_types::{Layout, Machine, SymbolIndex};
+
+/// Whether S + A - P is written whatever the symbol is: in an output of x86-64 that does not move.
+fn has_targets(layout: &Layout) -> bool
+    ensures { result ≡ has_targets layout.now }
+{
+    matches!(layout.machine, Machine::X86_64) && !layout.kind.is_position_independent()
+}
+
+/// Whether the symbol may stand for merged strings, where there are some.
+fn may_be_merged(asks: bool, layout: &Layout, index: usize) -> bool
+    ensures { result ≡ may_be_merged asks (slice_get layout.now.symbols index) }
+{
+    asks && match layout.symbols.as_slice().get(index) {
+        Some(symbol) => is_section_symbol(symbol),
+        None => true,
+    }
+}
+
+/// The address of a symbol, where nothing but the symbol tells it.
+#[tactic(auto, using(crate::proofs::ValueLemmas::table_values))]
+fn target_of(layout: &Layout, values: &[Option<u64>], asks: bool, index: usize) -> Option<u64>
+    requires asks { asks ≡ asks_owners layout.now }
+    requires values { HasValues layout.now values.now }
+    requires index { index < length values.now }
+    ensures { result ≡ target_of layout.now index }
+{
+    if is_chosen(layout, SymbolIndex(index)) || may_be_merged(asks, layout, index) {
+        None
+    } else {
+        values[index]
+    }
+}
+
+/// These addresses of all symbols; of an output that has none nothing is kept.
+#[tactic(auto, using(crate::proofs::TargetLemmas::no_table, crate::proofs::TargetLemmas::table_made))]
+pub(crate) fn targets_of(
+    alloc: Global,
+    layout: &Layout,
+    values: &[Option<u64>],
+    asks: bool,
+) -> Result<Vec<Option<u64>>, AllocError>
+    requires asks { asks ≡ asks_owners layout.now }
+    requires values { HasValues layout.now values.now }
+    ensures { IfOk result (λ v. HasTargets layout.now v.items) }
+{
+    if !has_targets(layout) {
+        return Ok(Vec::new(alloc));
+    }
+    let count = values.len();
+    let mut targets = Vec::with_capacity(alloc, count)?;
+    for i in 0..count {
+        targets.push(target_of(layout, values, asks, i))?;
+    }
+    Ok(targets)
+}
