@@ -14,3 +14,4 @@ pub mod MadeLemmas
 pub mod StandingLemmas
 pub mod FrontLemmas
 pub mod StoodLemmas
+pub mod SoLemmas

@@ -5,9 +5,11 @@
 --   IsMadeOf l s                  it owns bytes that are made of it
 --   IsWhole s                     one of frames has data
 --   zeros_of l s                  as many zeros as a section has bytes, where it owns some
+--   stands_so l s                 it is loaded as the plan has it, with bytes of its own that are written; StandsSo l s is the same;
+--                                 so_errors l g f i file s its faults, so_bytes l file s its bytes
 --   IsMade l t                    the search table of frames was made, or its first fault was met
 --   errors_behind l g f file      the faults of a file behind those of its sections; bytes_behind l f its bytes behind theirs
-use Rattle.std.specs.Prelude.{◌≡◌, ℕ, Bool, true, false, if◌then◌else◌, List, [], ◌∷◌, ◌++◌, map, length, replicate, Option, Some, None}
+use Rattle.std.specs.Prelude.{◌≡◌, ℕ, not, ◌&&◌, Bool, true, false, if◌then◌else◌, List, [], ◌∷◌, ◌++◌, map, length, replicate, Option, Some, None}
 use Rattle.std.specs.List.{flat_map}
 use Rattle.wild_types.specs.declared.fault.Fault.{Fault}
 use Rattle.wild_types.specs.declared.fault.Error.{Error}
@@ -16,12 +18,14 @@ use Rattle.wild_types.specs.declared.file.File.{File}
 use Rattle.wild_types.specs.declared.layout.Layout.{Layout}
 use Rattle.wild_types.specs.Item.{item_of}
 use Rattle.wild_types.specs.declared.part.Role.TheVariants as role
-use Rattle.wild_types.specs.Lookups.{is_read, is_written, is_frame, is_debug, is_filled}
+use Rattle.wild_types.specs.declared.input.Slot.TheVariants as slot
+use Rattle.wild_types.specs.Kinds.{is_partial_link}
+use Rattle.wild_types.specs.Lookups.{is_loaded, is_read, is_written, is_frame, is_debug, is_filled}
 use Rattle.wild_types.specs.Hollow.{is_hollow_role, is_dropped}
 use Rattle.wild_laid.specs.Laid.{of_last_file}
 use Rattle.wild_laid.specs.Stood.{Stood}
 use Rattle.wild_layout.specs.Faults.{item_errors, debug_errors, frame_refusal, sorted_errors, entry_errors, thunk_errors, first_errors}
-use Rattle.wild_layout.specs.Sites.{MovesApart}
+use Rattle.wild_layout.specs.Sites.{MovesApart, item_bytes}
 use Rattle.wild_layout.specs.SearchTable.{search_table, search_table_faults}
 use Rattle.wild_layout.specs.Image.{unless_hollow}
 use Rattle.wild_layout.specs.Thunks.{file_thunks}
@@ -63,6 +67,24 @@ IsWhole s = is_frame s.slot ≡ true → s.nobits ≡ false
 -- as many zeros as a section has bytes, where it owns some
 abbrev pub zeros_of : Layout → InputSection → List ℕ
 zeros_of l s = if is_filled l s then replicate s.size 0 else []
+
+-- it is loaded as the plan has it, with bytes of its own that are written
+unfoldable pub stands_so : Layout → InputSection → Bool
+stands_so l s = is_loaded s.slot && (not s.nobits && (not s.reversed && (not (is_partial_link l.kind) && is_filled l s)))
+
+pub record StandsSo (l : Layout) (s : InputSection) : Type 0 where
+  pub loaded : s.slot ≡ slot.Loaded
+  pub bits : s.nobits ≡ false
+  pub straight : s.reversed ≡ false
+  pub final : is_partial_link l.kind ≡ false
+  pub filled : is_filled l s ≡ true
+
+-- the faults of a section of a file that stands so, and its bytes
+abbrev pub so_errors : Layout → ℕ → ℕ → ℕ → File → InputSection → List Error
+so_errors l group file section f s = item_errors l group file section (item_of l f s) s.relocations []
+
+abbrev pub so_bytes : Layout → File → InputSection → List ℕ
+so_bytes l f s = item_bytes l (item_of l f s)
 
 -- the first of some faults
 abbrev pub first_of : List Fault → Option Fault

@@ -363,10 +363,11 @@ fn table_size(part: &Part, group: &Group, i: usize) -> u64
 pub(crate) fn written_size(layout: &Layout, part: &Part, group: &Group, i: usize) -> u64
     ensures { result ≡ (if is_hollow_at layout.now part.now.section then 0 else (if has_role Raw part.now then 0 else given i group.now)) }
 {
-    if layout.is_hollow_at(part.section) {
+    let size = table_size(part, group, i);
+    if size == 0 || layout.is_hollow_at(part.section) {
         0
     } else {
-        table_size(part, group, i)
+        size
     }
 }
 

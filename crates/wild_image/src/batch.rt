@@ -15,7 +15,7 @@ pub(crate) struct Batch<'a> {
 }
 
 /// How many batches there are, about, where there are enough groups.
-const BATCHES: usize = 4096;
+const BATCHES: usize = 1024;
 
 /// All groups, cut into batches of `size` groups.
 pub(crate) fn batches_of(

@@ -20,7 +20,7 @@ ghost use Rattle.wild_contents.specs.Laid.{group_frames, HaveSearchTable};
 ghost use Rattle.wild_contents.specs.SearchTable.{IsTableFor, IsSearchTable};
 ghost use Rattle.wild_image.specs.Append.{GivesItsShares, HasRolesOnce, IsTurned, IsOfKind, SortedStands, FileStands, GroupStands};
 ghost use Rattle.wild_image.specs.Pieces.{table_given, section_owned, sorted_owned, all_sorted, once_bytes, file_bytes, group_files, group_tables};
-ghost use Rattle.wild_image.specs.Stood.{kept_faults, stood_faults, StoodApart, HasOrigins, IsMadeOf, IsWhole, zeros_of, errors_behind, bytes_behind};
+ghost use Rattle.wild_image.specs.Stood.{kept_faults, stood_faults, StoodApart, HasOrigins, IsMadeOf, IsWhole, zeros_of, stands_so, so_errors, so_bytes, errors_behind, bytes_behind};
 ghost use Rattle.wild_image.specs.Batches.{HasBatch, batch_errors};
 
 use crate::append::written_size;
@@ -295,8 +295,47 @@ fn add_stood<A: ShardedArch, R: Threads + Sync>(
     add_unread(by, resolved, place, file, laid, &mut bytes.files)
 }
 
+/// Whether a section is loaded as the plan has it, with bytes of its own that are written.
+#[tactic(auto, unfolding(crate::specs::Stood::stands_so))]
+fn stands_so(layout: &Layout, section: &InputSection) -> bool
+    ensures { result ≡ stands_so layout.now section.now }
+{
+    section.slot.is_loaded()
+        && !section.nobits
+        && !section.reversed
+        && !layout.kind.is_partial_link()
+        && section.is_filled(layout)
+}
+
+/// Adds the bytes of a section that stands so, or answers its first fault.
+fn add_so<A: Arch>(
+    alloc: Global,
+    resolved: &Resolved<A>,
+    place: InputPlace,
+    file: &File,
+    section: &InputSection,
+    bytes: &mut PartBytes,
+) -> Result<(), Error>
+    requires so { stands_so resolved.now.layout.now section.now ≡ true }
+    requires lies { SectionLies resolved.now.layout.now section.now }
+    ensures faults { Answers result (so_errors resolved.now.layout.now place.group place.file place.section file.now section.now) }
+    ensures bytes { OnOk result (bytes.new ≡ bytes.old ++ so_bytes resolved.now.layout.now file.now section.now) }
+{
+    let origin = Origin {
+        place,
+        relocations: section.relocations.as_slice(),
+        ending: None,
+    };
+    bytes.add_data(
+        alloc,
+        resolved,
+        &origin,
+        &section.item(resolved.layout, file),
+    )
+}
+
 /// Adds the bytes of a section of that file, or answers its first fault, where the file's next frames stand at an address; tells
-/// where those behind it stand.
+/// where those behind it stand. One that stands as the plan has it is not laid.
 #[tactic(auto, using(crate::proofs::StoodLemmas::section_stood, crate::proofs::StoodLemmas::laid_whole, crate::proofs::StoodLemmas::laid_apart, wild_contents::proofs::LaidLemmas::room_of_laid))]
 fn add_section<A: ShardedArch, R: Threads + Sync>(
     by: &Workers<R>,
@@ -316,6 +355,10 @@ fn add_section<A: ShardedArch, R: Threads + Sync>(
     ensures frames { OnOk result (is_hollow_role resolved.now.layout.now EhFrame ≡ false → bytes.new.frames ≡ bytes.old.frames ++ frame_bytes_of resolved.now.layout.now file.now (laid_section resolved.now.layout.now file.now at section.now)) }
     ensures tables { bytes.new.tables ≡ bytes.old.tables }
 {
+    if stands_so(resolved.layout, section) {
+        add_so(by.alloc, resolved, place, file, section, &mut bytes.files)?;
+        return Ok(at);
+    }
     let laid = lay(by.alloc, resolved.layout, file, at, section)?;
     add_stood(by, resolved, place, file, &laid, bytes)?;
     Ok(behind_frames(at, laid.section()))
@@ -578,23 +621,26 @@ fn add_group_files<A: ShardedArch, R: Threads + Sync>(
     check_symbol_tables(resolved, index, group.files.as_slice())
 }
 
-/// How many bytes some groups have of raw parts and of tables, so that their buffers are taken at once.
+/// How many bytes some groups have of a part, 2^64 - 1 at most.
+fn room_of_part(groups: &[Group], part: usize) -> usize {
+    let mut size: usize = 0;
+    for group in groups {
+        size = size.saturating_add(group.given(part) as usize);
+    }
+    size
+}
+
+/// How many bytes some groups have of tables and of raw parts, so that their buffers are taken at once.
 fn room_of_groups(layout: &Layout, groups: &[Group]) -> (usize, usize) {
     let mut files: usize = 0;
     let mut tables: usize = 0;
-    for group in groups {
-        for (part, size) in layout
-            .parts
-            .as_slice()
-            .iter()
-            .zip(group.part_sizes.as_slice())
-        {
-            if *size != 0 && layout.takes_file_bytes(part.section) {
-                if has_role(Role::Raw, part) {
-                    files = files.saturating_add(*size as usize);
-                } else {
-                    tables = tables.saturating_add(*size as usize);
-                }
+    for (i, part) in layout.parts.as_slice().iter().enumerate() {
+        if layout.takes_file_bytes(part.section) {
+            let size = room_of_part(groups, i);
+            if has_role(Role::Raw, part) {
+                files = files.saturating_add(size);
+            } else {
+                tables = tables.saturating_add(size);
             }
         }
     }

@@ -7,7 +7,7 @@ ghost use Rattle.wild_image.specs.Stood.{IsMade};
 
 use crate::batch::Batch;
 use crate::buffer::{GroupBytes, bytes_of_batch};
-use crate::pairs::{Pairs, pairs_of_groups};
+use crate::pairs::pairs_of_groups;
 use std::alloc::AllocError;
 use std::thread::Threads;
 use wild_contents::SearchTable;
@@ -22,13 +22,11 @@ use wild_types::Error;
 #[derive(Drop)]
 pub(crate) struct Outcome {
     pub(crate) bytes: Result<GroupBytes, Error>,
-    pub(crate) counts: Pairs,
+    pub(crate) counts: Vec<(u32, u64)>,
 }
 
 impl Counted for Outcome {
-    ghost use Rattle.wild_image.specs.Counts.{listed as listed_in};
-
-    ghost listed = { λ o. listed_in o.counts };
+    ghost listed = { λ o. o.counts.items };
 
     fn counts(&self) -> &[(u32, u64)] {
         self.counts.as_slice()

@@ -17,7 +17,7 @@ ghost use Rattle.wild_contents.specs.Given.{NeedsFit};
 
 use crate::buffer::{GroupBytes, add_group};
 use crate::cut::cut_group;
-use crate::pairs::{Pairs, with_group};
+use crate::pairs::pairs_of_group;
 use std::alloc::{AllocError, Global};
 use std::marker::Sync;
 use std::thread::Threads;
@@ -59,11 +59,8 @@ fn piece_of<A: ShardedArch, R: Threads + Sync>(
     let mut bytes = GroupBytes::with_room(by.alloc, 0, 0)?;
     add_group(by, resolved, index, group, table, &mut bytes)?;
     let parts = cut_group(by.alloc, resolved.layout, group, &bytes)?;
-    let pairs = with_group(by.alloc, resolved.layout, group, Pairs::None)?;
-    Ok(GroupPiece {
-        parts,
-        counts: Items::from_vec(Vec::from_slice(by.alloc, pairs.as_slice())?),
-    })
+    let counts = Items::from_vec(pairs_of_group(by.alloc, resolved.layout, group)?);
+    Ok(GroupPiece { parts, counts })
 }
 
 /// Whether the group has the first file.

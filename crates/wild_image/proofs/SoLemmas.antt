@@ -1,0 +1,124 @@
+-- Laws of sections that stand as the plan has them.
+use Rattle.std.proofs.Common.{◌≡◌, ℕ, ◌<◌, ◌^◌, Bool, true, false, not, ◌&&◌, if◌then◌else◌, List, [], ◌++◌, length, replicate, All, refl, sym, ap, ◌∙◌, subst, arith}
+use Rattle.std.proofs.lemmas.Bool.{and_parts, not-true, true≢false}
+use Rattle.std.proofs.lemmas.List.{append-nil}
+use Rattle.wild_types.specs.declared.fault.Error.{Error}
+use Rattle.wild_types.specs.Faults.{Refuses}
+use Rattle.wild_types.specs.declared.input.Slot.{Slot}
+use Rattle.wild_types.specs.declared.input.Slot.TheVariants as slot
+use Rattle.wild_types.specs.declared.input.InputSection.{InputSection}
+use Rattle.wild_types.specs.declared.file.File.{File}
+use Rattle.wild_types.specs.declared.layout.Layout.{Layout}
+use Rattle.wild_types.specs.Item.{item_of, item_with, block_for}
+use Rattle.wild_types.specs.Kinds.{is_partial_link}
+use Rattle.wild_types.specs.declared.part.Role.TheVariants as role
+use Rattle.wild_types.specs.Hollow.{is_hollow_role, is_dropped}
+use Rattle.wild_types.specs.Lookups.{is_loaded, has_fields, is_written, is_frame, is_debug, is_given, is_filled, is_hollow_part}
+use Rattle.wild_laid.specs.Turned.{as_turned, turned}
+use Rattle.wild_laid.specs.FrameInputs.{frames_of, kept_size}
+use Rattle.wild_laid.specs.Laid.{without_relocations, unread, kept_relocations, origins_of, laid_by, laid_section, behind}
+use Rattle.wild_layout.specs.Sites.{item_bytes, section_bytes, bytes_by, MovesApart}
+use Rattle.wild_layout.specs.Content.{frame_bytes_of}
+use Rattle.wild_layout.specs.Faults.{item_errors, bad_frames, stood_errors, stood_errors_by, section_errors}
+use Rattle.wild_layout.specs.SectionPlaces.{SectionLies, FieldLies}
+use Rattle.wild_layout.proofs.MovedSites.{turned_or_stays}
+use Rattle.wild_image.specs.Pieces.{section_owned}
+use Rattle.wild_image.specs.Stood.{stands_so, StandsSo, so_errors, so_bytes}
+
+loaded_slot : (k : Slot) → is_loaded k ≡ true → k ≡ slot.Loaded
+loaded_slot slot.Loaded e = refl
+loaded_slot other e = cc
+
+-- what the test tells
+pub told : (l : Layout) (s : InputSection) → stands_so l s ≡ true → StandsSo l s
+unfolding stands_so
+told l s h =
+    let a = and_parts (is_loaded s.slot) _ h in
+    let b = and_parts (not s.nobits) _ a.1 in
+    let c = and_parts (not s.reversed) _ b.1 in
+    let d = and_parts (not (is_partial_link l.kind)) (is_filled l s) c.1 in
+    record { loaded = loaded_slot s.slot a.0; bits = not-true s.nobits b.0; straight = not-true s.reversed c.0; final = not-true (is_partial_link l.kind) d.0; filled = d.1 }
+
+straight_turned : (s : InputSection) → s.reversed ≡ false → as_turned s ≡ s
+unfolding as_turned
+straight_turned s e = ap (λ (b : Bool). if b then turned s else s) e
+
+-- it stands as it is
+pub so_laid : (l : Layout) (f : File) (at : ℕ) (s : InputSection) → StandsSo l s → laid_section l f at s ≡ s
+unfolding laid_section
+so_laid l f at s h =
+    ap (λ (k : Slot). laid_by k l f at s) h.loaded
+    ∙ ap (λ (b : Bool). as_turned (if b then without_relocations s else s)) h.final
+    ∙ straight_turned s h.straight
+
+-- so its sites are apart where those of the input are
+pub so_moves : (l : Layout) (f : File) (s : InputSection) → StandsSo l s → MovesApart l (item_of l f s) s.relocations
+so_moves l f s h =
+    subst (λ (x : InputSection). MovesApart l (item_with (block_for l f s) x) s.relocations) (straight_turned s h.straight)
+    (turned_or_stays l (block_for l f s) s (λ r. absurd (true≢false (sym r ∙ h.straight))))
+
+unhollow : (given hollow : Bool) → (given && not hollow) ≡ true → hollow ≡ false
+unhollow true true e = cc
+unhollow true false e = refl
+unhollow false hollow e = cc
+
+fields_written : (l : Layout) (s : InputSection) → StandsSo l s → is_written s ≡ true
+fields_written l s h = ap (λ (k : Slot). has_fields k && not s.nobits) h.loaded ∙ ap (λ (b : Bool). not b) h.bits
+
+kept : (l : Layout) (s : InputSection) → StandsSo l s → is_dropped l s ≡ false
+kept l s h =
+    ap (λ (k : Slot). if is_frame k then is_hollow_role l role.EhFrame else is_hollow_part l s.part) h.loaded
+    ∙ unhollow (is_given l s) (is_hollow_part l s.part) h.filled
+
+written : (l : Layout) (s : InputSection) → StandsSo l s → (is_written s && not (is_dropped l s)) ≡ true
+written l s h = ap (λ (b : Bool). b && not (is_dropped l s)) (fields_written l s h) ∙ ap (λ (b : Bool). not b) (kept l s h)
+
+-- its fields lie in it
+pub so_lie : (l : Layout) (s : InputSection) → StandsSo l s → SectionLies l s → All (FieldLies l.machine (length s.bytes)) s.relocations
+so_lie l s h lies = subst (λ (n : ℕ). All (FieldLies l.machine n) s.relocations) (sym (lies.bytes (fields_written l s h))) (lies.fields (ap has_fields h.loaded))
+
+-- its faults are those of the section as it stands
+pub so_faults : (l : Layout) (group file : ℕ) (f : File) (at section : ℕ) (s : InputSection) → StandsSo l s → so_errors l group file section f s ≡ section_errors l group file f at section s
+unfolding section_errors
+so_faults l group file f at section s h =
+    sym (
+    ap (stood_errors l group file f section s) (so_laid l f at s h)
+    ∙ ap (λ (b : Bool). if b then stood_errors_by (is_debug s.slot) l group file f section s s else []) (written l s h)
+    ∙ plain s.slot refl h.loaded
+    )
+  where
+    plain : (k : Slot) → s.slot ≡ k → k ≡ slot.Loaded → stood_errors_by (is_debug s.slot) l group file f section s s ≡ so_errors l group file section f s
+    plain slot.Loaded is e = rw (is, h.final) refl
+    plain other is e = cc
+
+pub so_refuses : (l : Layout) (group file : ℕ) (f : File) (at section : ℕ) (s : InputSection) (e : Error) → StandsSo l s → Refuses e (so_errors l group file section f s) → Refuses e (section_errors l group file f at section s)
+so_refuses l group file f at section s e h is = subst (Refuses e) (so_faults l group file f at section s h) is
+
+-- its bytes are its own
+pub so_owned : (l : Layout) (f : File) (at : ℕ) (s : InputSection) → StandsSo l s → so_bytes l f s ≡ section_owned l f (laid_section l f at s)
+unfolding section_bytes
+so_owned l f at s h =
+    sym (
+    ap (section_owned l f) (so_laid l f at s h)
+    ∙ ap (λ (b : Bool). if b then section_bytes l f s else []) h.filled
+    ∙ ap (λ (b : Bool). if b then replicate s.size 0 else bytes_by s.slot l f s) h.bits
+    ∙ ap (λ (k : Slot). bytes_by k l f s) h.loaded
+    )
+
+-- it adds no frames
+pub so_frames : (l : Layout) (f : File) (at : ℕ) (s : InputSection) (old : List ℕ) → StandsSo l s → old ≡ old ++ frame_bytes_of l f (laid_section l f at s)
+unfolding frame_bytes_of
+so_frames l f at s old h =
+    sym (
+    ap (λ (x : InputSection). old ++ (if is_frame x.slot then item_bytes l (item_of l f x) else [])) (so_laid l f at s h)
+    ∙ ap (λ (k : Slot). old ++ (if is_frame k then item_bytes l (item_of l f s) else [])) h.loaded
+    ∙ append-nil old
+    )
+
+none_kept : (l : Layout) (f : File) (s : InputSection) → StandsSo l s → kept_size l f s ≡ 0
+unfolding kept_size
+none_kept l f s h = rw h.loaded refl
+
+-- those behind it stand where they did
+pub so_next : (l : Layout) (f : File) (at : ℕ) (s : InputSection) → at < 2 ^ 64 → StandsSo l s → at ≡ behind at (kept_size l f s)
+so_next l f at s small h = let none = none_kept l f s h in omega (arith, small, none)
