@@ -140,10 +140,15 @@ impl Layout {
         self.options.only_keep_debug && is_allocated(section.flags) && section.kind != SHT_NOTE
     }
 
-    /// Whether that is so of the section with that header index, which is another than section 0.
+    /// Whether that is so of the section with that header index, which is another than section 0. It is looked up where the image is for
+    /// debuggers alone.
+    #[tactic(auto, using(crate::proofs::LookupLemmas::not_hollow_at))]
     pub fn is_hollow_at(&self, index: SectionIndex) -> bool
         ensures { result ≡ is_hollow_at self.now index }
     {
+        if !self.options.only_keep_debug {
+            return false;
+        }
         match self.sections.as_slice().get(index.0) {
             Some(section) => index.0 != 0 && self.is_hollow(section),
             None => false,
@@ -151,16 +156,21 @@ impl Layout {
     }
 
     /// Whether a part lies in such a section.
+    #[tactic(auto, using(crate::proofs::LookupLemmas::not_hollow_part))]
     pub fn is_hollow_part(&self, part: usize) -> bool
         ensures { result ≡ is_hollow_part self.now part }
     {
-        self.is_hollow_at(self.section_of(part))
+        self.options.only_keep_debug && self.is_hollow_at(self.section_of(part))
     }
 
     /// Whether nothing is written of the section in which the first part of a role lies.
+    #[tactic(auto, using(crate::proofs::LookupLemmas::not_hollow_role))]
     pub fn is_hollow_role(&self, role: Role) -> bool
         ensures { result ≡ is_hollow_role self.now role }
     {
+        if !self.options.only_keep_debug {
+            return false;
+        }
         match part_with(role, self.parts.as_slice()) {
             Some(part) => self.is_hollow_at(part.section),
             None => false,
