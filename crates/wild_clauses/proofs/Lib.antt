@@ -5,10 +5,13 @@ pub mod CoverLemmas
 pub mod DynsymLemmas
 pub mod EarlierLemmas
 pub mod FieldLemmas
+pub mod FlagLemmas
 pub mod MisplacedLemmas
 pub mod OrderedLemmas
+pub mod PartialLemmas
 pub mod PassedLemmas
 pub mod SlotPlaceLemmas
 pub mod StartLemmas
+pub mod UnlistedLemmas
 pub mod VersionLemmas
 pub mod ClauseLemmas

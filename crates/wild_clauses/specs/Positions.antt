@@ -5,7 +5,8 @@
 --   whole_walk l n              all symbols
 --   section_in l i k gs         the output section of input section k of symbol i's file
 --   all_below l                 no part or symbol stands in a section whose header index a symbol cannot have
-use Rattle.std.specs.Prelude.{ℕ, ◌+◌, ◌-◌, ◌==◌, Bool, true, false, ◌&&◌, ◌||◌, if◌then◌else◌, nat_lt, nat_le, unwrap_or, List, [], ◌∷◌, length, take, drop, Option, Some, None, Result, Ok, Err, slice_get}
+--   is_unlisted s               the symbol carries no index of the table
+use Rattle.std.specs.Prelude.{ℕ, ◌+◌, ◌-◌, ◌==◌, Bool, true, false, not, is_some, ◌&&◌, ◌||◌, if◌then◌else◌, nat_lt, nat_le, unwrap_or, List, [], ◌∷◌, length, take, drop, Option, Some, None, Result, Ok, Err, slice_get}
 use Rattle.wild_types.specs.declared.symbol.Symbol.{Symbol}
 use Rattle.wild_types.specs.declared.file.FileRole.{FileRole}
 use Rattle.wild_types.specs.declared.file.FileRole.TheVariants as file_role
@@ -73,6 +74,10 @@ failed (Err i) = Some i
 -- the first symbol whose index is not its position
 abbrev pub whole_walk : Layout → ℕ → Option ℕ
 whole_walk l n = failed (followed (groups_walk l n (0, 0) l.groups) (λ at. run_walk l.dynsyms n file_role.NotLoaded at.0 at.1 (drop at.0 l.symbols)))
+
+-- the symbol carries no index of the table
+abbrev pub is_unlisted : Symbol → Bool
+is_unlisted s = not (is_some (dynsym_of s))
 
 -- ---- the sections of listed symbols
 

@@ -4,6 +4,7 @@
 --   is_asked l i s                 symbol i is asked
 --   first_asked_failing l t i ss   the place of the first of those that are asked and fail a test, counted from i on
 --   takes_block_word l s         the slot is one of a block of packed words
+--   agrees_in_all l s            the symbol passes each test
 use Rattle.std.specs.Prelude.{ℕ, ◌+◌, ◌==◌, Bool, true, not, ◌&&◌, ◌||◌, if◌then◌else◌, List, [], ◌∷◌, Option, Some, None, is_some}
 use Rattle.wild_types.specs.declared.symbol.Resolution.{Resolution}
 use Rattle.wild_types.specs.declared.symbol.Symbol.{Symbol}
@@ -73,3 +74,9 @@ takes_block_word l s =
 -- a second slot stands behind the first, and so in no block
 abbrev pub second_slot_fits : Layout → Symbol → Bool
 second_slot_fits l s = (not (has_flag s.flags ifunc_got_for_address) && not (has_flag s.flags canonical_plt_got_for_address)) || not (takes_block_word l s)
+
+-- ---- all tests at once
+
+abbrev pub agrees_in_all : Layout → Symbol → Bool
+agrees_in_all l s =
+    dynamic_is_interposable s && (stub_is_value s && (stub_has_slot s && (one_slot_for_address s && (thread_slot_alone s && (resolver_is_own s && (slot_agrees s && (resolver_moves s && second_slot_fits l s)))))))

@@ -4,14 +4,16 @@ ghost use Rattle.std.specs.Prelude.{◌≡◌, ◌+◌, ◌-◌, ◌^◌, ◌<�
 ghost use Rattle.std.specs.Result.{IfOk};
 ghost use Rattle.wild_needs.specs.DynamicSymbols.{is_undefined_entry, dynsym_of, undefined_entries, dynamic_symbols, misplaced};
 ghost use Rattle.wild_types.specs.Lookups.{files_of};
-ghost use Rattle.wild_clauses.specs.Positions.{lists, is_at, fits_at, run_walk, file_walk, files_walk, groups_walk, whole_walk};
+ghost use Rattle.wild_clauses.specs.Positions.{lists, is_at, fits_at, run_walk, file_walk, files_walk, groups_walk, whole_walk, is_unlisted};
 ghost use Rattle.wild_needs.specs.UndefinedCounts.{undefined_count};
 ghost use Rattle.wild_clauses.specs.ClauseTests.{check_indexes, check_dynsyms};
 
 use crate::listed::misfit;
 use crate::verdict::fails;
 use wild_needs::{dynsym_of, is_undefined_entry, undefined_count};
-use wild_types::{Clause, File, FileRole, Group, Layout, Symbol, ValueFlags, some_from};
+use wild_types::{
+    Clause, File, FileRole, Group, Layout, Symbol, Test, ValueFlags, all_pass, some_from,
+};
 
 /// Whether the symbol of that number is the one listed at that place.
 fn lists(layout: &Layout, symbol: usize, place: usize) -> bool
@@ -173,12 +175,26 @@ fn misplaced(layout: &Layout, undefined: usize) -> Option<usize>
     walk(layout, undefined)
 }
 
-/// It is asked where the indexes hold.
-#[tactic(auto, unfolding(crate::specs::ClauseTests::check_dynsyms))]
+/// A symbol carries no index of the table.
+struct IsUnlisted;
+
+impl Test<Symbol> for IsUnlisted {
+    ghost test = { λ t. is_unlisted };
+
+    fn passes(&self, symbol: &Symbol) -> bool {
+        dynsym_of(symbol).is_none()
+    }
+}
+
+/// It is asked where the indexes hold. Entries are counted only where a symbol is listed or carries an index.
+#[tactic(auto, using(crate::proofs::UnlistedLemmas::unlisted_fit), unfolding(crate::specs::ClauseTests::check_dynsyms))]
 pub(crate) fn check_dynsyms(layout: &Layout) -> Result<(), Clause>
     requires indexes { check_indexes layout.now ≡ Ok tt }
     ensures { result ≡ check_dynsyms layout.now }
 {
+    if layout.dynsyms.len() == 0 && all_pass(&IsUnlisted, layout.symbols.as_slice()) {
+        return Ok(());
+    }
     let undefined = exact_count(layout);
     fails(13, misplaced(layout, undefined))?;
     fails(13, misfit(layout, undefined))

@@ -202,11 +202,15 @@ impl Test<InputSection> for TableHasData {
     }
 }
 
-#[tactic(auto, unfolding(crate::specs::ClauseTests::check_partial))]
+/// Of another output than a relocatable object all else follows from what only such an object has.
+#[tactic(auto, using(crate::proofs::PartialLemmas::no_partial), unfolding(crate::specs::ClauseTests::check_partial))]
 pub(crate) fn check_partial(layout: &Layout) -> Result<(), Clause>
     ensures { result ≡ check_partial layout.now }
 {
     let groups = layout.groups.as_slice();
+    if !layout.kind.is_partial_link() {
+        return fails(21, failing_group(&IsOfKind { layout }, groups));
+    }
     let symbols = layout.symbols.as_slice();
     let blocks = layout.thunk_blocks.as_slice();
     fails(21, unless(has_no_segments(layout)))?;

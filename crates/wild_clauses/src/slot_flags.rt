@@ -1,7 +1,7 @@
 //! Clause 14: what is known of a symbol agrees with its slots and its stub.
 ghost use Rattle.std.specs.Prelude.{◌≡◌};
 ghost use Rattle.wild_types.specs.SymbolSlots.{got_of, plt_of, has_dynamic_symbol, has_thread_slot};
-ghost use Rattle.wild_clauses.specs.SlotFlags.{is_asked, first_asked_failing, dynamic_is_interposable, is_value, stub_is_value, stub_has_slot, one_slot_for_address, thread_slot_alone, resolver_is_own, slot_agrees, resolver_moves, takes_block_word, second_slot_fits};
+ghost use Rattle.wild_clauses.specs.SlotFlags.{is_asked, first_asked_failing, dynamic_is_interposable, is_value, stub_is_value, stub_has_slot, one_slot_for_address, thread_slot_alone, resolver_is_own, slot_agrees, resolver_moves, takes_block_word, second_slot_fits, agrees_in_all};
 ghost use Rattle.wild_clauses.specs.ClauseTests.{check_slot_flags};
 
 use crate::verdict::fails;
@@ -147,23 +147,56 @@ impl Test<Symbol> for SecondSlotFits<'_> {
     }
 }
 
-/// The place of the first symbol that is asked and fails the test: one that no other symbol defines, or that has a resolution of its own.
+/// A symbol passes each of these tests.
+#[derive(Clone, Copy)]
+struct AgreesInAll<'a> {
+    layout: &'a Layout,
+}
+
+impl Test<Symbol> for AgreesInAll<'_> {
+    ghost test = { λ t. agrees_in_all t.layout.now };
+
+    fn passes(&self, symbol: &Symbol) -> bool {
+        let layout = self.layout;
+        DynamicIsInterposable.passes(symbol)
+            && StubIsValue.passes(symbol)
+            && StubHasSlot.passes(symbol)
+            && OneSlotForAddress.passes(symbol)
+            && ThreadSlotAlone.passes(symbol)
+            && ResolverIsOwn.passes(symbol)
+            && SlotAgrees.passes(symbol)
+            && ResolverMoves.passes(symbol)
+            && SecondSlotFits { layout }.passes(symbol)
+    }
+}
+
+/// Whether the symbol of that number is asked: no other symbol defines it, or it has a resolution of its own.
+fn is_asked(layout: &Layout, number: usize, symbol: &Symbol) -> bool
+    ensures { result ≡ is_asked layout.now number symbol.now }
+{
+    layout.canonical(SymbolIndex(number)).0 == number || symbol.resolution.is_some()
+}
+
+/// The place of the first symbol that is asked and fails the test.
 fn first_asked_failing<C: Test<Symbol>>(layout: &Layout, test: &C) -> Option<usize>
     ensures { result ≡ first_asked_failing layout.now (C.test test.now) 0 layout.now.symbols }
 {
     for (i, symbol) in layout.symbols.as_slice().iter().enumerate() {
-        let is_own = layout.canonical(SymbolIndex(i)).0 == i;
-        if (is_own || symbol.resolution.is_some()) && !test.passes(symbol) {
+        if !test.passes(symbol) && is_asked(layout, i, symbol) {
             return Some(i);
         }
     }
     None
 }
 
-#[tactic(auto, unfolding(crate::specs::ClauseTests::check_slot_flags))]
+/// The tests are asked one by one only where a symbol fails one of them.
+#[tactic(auto, using(crate::proofs::FlagLemmas::flags_agree), unfolding(crate::specs::ClauseTests::check_slot_flags))]
 pub(crate) fn check_slot_flags(layout: &Layout) -> Result<(), Clause>
     ensures { result ≡ check_slot_flags layout.now }
 {
+    if first_asked_failing(layout, &AgreesInAll { layout }).is_none() {
+        return Ok(());
+    }
     fails(14, first_asked_failing(layout, &DynamicIsInterposable))?;
     fails(14, first_asked_failing(layout, &StubIsValue))?;
     fails(14, first_asked_failing(layout, &StubHasSlot))?;
