@@ -10,6 +10,7 @@ pub mod MisplacedLemmas
 pub mod OrderedLemmas
 pub mod PartialLemmas
 pub mod PassedLemmas
+pub mod PlacelessLemmas
 pub mod SlotPlaceLemmas
 pub mod StartLemmas
 pub mod UnlistedLemmas

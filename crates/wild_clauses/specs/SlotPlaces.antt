@@ -1,11 +1,12 @@
 -- Clause 11: where slots and stubs stand (x86-64 psABI, "Global Offset Table (GOT)", "Procedure Linkage Table").
 --   slots_astray l       the first symbol whose slot is not the next free word of its part, or whose stub is not the next free
 --                        stub, or whose slot no file writes
+--   has_no_places s      the symbol has neither
 --   slot_is_even s       a slot stands at a multiple of 8
 --   block_is_asked l p   a block of slots is there only where addresses are packed
 --   block_has_base p     and not at address 0
 --   pair_follows l       the pair of the output's own thread-local data stands behind the reserved words
-use Rattle.std.specs.Prelude.{ℕ, ◌+◌, ◌*◌, ◌%◌, ◌^◌, ◌≤◌, ◌==◌, Bool, true, not, ◌&&◌, ◌||◌, if◌then◌else◌, nat_lt, List, [], ◌∷◌, length, Option, Some, None, Result, Ok, Err, slice_range}
+use Rattle.std.specs.Prelude.{ℕ, ◌+◌, ◌*◌, ◌%◌, ◌^◌, ◌≤◌, ◌==◌, Bool, true, not, ◌&&◌, ◌||◌, if◌then◌else◌, nat_lt, List, [], ◌∷◌, length, Option, Some, None, is_some, Result, Ok, Err, slice_range}
 use Rattle.wild_types.specs.declared.part.Part.{Part}
 use Rattle.wild_types.specs.declared.part.Role.{Role}
 use Rattle.wild_types.specs.declared.part.Role.TheVariants as role
@@ -108,6 +109,10 @@ last_astray l (Ok n) = slot_before l n (length l.symbols)
 -- the first symbol that does not stand where it should
 abbrev pub slots_astray : Layout → Option ℕ
 slots_astray l = last_astray l (walk (group_step l) (first_free l) l.groups)
+
+-- a symbol that has neither a slot nor a stub stands nowhere
+abbrev pub has_no_places : Symbol → Bool
+has_no_places s = is_without s && not (is_some (plt_of s))
 
 -- ---- the other tests
 

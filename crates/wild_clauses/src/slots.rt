@@ -1,18 +1,18 @@
 //! Clause 11: where slots and stubs stand.
-ghost use Rattle.std.specs.Prelude.{◌≡◌, ◌+◌, ◌-◌, ◌*◌, ◌^◌, ◌<◌, ◌≤◌, length, slice_range, IfOk};
+ghost use Rattle.std.specs.Prelude.{◌≡◌, ◌+◌, ◌-◌, ◌*◌, ◌^◌, ◌<◌, ◌≤◌, length, slice_range, Ok, IfOk};
 ghost use Rattle.wild_types.specs.Lists.{first_failing};
-ghost use Rattle.wild_clauses.specs.SlotPlaces.{start_of, IsBounded, first_free, stands_at, stands_next, behind, walk, symbol_step, passed_without, slot_before, file_step, group_step, slots_astray};
+ghost use Rattle.wild_clauses.specs.SlotPlaces.{start_of, IsBounded, first_free, stands_at, stands_next, behind, walk, symbol_step, passed_without, slot_before, file_step, group_step, slots_astray, has_no_places};
 ghost use Rattle.wild_slot.specs.SlotParts.{begins_block};
 ghost use Rattle.wild_types.specs.SymbolSlots.{is_without};
-ghost use Rattle.wild_clauses.specs.ClauseTests.{check_slots};
+ghost use Rattle.wild_clauses.specs.ClauseTests.{check_indexes, check_slots};
 
 use crate::slot_parts::{BlockHasBase, BlockIsAsked, SlotIsEven};
 use crate::verdict::{fails, unless};
 use wild_needs::pair_words;
 use wild_slot::{STUB_SIZE, SlotWord, SymbolSlots, WORD_SIZE, WordPart, begins_block, count_words};
 use wild_types::{
-    Clause, File, Group, IsWithout, Layout, Role, Symbol, first_failing, got_of, is_without,
-    part_with, plt_of,
+    Clause, File, Group, IsWithout, Layout, Role, Symbol, Test, all_pass, first_failing, got_of,
+    is_without, part_with, plt_of,
 };
 
 /// The next free word of `got` and of `got_relr`, the next free stub of `plt_got`, and the symbol behind all that had their
@@ -206,18 +206,37 @@ fn walk_groups(layout: &Layout) -> Result<Free, usize>
     Ok(next)
 }
 
-/// The first symbol that does not stand next, or has a slot that no file writes.
+/// A symbol has neither a slot nor a stub.
+struct HasNoPlaces;
+
+impl Test<Symbol> for HasNoPlaces {
+    ghost test = { λ t. has_no_places };
+
+    fn passes(&self, symbol: &Symbol) -> bool {
+        is_without(symbol) && plt_of(symbol).is_none()
+    }
+}
+
+/// The first symbol that does not stand next, or has a slot that no file writes. Files are gone through only where a symbol has a
+/// slot or a stub.
+#[tactic(auto, using(crate::proofs::PlacelessLemmas::none_astray))]
 fn slots_astray(layout: &Layout) -> Option<usize>
+    requires indexes { check_indexes layout.now ≡ Ok tt }
     ensures { result ≡ slots_astray layout.now }
 {
+    if all_pass(&HasNoPlaces, layout.symbols.as_slice()) {
+        return None;
+    }
     match walk_groups(layout) {
         Ok(last) => slot_before(layout, last.symbol, layout.symbols.len()),
         Err(index) => Some(index),
     }
 }
 
+/// It is asked where the indexes hold.
 #[tactic(auto, unfolding(crate::specs::ClauseTests::check_slots))]
 pub(crate) fn check_slots(layout: &Layout) -> Result<(), Clause>
+    requires indexes { check_indexes layout.now ≡ Ok tt }
     ensures { result ≡ check_slots layout.now }
 {
     let symbols = layout.symbols.as_slice();
