@@ -1,8 +1,8 @@
 //! Clause 18: versions; and how many there are.
-ghost use Rattle.std.specs.Prelude.{◌≡◌, ◌-◌, ◌^◌, length, min, IfSome, Ok};
+ghost use Rattle.std.specs.Prelude.{◌≡◌, ◌-◌, ◌^◌, ◌&&◌, nat_le, length, min, IfSome, Ok};
 ghost use Rattle.std.specs.List.{filter};
 ghost use Rattle.wild_types.specs.Lists.{through, total};
-ghost use Rattle.wild_needs.specs.Versions.{has_needs, need_count, file_versions, group_versions, versions_needed, versions_fit};
+ghost use Rattle.wild_needs.specs.Versions.{has_needs, need_count, file_versions, group_versions, versions_needed, most_versions, versions_fit};
 ghost use Rattle.wild_clauses.specs.VersionTables.{parent_is_there, parent_fits, parent_astray, some_definition, definition_astray, mark_step, mark_astray};
 ghost use Rattle.wild_clauses.specs.ClauseTests.{check_counts, check_versions};
 
@@ -53,14 +53,20 @@ fn versions_needed(layout: &Layout) -> u64
     versions_of_groups(layout.groups.as_slice())
 }
 
+/// Whether each version that is needed can have an index. They are counted only where some library has any.
+#[tactic(auto, using(crate::proofs::VersionLemmas::none_needed), unfolding(wild_needs::specs::DynamicPlaces::need_number))]
+fn needs_fit(layout: &Layout) -> bool
+    ensures { result ≡ (nat_le (need_count layout.now) most_versions && nat_le (versions_needed layout.now) most_versions) }
+{
+    let count = need_count(layout);
+    count == 0 || count <= MOST_VERSIONS && versions_needed(layout) <= MOST_VERSIONS
+}
+
 /// Whether each version can have an index.
-#[tactic(auto, unfolding(wild_needs::specs::DynamicPlaces::need_number))]
 pub(crate) fn versions_fit(layout: &Layout) -> bool
     ensures { result ≡ versions_fit layout.now }
 {
-    layout.verdefs.len() as u64 <= MOST_VERSIONS
-        && need_count(layout) <= MOST_VERSIONS
-        && versions_needed(layout) <= MOST_VERSIONS
+    layout.verdefs.len() as u64 <= MOST_VERSIONS && needs_fit(layout)
 }
 
 /// A version's parent is one of the list.
@@ -169,6 +175,19 @@ fn exact_need_count(layout: &Layout) -> u64
     need_count(layout)
 }
 
+/// The first group with a mark that does not fit. None is looked for where no library has versions.
+#[tactic(auto, using(crate::proofs::VersionLemmas::nothing_marked))]
+fn wrong_mark(layout: &Layout) -> Option<usize>
+    requires counts { check_counts layout.now ≡ Ok tt }
+    ensures { result ≡ mark_astray (need_count layout.now) 0 layout.now.groups }
+{
+    let count = exact_need_count(layout);
+    if count == 0 {
+        return None;
+    }
+    mark_astray(count, layout.groups.as_slice())
+}
+
 /// It is asked where the counts fit.
 #[tactic(auto, unfolding(crate::specs::ClauseTests::check_versions))]
 pub(crate) fn check_versions(layout: &Layout) -> Result<(), Clause>
@@ -176,10 +195,7 @@ pub(crate) fn check_versions(layout: &Layout) -> Result<(), Clause>
     ensures { result ≡ check_versions layout.now }
 {
     fails(18, definition_astray(layout))?;
-    fails(
-        18,
-        mark_astray(exact_need_count(layout), layout.groups.as_slice()),
-    )?;
+    fails(18, wrong_mark(layout))?;
     let has_versions = is_there(Role::GnuVersion, layout.parts.as_slice());
     fails(18, unless(layout.options.versions == has_versions))
 }
