@@ -1,6 +1,7 @@
 pub mod AstrayLemmas
 pub mod BlockLemmas
 pub mod CopyLemmas
+pub mod CountLemmas
 pub mod CoverLemmas
 pub mod DynsymLemmas
 pub mod EarlierLemmas

@@ -1,8 +1,9 @@
 //! Clause 2: counts.
-ghost use Rattle.std.specs.Prelude.{◌≡◌, ◌-◌, ◌^◌, min};
+ghost use Rattle.std.specs.Prelude.{◌≡◌, ◌+◌, ◌-◌, ◌^◌, min, length};
 ghost use Rattle.wild_needs.specs.Needs.{total_share};
-ghost use Rattle.wild_clauses.specs.Counts.{lists_fit, counts_fit};
+ghost use Rattle.wild_clauses.specs.Counts.{symbols_of, table_fits, lists_fit, counts_fit};
 ghost use Rattle.wild_clauses.specs.Places.{relocations_in, relocations_of, relocation_count};
+ghost use Rattle.wild_types.specs.Lists.{total};
 ghost use Rattle.wild_clauses.specs.ClauseTests.{check_counts};
 
 use crate::verdict::{fails, unless};
@@ -43,6 +44,43 @@ fn relocation_count(layout: &Layout) -> u64
     count
 }
 
+/// How many symbols the ranges of a group's files have, at most 2^64 - 1.
+fn symbols_of_group(group: &Group) -> usize
+    ensures { result ≡ min (2 ^ 64 - 1) (symbols_of group.now) }
+{
+    let mut count: usize = 0;
+    for file in group.files.as_slice() {
+        count = count.saturating_add(file.symbol_count);
+    }
+    count
+}
+
+/// At most 2^64 - 1.
+fn symbols_of_groups(groups: &[Group]) -> usize
+    ensures { result ≡ min (2 ^ 64 - 1) (total symbols_of groups.now) }
+{
+    let mut count: usize = 0;
+    for group in groups {
+        count = count.saturating_add(symbols_of_group(group));
+    }
+    count
+}
+
+/// The dynamic symbol table has no more entries than that.
+fn most_entries(layout: &Layout) -> usize
+    ensures { result ≡ min (2 ^ 64 - 1) (min (2 ^ 64 - 1) (total symbols_of layout.now.groups) + length layout.now.dynsyms) }
+{
+    symbols_of_groups(layout.groups.as_slice()).saturating_add(layout.dynsyms.len())
+}
+
+/// Whether that table is not too long. Its entries are counted only where that is not known by the files' ranges.
+#[tactic(auto, using(crate::proofs::CountLemmas::few_entries))]
+fn table_fits(layout: &Layout) -> bool
+    ensures { result ≡ table_fits layout.now }
+{
+    most_entries(layout) < (1 << 32) - 1 || table_length(layout) < (1 << 32) - 1
+}
+
 /// Whether no list is too long.
 fn lists_fit(layout: &Layout) -> bool
     ensures { result ≡ lists_fit layout.now }
@@ -53,7 +91,7 @@ fn lists_fit(layout: &Layout) -> bool
         && sections < 1 << 31
         && layout.segments.len() <= 65534
         && layout.symbols.len() < (1 << 32) - 1
-        && table_length(layout) < (1 << 32) - 1
+        && table_fits(layout)
         && relocation_count(layout) < (1 << 32) - 1
         && 1 <= groups
         && groups < (1 << 32) - 1
