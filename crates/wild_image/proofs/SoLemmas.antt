@@ -15,11 +15,11 @@ use Rattle.wild_types.specs.declared.part.Role.TheVariants as role
 use Rattle.wild_types.specs.Hollow.{is_hollow_role, is_dropped}
 use Rattle.wild_types.specs.Lookups.{is_loaded, has_fields, is_written, is_frame, is_debug, is_given, is_filled, is_hollow_part}
 use Rattle.wild_laid.specs.Turned.{as_turned, turned}
-use Rattle.wild_laid.specs.FrameInputs.{frames_of, kept_size}
-use Rattle.wild_laid.specs.Laid.{without_relocations, unread, kept_relocations, origins_of, laid_by, laid_section, behind}
+use Rattle.wild_laid.specs.FrameInputs.{kept_size}
+use Rattle.wild_laid.specs.Laid.{without_relocations, laid_by, laid_section, behind}
 use Rattle.wild_layout.specs.Sites.{item_bytes, section_bytes, bytes_by, MovesApart}
 use Rattle.wild_layout.specs.Content.{frame_bytes_of}
-use Rattle.wild_layout.specs.Faults.{item_errors, bad_frames, stood_errors, stood_errors_by, section_errors}
+use Rattle.wild_layout.specs.Faults.{stood_errors, stood_errors_by, section_errors}
 use Rattle.wild_layout.specs.SectionPlaces.{SectionLies, FieldLies}
 use Rattle.wild_layout.proofs.MovedSites.{turned_or_stays}
 use Rattle.wild_image.specs.Pieces.{section_owned}

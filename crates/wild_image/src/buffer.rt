@@ -334,9 +334,34 @@ fn add_so<A: Arch>(
     )
 }
 
+/// Lays a section of that file and adds its bytes, or answers its first fault, where the file's next frames stand at an address; tells
+/// where those behind it stand.
+#[tactic(auto, using(crate::proofs::StoodLemmas::section_stood, crate::proofs::StoodLemmas::laid_whole, crate::proofs::StoodLemmas::laid_apart, wild_contents::proofs::LaidLemmas::room_of_laid))]
+fn add_laid<A: ShardedArch, R: Threads + Sync>(
+    by: &Workers<R>,
+    resolved: &Resolved<A>,
+    place: InputPlace,
+    file: &File,
+    at: u64,
+    section: &InputSection,
+    bytes: &mut GroupBytes,
+) -> Result<u64, Error>
+    requires lies { SectionLies resolved.now.layout.now (laid_section resolved.now.layout.now file.now at section.now) }
+    requires turned { IsTurned resolved.now.layout.now section.now }
+    requires kind { IsOfKind resolved.now.layout.now section.now }
+    ensures faults { Answers result (section_errors resolved.now.layout.now place.group place.file file.now at place.section section.now) }
+    ensures next { IfOk result (λ n. n ≡ behind at (kept_size resolved.now.layout.now file.now section.now)) }
+    ensures files { OnOk result (bytes.new.files ≡ bytes.old.files ++ section_owned resolved.now.layout.now file.now (laid_section resolved.now.layout.now file.now at section.now)) }
+    ensures frames { OnOk result (is_hollow_role resolved.now.layout.now EhFrame ≡ false → bytes.new.frames ≡ bytes.old.frames ++ frame_bytes_of resolved.now.layout.now file.now (laid_section resolved.now.layout.now file.now at section.now)) }
+    ensures tables { bytes.new.tables ≡ bytes.old.tables }
+{
+    let laid = lay(by.alloc, resolved.layout, file, at, section)?;
+    add_stood(by, resolved, place, file, &laid, bytes)?;
+    Ok(behind_frames(at, laid.section()))
+}
+
 /// Adds the bytes of a section of that file, or answers its first fault, where the file's next frames stand at an address; tells
 /// where those behind it stand. One that stands as the plan has it is not laid.
-#[tactic(auto, using(crate::proofs::StoodLemmas::section_stood, crate::proofs::StoodLemmas::laid_whole, crate::proofs::StoodLemmas::laid_apart, wild_contents::proofs::LaidLemmas::room_of_laid))]
 fn add_section<A: ShardedArch, R: Threads + Sync>(
     by: &Workers<R>,
     resolved: &Resolved<A>,
@@ -359,9 +384,7 @@ fn add_section<A: ShardedArch, R: Threads + Sync>(
         add_so(by.alloc, resolved, place, file, section, &mut bytes.files)?;
         return Ok(at);
     }
-    let laid = lay(by.alloc, resolved.layout, file, at, section)?;
-    add_stood(by, resolved, place, file, &laid, bytes)?;
-    Ok(behind_frames(at, laid.section()))
+    add_laid(by, resolved, place, file, at, section, bytes)
 }
 
 /// Adds the bytes of the sections of a file, whose frames stand from an address on, or answers their first fault; tells where those
@@ -621,26 +644,23 @@ fn add_group_files<A: ShardedArch, R: Threads + Sync>(
     check_symbol_tables(resolved, index, group.files.as_slice())
 }
 
-/// How many bytes some groups have of a part, 2^64 - 1 at most.
-fn room_of_part(groups: &[Group], part: usize) -> usize {
-    let mut size: usize = 0;
-    for group in groups {
-        size = size.saturating_add(group.given(part) as usize);
-    }
-    size
-}
-
-/// How many bytes some groups have of tables and of raw parts, so that their buffers are taken at once.
+/// How many bytes some groups have of raw parts and of tables, so that their buffers are taken at once.
 fn room_of_groups(layout: &Layout, groups: &[Group]) -> (usize, usize) {
     let mut files: usize = 0;
     let mut tables: usize = 0;
-    for (i, part) in layout.parts.as_slice().iter().enumerate() {
-        if layout.takes_file_bytes(part.section) {
-            let size = room_of_part(groups, i);
-            if has_role(Role::Raw, part) {
-                files = files.saturating_add(size);
-            } else {
-                tables = tables.saturating_add(size);
+    for group in groups {
+        for (part, size) in layout
+            .parts
+            .as_slice()
+            .iter()
+            .zip(group.part_sizes.as_slice())
+        {
+            if *size != 0 && layout.takes_file_bytes(part.section) {
+                if has_role(Role::Raw, part) {
+                    files = files.saturating_add(*size as usize);
+                } else {
+                    tables = tables.saturating_add(*size as usize);
+                }
             }
         }
     }

@@ -1,15 +1,8 @@
-use Rattle.std.proofs.Common.{◌≡◌, ◌<◌, ◌^◌, ◌++◌, ◌∙◌, true, List, ℕ, rules, sym, ap, subst}
+use Rattle.std.proofs.Common.{◌≡◌, ◌<◌, ◌^◌, ◌++◌, ◌∙◌, List, ℕ, rules, sym, ap, subst}
 use Rattle.std.proofs.lemmas.Result.{err_from_is_err_and}
-use Rattle.wild_types.specs.Lookups.{is_read}
-use Rattle.wild_laid.specs.Stood.{Stood}
-use Rattle.wild_image.specs.Stood.{StoodApart, HasOrigins, IsWhole}
 use Rattle.wild_layout.specs.SectionPlaces.{SectionLies}
-use Rattle.wild_image.specs.Append.{IsOfKind}
-use Rattle.wild_image.proofs.StoodLemmas.{laid_whole, laid_apart, laid_origins, laid_kind}
 use Rattle.wild_image.proofs.SoLemmas.{told, so_laid, so_faults, so_refuses, so_owned, so_frames, so_next}
 use Rattle.wild_image.proofs.buffer.add_section.Goals as goal
-
--- ---- one that stands as the plan has it
 
 pub add_so-requires-clause-lies : goal.add_so-requires-clause-lies
 add_so-requires-clause-lies g c =
@@ -52,22 +45,3 @@ returns-then-stands_so-clause-frames g c = λ written.
     let l = c.args.resolved.now.layout.now in
     let s = c.args.section.now in
     so_frames l c.args.file.now c.args.at s c.args.bytes.now.frames (told l s (sym c.stands_so.ensures ∙ c.if-stands_so.true))
-
--- ---- any other
-
-pub add_stood-requires-clause-whole : goal.add_stood-requires-clause-whole
-add_stood-requires-clause-whole g c κs within = subst (λ (x : Stood). IsWhole x.section) (sym c.in_ok-laid.ensures) (laid_whole c.args.resolved.now.layout.now c.args.file.now c.args.at c.args.section.now)
-
-pub add_stood-requires-clause-moves : goal.add_stood-requires-clause-moves
-add_stood-requires-clause-moves g c κs within =
-    let l = c.args.resolved.now.layout.now in
-    let f = c.args.file.now in
-    subst (λ (x : Stood). is_read x.section ≡ true → StoodApart l f x) (sym c.in_ok-laid.ensures) (laid_apart l f c.args.at c.args.section.now c.requires.turned)
-
-pub add_stood-requires-clause-kind : goal.add_stood-requires-clause-kind
-add_stood-requires-clause-kind g c κs within =
-    let l = c.args.resolved.now.layout.now in
-    subst (λ (x : Stood). IsOfKind l x.section) (sym c.in_ok-laid.ensures) (laid_kind l c.args.file.now c.args.at c.args.section.now c.requires.kind)
-
-pub add_stood-requires-clause-origins : goal.add_stood-requires-clause-origins
-add_stood-requires-clause-origins g c κs within = subst HasOrigins (sym c.in_ok-laid.ensures) (laid_origins c.args.resolved.now.layout.now c.args.file.now c.args.at c.args.section.now c.requires.kind)

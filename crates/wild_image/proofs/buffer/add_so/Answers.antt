@@ -1,4 +1,4 @@
-use Rattle.std.proofs.Common.{◌≡◌, List, length, All, sym, subst}
+use Rattle.std.proofs.Common.{List, length, All, sym, subst}
 use Rattle.wild_types.specs.declared.input.InputRelocation.{InputRelocation}
 use Rattle.wild_types.specs.Item.{Item, item_now}
 use Rattle.wild_layout.specs.SectionPlaces.{FieldLies}
