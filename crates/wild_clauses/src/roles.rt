@@ -1,5 +1,6 @@
 //! Clause 4: the roles.
-ghost use Rattle.std.specs.Prelude.{◌≡◌, []};
+ghost use Rattle.std.specs.Prelude.{◌≡◌, true, []};
+ghost use Rattle.wild_needs.specs.Needs.{is_bare_inside};
 ghost use Rattle.wild_clauses.specs.Counts.{role_given};
 ghost use Rattle.wild_types.specs.Parts.{has_role};
 ghost use Rattle.wild_clauses.specs.Places.{role_again, role_missing, role_not_at, program_headers_astray, dynamic_unasked};
@@ -8,7 +9,7 @@ ghost use Rattle.wild_clauses.specs.LoadedTables.{begins_behind, entries_follow}
 ghost use Rattle.wild_clauses.specs.ClauseTests.{check_roles};
 
 use crate::verdict::fails;
-use wild_needs::total_share;
+use wild_needs::{is_bare_inside, total_share_of};
 use wild_records::FileHeader;
 use wild_types::{
     Clause, Layout, OutputKind, Part, Role, Test, first_failing, has_role, is_there, part_with,
@@ -92,17 +93,20 @@ fn program_headers_astray(layout: &Layout) -> Option<usize>
     role_not_at(Role::ProgramHeaders, behind, layout.parts.as_slice())
 }
 
-/// A part of a role is there, or nothing has to be written in one.
-#[derive(Clone, Copy)]
+/// A part of a role is there, or nothing has to be written in one. The output is bare inside where `inside` says so.
+#[derive(Drop)]
 struct RoleGiven<'a> {
     layout: &'a Layout,
+    inside: bool,
+    ghost inside_is: { inside ≡ true → is_bare_inside layout.now ≡ true },
 }
 
 impl Test<Role> for RoleGiven<'_> {
     ghost test = { λ t. role_given t.layout.now };
 
     fn passes(&self, role: &Role) -> bool {
-        is_there(*role, self.layout.parts.as_slice()) || total_share(self.layout, *role) == 0
+        is_there(*role, self.layout.parts.as_slice())
+            || total_share_of(self.layout, self.inside, *role) == 0
     }
 }
 
@@ -158,12 +162,13 @@ pub(crate) fn check_roles(layout: &Layout) -> Result<(), Clause>
     ensures { result ≡ check_roles layout.now }
 {
     let parts = layout.parts.as_slice();
+    let inside = is_bare_inside(layout);
     fails(4, role_again(parts))?;
     fails(4, role_not_at(Role::FileHeader, 0, parts))?;
     fails(4, role_missing(Role::SectionHeaders, parts))?;
     fails(4, role_missing(Role::Shstrtab, parts))?;
     fails(4, program_headers_astray(layout))?;
     fails(4, first_failing(&EntriesFollow { parts }, parts))?;
-    fails(4, first_failing(&RoleGiven { layout }, &ROLES))?;
+    fails(4, first_failing(&RoleGiven { layout, inside }, &ROLES))?;
     fails(4, dynamic_unasked(layout))
 }

@@ -1,5 +1,5 @@
 -- Where no symbol has a slot or is another module's, a file is plain by its role and its sections alone.
-use Rattle.std.proofs.Common.{◌≡◌, ℕ, zero, suc, inl, inr, Bool, true, false, List, [], ◌∷◌, length, refl, sym, ap, ◌∙◌, arith}
+use Rattle.std.proofs.Common.{◌≡◌, ℕ, zero, suc, inl, inr, Bool, true, false, List, [], ◌∷◌, length, take, get_or, slice_range, ◌+◌, ◌-◌, ◌≤◌, refl, sym, ap, subst, ◌∙◌, arith}
 use Rattle.std.specs.Prelude.{if◌then◌else◌, not, ◌&&◌, ◌||◌, ◌==◌, option_map, unwrap_or, slice_get}
 use Rattle.std.specs.List.{list_all}
 use Rattle.std.proofs.lemmas.Bool.{cases_Bool, and_parts, and_from, eqb-true}
@@ -24,7 +24,7 @@ use Rattle.wild_laid.specs.FrameInputs.{kept_size}
 use Rattle.wild_laid.specs.Laid.{behind, laid_section, laid_sections, laid_file, of_last_file, sorted_sections}
 use Rattle.wild_needs.specs.declared.tally.Standing.{Standing}
 use Rattle.wild_needs.specs.Entries.{left_relocations, general_count}
-use Rattle.wild_needs.specs.Needs.{frames_room, has_plain_role, is_plain, is_alone, is_bare, is_fixed, is_bare_file, group_share}
+use Rattle.wild_needs.specs.Needs.{frames_room, has_plain_role, is_plain, is_alone, is_bare, is_fixed, is_bare_file, is_bare_group, inner, is_bare_inside, group_share, total_share}
 use Rattle.wild_needs.proofs.EntryLemmas.{fixed_stay}
 use Rattle.wild_needs.proofs.RoomLemmas.{frames_kept}
 use Rattle.wild_needs.proofs.ShareLemmas.{group_plain}
@@ -179,3 +179,47 @@ files_bare l (f ∷ fs) h k =
 -- a group of such files needs nothing
 pub bare_needs : (l : Layout) (g : Group) (told : Bool) → told ≡ list_all is_bare_file g.files → is_bare l ≡ true → told ≡ true → (r : Role) → group_share l r g ≡ 0
 bare_needs l g told is h k = λ r. group_plain l r g (sym (group_is_plain l g) ∙ files_bare l g.files h (sym is ∙ k))
+
+-- no symbol of such an output has a slot
+pub bare_without : (l : Layout) (told : Bool) → (told ≡ true → is_bare l ≡ true) → told ≡ true → list_all is_without l.symbols ≡ true
+bare_without l told h t = without l.symbols (and_parts (not (needs_dynamic l.kind) && not (has_table l)) (list_all is_alone l.symbols) (h t)).1
+
+-- ---- all groups
+
+pub bare_by_inside : (l : Layout) (told : Bool) → (told ≡ true → is_bare_inside l ≡ true) → told ≡ true → is_bare l ≡ true
+bare_by_inside l told h t = (and_parts (is_bare l) (list_all is_bare_group (inner l.groups)) (h t)).0
+
+groups_none : (l : Layout) (r : Role) (gs : List Group) → is_bare l ≡ true → list_all is_bare_group gs ≡ true → total (group_share l r) gs ≡ 0
+groups_none l r [] b h = refl
+groups_none l r (g ∷ gs) b h =
+    let p = and_parts (is_bare_group g) (list_all is_bare_group gs) h in
+    let here = bare_needs l g true (sym p.0) b refl r in
+    let rest = groups_none l r gs b p.1 in
+    omega (arith, here, rest)
+
+-- the last item, and those before it
+last_sum : {X : Type 0} (f : X → ℕ) (x : X) (xs : List X) (last : X) → last ≡ get_or (x ∷ xs) (length xs) last → total f (x ∷ xs) ≡ total f (take (length xs) (x ∷ xs)) + f last
+last_sum f x [] last is = let e = ap f is in omega (arith, e)
+last_sum f x (y ∷ ys) last is = let e = last_sum f y ys last is in omega (arith, e)
+
+-- where those between the first and the last come to nothing
+ends_sum : {X : Type 0} (f : X → ℕ) (xs : List X) (first last : X) → 2 ≤ length xs → first ≡ get_or xs 0 first → last ≡ get_or xs (length xs - 1) last → total f (slice_range xs 1 (length xs - 1)) ≡ 0 → total f xs ≡ f first + f last
+ends_sum f [] first last many = absurd (omega (arith, many))
+ends_sum f (x ∷ []) first last many = absurd (omega (arith, many))
+ends_sum {X} f (x ∷ y ∷ ys) first last many = λ begins ends none.
+    let at : length (x ∷ y ∷ ys) - 1 ≡ suc (length ys) = omega arith in
+    let count : length (x ∷ y ∷ ys) - 1 - 1 ≡ length ys = omega arith in
+    let A : ℕ → Type 0 = λ i. last ≡ get_or (x ∷ y ∷ ys) i last in
+    let B : ℕ → Type 0 = λ n. total f (take n (y ∷ ys)) ≡ 0 in
+    let e = ap f begins in
+    let r = last_sum f y ys last (subst A at ends) in
+    let z = subst B count none in
+    omega (arith, e, r, z)
+
+-- the first group and the last need what all do
+pub ends_need : (l : Layout) (r : Role) (gs : List Group) (first last : Group) → is_bare_inside l ≡ true → gs ≡ l.groups → 2 ≤ length gs → first ≡ get_or gs 0 first → last ≡ get_or gs (length gs - 1) last → total_share l r ≡ group_share l r first + group_share l r last
+ends_need l r gs first last h is many begins ends =
+    let p = and_parts (is_bare l) (list_all is_bare_group (inner l.groups)) h in
+    let Z : List Group → Type 0 = λ (xs : List Group). total (group_share l r) (slice_range xs 1 (length xs - 1)) ≡ 0 in
+    let none = subst Z (sym is) (groups_none l r (inner l.groups) p.0 p.1) in
+    ap (total (group_share l r)) (sym is) ∙ ends_sum (group_share l r) gs first last many begins ends none

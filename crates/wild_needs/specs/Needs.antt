@@ -4,8 +4,9 @@
 --   is_plain l f        the file writes nothing in any part but raw ones, as far as its role and its symbols' slots tell
 --   is_bare l           no symbol of the output has a slot or is another module's, and it has no dynamic section and no table of all symbols
 --   is_bare_file f       of such an output, a file that is plain by its role and its sections alone
+--   is_bare_inside l     such an output has groups of such files alone between the first and the last
 --   total_share l r      what all groups need of the part of a role
-use Rattle.std.specs.Prelude.{ℕ, ◌-◌, ◌^◌, ◌==◌, Bool, true, false, ◌&&◌, List, length, ◌+◌, ◌*◌, if◌then◌else◌, not, min, Option, Some, None, is_some, slice_get, slice_index_or}
+use Rattle.std.specs.Prelude.{ℕ, ◌-◌, ◌^◌, ◌==◌, Bool, true, false, ◌&&◌, List, length, ◌+◌, ◌*◌, if◌then◌else◌, not, min, Option, Some, None, is_some, slice_get, slice_range, slice_index_or}
 use Rattle.std.specs.List.{list_all, list_any}
 use Rattle.wild_types.specs.declared.layout.Layout.{Layout}
 use Rattle.wild_types.specs.declared.part.Role.{Role}
@@ -206,6 +207,18 @@ is_fixed s = not (is_frame s.slot) && not (writable s.flags)
 -- a file of such sections, neither the first nor the last, that has nothing copied
 abbrev pub is_bare_file : File → Bool
 is_bare_file f = not (is_prelude f.role) && not (is_epilogue f.role) && length (copies_of f) == 0 && list_all is_fixed f.sections
+
+-- a group of such files
+abbrev pub is_bare_group : Group → Bool
+is_bare_group g = list_all is_bare_file g.files
+
+-- the groups between the first and the last
+abbrev pub inner : List Group → List Group
+inner gs = slice_range gs 1 (length gs - 1)
+
+-- in a bare output these are such groups
+abbrev pub is_bare_inside : Layout → Bool
+is_bare_inside l = is_bare l && list_all is_bare_group (inner l.groups)
 
 -- the group has the last file
 abbrev pub has_last : Group → Bool

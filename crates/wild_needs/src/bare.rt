@@ -1,7 +1,7 @@
 //! Files that need nothing, known by their roles and sections alone: where no symbol of the output has a slot or is another module's.
 ghost use Rattle.std.specs.Prelude.{◌≡◌, true};
 ghost use Rattle.wild_types.specs.declared.part.Role.{Role};
-ghost use Rattle.wild_needs.specs.Needs.{is_alone, is_bare, is_fixed, is_bare_file, group_share};
+ghost use Rattle.wild_needs.specs.Needs.{is_alone, is_bare, is_fixed, is_bare_file, is_bare_group, inner, is_bare_inside, group_share};
 
 use wild_types::{
     File, Group, InputSection, Layout, Symbol, Test, all_pass, is_without, is_writable,
@@ -49,6 +49,31 @@ impl Test<File> for IsFixed {
             && file.copied().len() == 0
             && all_pass(self, file.sections.as_slice())
     }
+}
+
+impl Test<Group> for IsFixed {
+    ghost test = { λ t. is_bare_group };
+
+    fn passes(&self, group: &Group) -> bool {
+        all_pass(self, group.files.as_slice())
+    }
+}
+
+/// The groups between the first and the last.
+fn inner(groups: &[Group]) -> &[Group]
+    ensures { result.now ≡ inner groups.now }
+{
+    match groups {
+        [_, inner @ .., _] => inner,
+        _ => &[],
+    }
+}
+
+/// Whether an output is bare, with groups of such files alone between the first and the last: these need nothing.
+pub fn is_bare_inside(layout: &Layout) -> bool
+    ensures { result ≡ is_bare_inside layout.now }
+{
+    is_bare(layout) && all_pass(&IsFixed, inner(layout.groups.as_slice()))
 }
 
 /// Whether all files of a group are such. In such an output the group needs nothing.

@@ -16,7 +16,7 @@ mod tally;
 mod versions;
 mod walk;
 
-pub use bare::is_bare;
+pub use bare::{is_bare, is_bare_inside};
 pub use dynamic::{DynamicTag, dynamic_count, dynamic_entries_fit, dynamic_entry};
 pub use dynsyms::{dynsym_of, is_undefined_entry, table_length, undefined_count};
 pub use entries::{
@@ -26,7 +26,8 @@ pub use entries::{
 pub use entry::elf_entry_address;
 pub use section_symbols::section_symbol_count;
 pub use share::{
-    has_last, is_plain_group, name_bytes, needs, needs_nothing_in, total_share, whole_of,
+    has_last, is_plain_group, name_bytes, needs, needs_nothing_in, total_share, total_share_of,
+    whole_of,
 };
 pub use slot_shares::{Block, group_block, pair_words, words_in};
 pub use strings::{

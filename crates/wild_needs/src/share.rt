@@ -2,7 +2,7 @@
 ghost use Rattle.std.specs.Prelude.{◌≡◌, ℕ, ◌+◌, ◌-◌, ◌^◌, min, true, false, if◌then◌else◌};
 ghost use Rattle.std.specs.List.{list_all};
 ghost use Rattle.wild_types.specs.declared.part.Role.{Role};
-ghost use Rattle.wild_needs.specs.Needs.{total_share, name_bytes, whole_of, dynsym_count, version_count, last_of, sysv_room, gnu_room, last_dynamic, reads_sections, reads_places, own_of, is_static, first_share, share, has_last, last_share, group_share, needs_of, needs, is_plain, is_bare};
+ghost use Rattle.wild_needs.specs.Needs.{total_share, name_bytes, whole_of, dynsym_count, version_count, last_of, sysv_room, gnu_room, last_dynamic, reads_sections, reads_places, own_of, is_static, first_share, share, has_last, last_share, group_share, needs_of, needs, is_plain, is_bare, is_bare_inside};
 ghost use Rattle.wild_laid.specs.Laid.{behind, file_frames, laid_file, laid_files};
 ghost use Rattle.wild_types.specs.Lists.{total};
 ghost use Rattle.wild_needs.specs.Dynamic.{dynamic_count};
@@ -381,15 +381,17 @@ fn is_static(layout: &Layout, role: Role) -> bool
     }
 }
 
-/// Whether no group has anything to write in a part of that role, as far as that is known without a look at the files.
+/// Whether no group has anything to write in a part of that role, as far as that is known without a look at the files, of an output that is
+/// bare where `bare` says so.
 #[tactic(auto, using(crate::proofs::ShareLemmas::no_share))]
-fn needs_nothing(layout: &Layout, role: Role) -> bool
+fn needs_nothing(layout: &Layout, bare: bool, role: Role) -> bool
+    requires { bare ≡ true → is_bare layout.now ≡ true }
     ensures { result ≡ true → total_share layout.now role ≡ 0 }
 {
     !layout.kind.needs_dynamic()
         && !layout.has_table()
         && !is_static(layout, role)
-        && takes_none(layout, role)
+        && takes_none(layout, bare, role)
         && whole_of(layout, role) == 0
 }
 
@@ -405,12 +407,31 @@ fn share_of_group(layout: &Layout, bare: bool, role: Role, group: &Group) -> u64
     }
 }
 
-/// How many bytes all groups have to write in a part of that role, at most 2^64 - 1.
-pub fn total_share(layout: &Layout, role: Role) -> u64
+/// The same over all groups, where those between the first and the last need nothing.
+fn share_of_ends(layout: &Layout, role: Role) -> u64
+    requires { is_bare_inside layout.now ≡ true }
     ensures { result ≡ min (2 ^ 64 - 1) (total_share layout.now role) }
 {
-    if needs_nothing(layout, role) {
+    match layout.groups.as_slice() {
+        [first, .., last] => {
+            group_share(layout, role, first).saturating_add(group_share(layout, role, last))
+        }
+        [one] => group_share(layout, role, one),
+        [] => 0,
+    }
+}
+
+/// How many bytes all groups have to write in a part of that role, at most 2^64 - 1, of an output that is bare inside where `inside` says so.
+#[tactic(auto, using(crate::proofs::BareLemmas::bare_by_inside))]
+pub fn total_share_of(layout: &Layout, inside: bool, role: Role) -> u64
+    requires { inside ≡ true → is_bare_inside layout.now ≡ true }
+    ensures { result ≡ min (2 ^ 64 - 1) (total_share layout.now role) }
+{
+    if needs_nothing(layout, inside, role) {
         return 0;
+    }
+    if inside {
+        return share_of_ends(layout, role);
     }
     let bare = is_bare(layout);
     let mut sum: u64 = 0;
@@ -418,4 +439,11 @@ pub fn total_share(layout: &Layout, role: Role) -> u64
         sum = sum.saturating_add(share_of_group(layout, bare, role, group));
     }
     sum
+}
+
+/// How many bytes all groups have to write in a part of that role, at most 2^64 - 1.
+pub fn total_share(layout: &Layout, role: Role) -> u64
+    ensures { result ≡ min (2 ^ 64 - 1) (total_share layout.now role) }
+{
+    total_share_of(layout, false, role)
 }

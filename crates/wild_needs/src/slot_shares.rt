@@ -1,11 +1,12 @@
 //! What the slots and stubs of symbols take of the parts (x86-64 psABI, "Global Offset Table (GOT)", "Procedure Linkage
 //! Table").
-ghost use Rattle.std.specs.Prelude.{◌≡◌, ℕ, ◌+◌, ◌-◌, ◌*◌, ◌^◌, ◌≤◌, List, [], ◌∷◌, ◌++◌, length, min, ◌&&◌};
-ghost use Rattle.std.specs.List.{flat_map};
+ghost use Rattle.std.specs.Prelude.{◌≡◌, ℕ, ◌+◌, ◌-◌, ◌*◌, ◌^◌, ◌≤◌, List, [], ◌∷◌, ◌++◌, length, min, ◌&&◌, true};
+ghost use Rattle.std.specs.List.{flat_map, list_all};
 ghost use Rattle.wild_types.specs.FileSymbols.{own_symbols};
 ghost use Rattle.wild_slot.specs.SymbolWords.{slots_of};
-ghost use Rattle.wild_types.specs.SymbolSlots.{slots_at};
+ghost use Rattle.wild_types.specs.SymbolSlots.{slots_at, is_without};
 ghost use Rattle.wild_needs.specs.SlotShares.{words_in, entries_in, header_words, header_entries, symbol_share, is_of_slots, slot_share, header_share, takes_none, block_places, group_block, block_of, block_share};
+ghost use Rattle.wild_needs.specs.Needs.{is_bare};
 ghost use Rattle.wild_types.specs.Kinds.{is_position_independent};
 ghost use Rattle.wild_slot.specs.SlotParts.{flat_places, begins_block};
 ghost use Rattle.wild_types.specs.declared.part.Role.TheVariants.{PltGot};
@@ -157,12 +158,22 @@ pub(crate) fn header_share(layout: &Layout, role: Role) -> u64
     }
 }
 
-/// Whether slots take nothing of parts of that role, as far as that is known without a look at the files.
-pub(crate) fn takes_none(layout: &Layout, role: Role) -> bool
+/// Whether no symbol has a slot, of an output that is bare where `bare` says so.
+#[tactic(auto, using(crate::proofs::BareLemmas::bare_without))]
+fn are_without(layout: &Layout, bare: bool) -> bool
+    requires { bare ≡ true → is_bare layout.now ≡ true }
+    ensures { result ≡ list_all is_without layout.now.symbols }
+{
+    bare || all_pass(&IsWithout, layout.symbols.as_slice())
+}
+
+/// Whether slots take nothing of parts of that role, as far as that is known without a look at the files, of an output that is bare where
+/// `bare` says so.
+pub(crate) fn takes_none(layout: &Layout, bare: bool, role: Role) -> bool
+    requires { bare ≡ true → is_bare layout.now ≡ true }
     ensures { result ≡ takes_none layout.now role }
 {
-    !is_of_slots(role)
-        || (header_share(layout, role) == 0 && all_pass(&IsWithout, layout.symbols.as_slice()))
+    !is_of_slots(role) || (header_share(layout, role) == 0 && are_without(layout, bare))
 }
 
 /// Slots of eight bytes, one behind the other, whose places a group packs at once.
