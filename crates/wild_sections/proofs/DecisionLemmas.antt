@@ -1,5 +1,5 @@
 -- What is decided of a relocation, and its faults, where it is read.
-use Rattle.std.proofs.Common.{◌≡◌, ℕ, ◌<◌, List, [], false, length, get_or, refl, ap, subst}
+use Rattle.std.proofs.Common.{◌≡◌, ℕ, suc, ◌+◌, ◌<◌, Bool, List, [], false, length, get_or, refl, sym, ap, ◌∙◌, arith}
 use Rattle.std.specs.Prelude.{Option, Some, None, Result, Ok, Err, slice_get}
 use Rattle.std.proofs.lemmas.Option.{slice_get_read}
 use Rattle.wild_records.specs.Abi.Relocation.{r_x86_64_pc32}
@@ -11,7 +11,7 @@ use Rattle.wild_types.specs.Faults.{Refuses}
 use Rattle.wild_relax.specs.declared.reference.UnknownSequence.{UnknownSequence}
 use Rattle.wild_relax.specs.declared.row.Row.{Row}
 use Rattle.wild_layout.specs.declared.decision.Decision.{Decision}
-use Rattle.wild_layout.specs.Choice.{choice, is_partner, may_be_partner}
+use Rattle.wild_layout.specs.Choice.{choice, is_partner, may_take_next, takes_along, may_be_partner}
 use Rattle.wild_layout.specs.Decide.{decided, decide_with, decide}
 use Rattle.wild_layout.specs.Faults.{at_offset, refusal_at, relocation_errors}
 use Rattle.wild_layout.proofs.AskedLemmas.{none_before, no_choice}
@@ -24,6 +24,12 @@ common_keeps l s i r listed number before =
     let alone = none_before l s i before in
     let none = no_choice l s i r listed number in
     rw (alone, listed, none) refl
+
+-- the next one may be taken along where this one's type has rows for that
+pub partner_next : (rs : List InputRelocation) (i : ℕ) (r : InputRelocation) (told : Bool) → slice_get rs i ≡ Some r → told ≡ may_take_next r.number → told ≡ may_be_partner rs (i + 1)
+partner_next rs i r told listed is =
+    let e : suc i ≡ i + 1 = omega arith in
+    is ∙ sym (ap takes_along listed) ∙ ap (may_be_partner rs) e
 
 -- ---- the relocation that is asked about
 

@@ -71,3 +71,9 @@ value_more l i values next placed v before pushed is e =
     pushed ∙ ap (λ (xs : List (Option ℕ)). xs ++ v ∷ []) before
     ∙ ap (λ (x : Option ℕ). map (raw_value l) (range_with_len 0 i) ++ x ∷ []) (e ∙ ap (λ (o : Option (Option ℕ)). option_or (decided l i) (option_flatten o)) is ∙ sym (raw_value_is l i))
     ∙ sym (map-range_with_len_more (raw_value l) 0 i i (omega arith))
+
+-- the same of one that was decided
+pub decided_more : (l : Layout) (i : ℕ) (values next : List (Option ℕ)) (v : ℕ) → values ≡ map (raw_value l) (range_with_len 0 i) → next ≡ values ++ Some v ∷ [] → decided l i ≡ Some v → next ≡ map (raw_value l) (range_with_len 0 (i + 1))
+decided_more l i values next v before pushed is =
+    let placed : Option (Option ℕ) = found (address_in l) (files_of l.groups) i in
+    value_more l i values next placed (Some v) before pushed refl (sym (ap (λ (o : Option ℕ). option_or o (option_flatten placed)) is))

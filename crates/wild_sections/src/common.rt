@@ -1,19 +1,21 @@
 //! The most common relocations, which are decided without a look at anything else.
-ghost use Rattle.std.specs.Prelude.{◌≡◌, ℕ, ◌<◌, length, true, Ok, Some};
+ghost use Rattle.std.specs.Prelude.{◌≡◌, ℕ, true, false, Ok, Some, slice_get};
 ghost use Rattle.wild_records.specs.Abi.Relocation.{r_x86_64_pc32};
 ghost use Rattle.wild_reloc.specs.declared.info.RelocationSize.TheVariants.{ByteSize};
 ghost use Rattle.wild_reloc.specs.declared.info.Width.TheVariants.{Four};
 ghost use Rattle.wild_reloc.specs.declared.range.Sign.TheVariants.{Signed};
 ghost use Rattle.wild_reloc.specs.Range.{of_bits, contains};
+ghost use Rattle.wild_layout.specs.Choice.{may_be_partner, may_take_next};
 ghost use Rattle.wild_layout.specs.SymbolValues.{displacement};
 ghost use Rattle.wild_layout.specs.declared.decision.Decision.TheVariants.{Field};
 ghost use Rattle.wild_layout.specs.Decide.{decided, decide};
 ghost use Rattle.wild_types.specs.Lookups.{place_of};
 ghost use Rattle.wild_types.specs.Item.{item_now};
+ghost use Rattle.wild_sections.specs.Targets.{HasTargets};
 
-use crate::choice::may_be_partner;
 use crate::relocation::{distance_for, is_fixed_distance};
 use crate::resolve::displacement;
+use crate::target::target_in;
 use crate::values::Resolved;
 use wild_layout::Decision;
 use wild_records::abi::relocation::R_X86_64_PC32;
@@ -58,13 +60,15 @@ fn near(target: u64, start: u64, relocation: &InputRelocation) -> Option<u64>
 #[inline(always)]
 fn value_to_target<A: Arch>(
     resolved: &Resolved<A>,
+    targets: &[Option<u64>],
     item: &ItemRef,
     relocation: &InputRelocation,
 ) -> Option<u64>
-    requires { relocation.now.number ≡ r_x86_64_pc32 }
+    requires targets { HasTargets resolved.now.layout.now targets.now }
+    requires number { relocation.now.number ≡ r_x86_64_pc32 }
     ensures { (value : ℕ) → result ≡ Some value → decided resolved.now.layout.now (item_now item.now) relocation.now ≡ Ok (Field (ByteSize Four) value) }
 {
-    let target = resolved.target(relocation.symbol?)?;
+    let target = target_in(resolved, targets, relocation.symbol?)?;
     near(target, item.address, relocation)
 }
 
@@ -91,13 +95,15 @@ fn value_by_row<A: Arch>(
 #[inline(always)]
 fn value_of_common<A: Arch>(
     resolved: &Resolved<A>,
+    targets: &[Option<u64>],
     item: &ItemRef,
     relocation: &InputRelocation,
 ) -> Option<u64>
-    requires { relocation.now.number ≡ r_x86_64_pc32 }
+    requires targets { HasTargets resolved.now.layout.now targets.now }
+    requires number { relocation.now.number ≡ r_x86_64_pc32 }
     ensures { (value : ℕ) → result ≡ Some value → decided resolved.now.layout.now (item_now item.now) relocation.now ≡ Ok (Field (ByteSize Four) value) }
 {
-    match value_to_target(resolved, item, relocation) {
+    match value_to_target(resolved, targets, item, relocation) {
         Some(value) => Some(value),
         None => value_by_row(resolved, item, relocation),
     }
@@ -108,16 +114,20 @@ fn value_of_common<A: Arch>(
 #[inline(always)]
 pub(crate) fn common_value<A: Arch>(
     resolved: &Resolved<A>,
+    targets: &[Option<u64>],
     item: &ItemRef,
     index: usize,
+    relocation: &InputRelocation,
+    partner: bool,
 ) -> Option<u64>
-    requires index { index < length item.now.relocations.now }
-    ensures { (value : ℕ) → result ≡ Some value → decide resolved.now.layout.now (item_now item.now) index ≡ Ok (Field (ByteSize Four) value) }
+    requires targets { HasTargets resolved.now.layout.now targets.now }
+    requires listed { slice_get item.now.relocations.now index ≡ Some relocation.now }
+    requires partner { partner ≡ may_be_partner item.now.relocations.now index }
+    ensures is { (value : ℕ) → result ≡ Some value → decide resolved.now.layout.now (item_now item.now) index ≡ Ok (Field (ByteSize Four) value) }
+    ensures alone { (value : ℕ) → result ≡ Some value → may_take_next relocation.now.number ≡ false }
 {
-    let relocations = item.relocations;
-    let relocation = &relocations[index];
-    if relocation.number == COMMON && !may_be_partner(relocations, index) {
-        value_of_common(resolved, item, relocation)
+    if relocation.number == COMMON && !partner {
+        value_of_common(resolved, targets, item, relocation)
     } else {
         None
     }

@@ -13,6 +13,7 @@ ghost use Rattle.wild_layout.specs.SectionPlaces.{FieldLies};
 ghost use Rattle.wild_sections.specs.Origins.{ending_errors};
 ghost use Rattle.wild_sections.specs.Decided.{AreDecided, DecisionsLie, IsNext, decided_sites, decided_extents};
 
+use crate::choice::may_take_next;
 use crate::common::common_value;
 use crate::fields::{four_behind, write_behind, write_decision};
 use crate::origin::{Origin, check_ending};
@@ -126,31 +127,6 @@ fn write_decided<A: Arch>(
     Ok(write_behind(reach, relocation, decision, room))
 }
 
-/// The same, with the most common relocations first.
-#[inline(always)]
-fn write_next<A: Arch>(
-    resolved: &Resolved<A>,
-    origin: &Origin,
-    item: &ItemRef,
-    index: usize,
-    reach: u64,
-    room: &mut [u8],
-) -> Result<Option<u64>, Error>
-    requires index { index < length item.now.relocations.now }
-    requires origins { length origin.now.relocations.now ≡ length item.now.relocations.now }
-    requires lies { All (FieldLies resolved.now.layout.now.machine (length room.old)) item.now.relocations.now }
-    requires whole { length room.old ≡ length item.now.bytes.now }
-    ensures faults { Answers result (relocation_errors resolved.now.layout.now origin.now.place.group origin.now.place.file origin.now.place.section (item_now item.now) origin.now.relocations.now index) }
-    ensures next { IfOk result (λ next. IsNext resolved.now.layout.now (item_now item.now) index reach next room.old room.new) }
-{
-    let relocations = item.relocations;
-    let relocation = &relocations[index];
-    match common_value(resolved, item, index) {
-        Some(value) => Ok(four_behind(reach, relocation.offset, value, room)),
-        None => write_decided(resolved, origin, item, index, reach, room),
-    }
-}
-
 /// Writes the relocations of an item over its bytes, as long as what each writes begins where those before it
 /// end, or behind: tells whether all did, or answers the first fault of a relocation.
 fn write_ascending<A: Arch>(
@@ -167,9 +143,24 @@ fn write_ascending<A: Arch>(
     ensures apart { IfOk result (λ all. all ≡ true → shared_byte resolved.now.layout.now (item_now item.now) origin.now.relocations.now ≡ None) }
     ensures bytes { IfOk result (λ all. all ≡ true → room.new ≡ item_bytes resolved.now.layout.now (item_now item.now)) }
 {
+    let relocations = item.relocations;
+    let targets = resolved.targets();
     let mut reach = 0;
-    for index in 0..item.relocations.len() {
-        match write_next(resolved, origin, item, index, reach, room)? {
+    // Whether rows of the relocation before may take this one along.
+    let mut partner = false;
+    for index in 0..relocations.len() {
+        let relocation = &relocations[index];
+        let end = match common_value(resolved, targets, item, index, relocation, partner) {
+            Some(value) => {
+                partner = false;
+                four_behind(reach, relocation.offset, value, room)
+            }
+            None => {
+                partner = may_take_next(relocation.number);
+                write_decided(resolved, origin, item, index, reach, room)?
+            }
+        };
+        match end {
             Some(end) => reach = end,
             None => return Ok(false),
         }

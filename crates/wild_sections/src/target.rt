@@ -1,12 +1,14 @@
 //! The addresses that distances are counted to, where nothing but the symbol tells them.
-ghost use Rattle.std.specs.Prelude.{◌≡◌, ◌<◌, length, IfOk, slice_get};
+ghost use Rattle.std.specs.Prelude.{◌≡◌, ℕ, ◌<◌, length, Some, IfOk, slice_get};
 ghost use Rattle.wild_sections.specs.Owners.{asks_owners};
-ghost use Rattle.wild_sections.specs.Targets.{has_targets, may_be_merged, target_of, HasTargets};
+ghost use Rattle.wild_sections.specs.Targets.{has_targets, may_be_merged, target_of, HasTargets, IsTarget};
 ghost use Rattle.wild_sections.specs.Values.{HasValues};
 
 use crate::indirect::is_chosen;
 use crate::merged::is_section_symbol;
+use crate::values::Resolved;
 use std::alloc::{AllocError, Global};
+use wild_relax::Arch;
 use wild_types::{Layout, Machine, SymbolIndex};
 
 /// Whether S + A - P is written whatever the symbol is: in an output of x86-64 that does not move.
@@ -62,4 +64,22 @@ pub(crate) fn targets_of(
         targets.push(target_of(layout, values, asks, i))?;
     }
     Ok(targets)
+}
+
+/// What a distance to a symbol is counted to, by the table of these.
+#[inline(always)]
+#[tactic(auto, using(crate::proofs::TargetLemmas::target_at))]
+pub(crate) fn target_in<A: Arch>(
+    resolved: &Resolved<A>,
+    targets: &[Option<u64>],
+    symbol: SymbolIndex,
+) -> Option<u64>
+    requires { HasTargets resolved.now.layout.now targets.now }
+    ensures { (a : ℕ) → result ≡ Some a → IsTarget resolved.now.layout.now symbol a }
+{
+    if symbol.0 < targets.len() {
+        targets[symbol.0]
+    } else {
+        None
+    }
 }

@@ -17,7 +17,7 @@ ghost use Rattle.wild_types.specs.declared.input.MergedString.{MergedString};
 ghost use Rattle.wild_types.specs.declared.input.InputSection.{InputSection};
 ghost use Rattle.wild_sections.specs.Strings.{are_unmerged, all_ascend, section_ascends};
 ghost use Rattle.wild_sections.specs.Owners.{HasOwners, owner_among, asks_owners};
-ghost use Rattle.wild_sections.specs.Targets.{HasTargets, IsTarget};
+ghost use Rattle.wild_sections.specs.Targets.{HasTargets};
 ghost use Rattle.wild_sections.specs.Indexes.{HasIndexes};
 
 use crate::home::Home;
@@ -59,10 +59,28 @@ fn values_by(
     Ok(values)
 }
 
-/// The values of all symbols.
+/// The values that were decided of all symbols; none where one has none.
+fn decided_values(alloc: Global, layout: &Layout) -> Result<Option<Vec<Option<u64>>>, AllocError>
+    ensures { IfOk result (λ o. IfSome o (λ v. HasValues layout.now v.items)) }
+{
+    let count = layout.symbols.len();
+    let mut values = Vec::with_capacity(alloc, count)?;
+    for i in 0..count {
+        let Some(value) = decided(layout, SymbolIndex(i)) else {
+            return Ok(None);
+        };
+        values.push(Some(value))?;
+    }
+    Ok(Some(values))
+}
+
+/// The values of all symbols. The files are gone through where one has none that was decided.
 fn values_of(alloc: Global, layout: &Layout) -> Result<Vec<Option<u64>>, AllocError>
     ensures { IfOk result (λ v. HasValues layout.now v.items) }
 {
+    if let Some(values) = decided_values(alloc, layout)? {
+        return Ok(values);
+    }
     let mut placed = vec![in alloc; None; layout.symbols.len()]?;
     values_by(alloc, layout, &mut placed)
 }
@@ -191,17 +209,12 @@ impl<'a, A: Arch> Resolved<'a, A> {
         }
     }
 
-    /// What a distance to the symbol is counted to, where nothing but the symbol tells it.
+    /// What distances to symbols are counted to, where nothing but the symbol tells it.
     #[inline(always)]
-    #[tactic(auto, using(crate::proofs::TargetLemmas::target_at))]
-    pub(crate) fn target(&self, symbol: SymbolIndex) -> Option<u64>
-        ensures { (a : ℕ) → result ≡ Some a → IsTarget self.now.layout.now symbol a }
+    pub(crate) fn targets(&self) -> &[Option<u64>]
+        ensures { HasTargets self.now.layout.now result.now }
     {
-        if symbol.0 < self.targets.len() {
-            self.targets[symbol.0]
-        } else {
-            None
-        }
+        &self.targets
     }
 
     /// Whether symbols may stand for merged strings.
