@@ -31,6 +31,10 @@ start_places parts = record { dynstr = place_with role.Dynstr parts; strtab = pl
 abbrev pub no_starts : Starts ℕ
 no_starts = record { dynstr = 0; strtab = 0; frames = 0; locals = 0; globals = 0 }
 
+-- there is none of these parts
+abbrev pub nowhere : Starts (Option ℕ)
+nowhere = record { dynstr = None; strtab = None; frames = None; locals = None; globals = None }
+
 -- where the group's shares end
 abbrev pub starts_behind : Starts (Option ℕ) → Starts ℕ → Group → Starts ℕ
 starts_behind places from g = record {

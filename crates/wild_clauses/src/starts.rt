@@ -1,10 +1,10 @@
 //! Clause 16: where a group's strings, frames and symbols begin.
-ghost use Rattle.std.specs.Prelude.{ℕ, ◌≡◌, ◌+◌, ◌-◌, ◌*◌, ◌^◌, ◌≤◌};
-ghost use Rattle.wild_clauses.specs.GroupStarts.{AreBelow, given_at, place_with, start_places, no_starts, starts_behind, begins_at, start_astray};
+ghost use Rattle.std.specs.Prelude.{ℕ, true, ◌≡◌, ◌+◌, ◌-◌, ◌*◌, ◌^◌, ◌≤◌};
+ghost use Rattle.wild_clauses.specs.GroupStarts.{AreBelow, given_at, place_with, start_places, no_starts, nowhere, starts_behind, begins_at, start_astray};
 ghost use Rattle.wild_clauses.specs.ClauseTests.{check_starts};
 
 use crate::verdict::fails;
-use wild_types::{Clause, Group, Layout, Part, Role, has_role};
+use wild_types::{Clause, Group, Layout, Part, Role, Test, first_failing, has_role};
 
 /// Something of each of the parts whose shares have a start.
 #[derive(Clone, Copy)]
@@ -86,17 +86,23 @@ fn begins_at(from: Starts<u128>, group: &Group) -> bool
         && u128::from(group.symtab_global_start) == from.globals
 }
 
-/// The first group whose shares do not begin where those of the groups before it end.
-fn start_astray(places: Starts<Option<usize>>, groups: &[Group]) -> Option<usize>
-    ensures { result ≡ start_astray places no_starts 0 groups.now }
+fn no_starts() -> Starts<u128>
+    ensures { result ≡ no_starts }
 {
-    let mut from = Starts {
+    Starts {
         dynstr: 0,
         strtab: 0,
         frames: 0,
         locals: 0,
         globals: 0,
-    };
+    }
+}
+
+/// The first group whose shares do not begin where those of the groups before it end.
+fn start_astray(places: Starts<Option<usize>>, groups: &[Group]) -> Option<usize>
+    ensures { result ≡ start_astray places no_starts 0 groups.now }
+{
+    let mut from = no_starts();
     for (i, group) in groups.iter().enumerate() {
         if !begins_at(from, group) {
             return Some(i);
@@ -106,10 +112,49 @@ fn start_astray(places: Starts<Option<usize>>, groups: &[Group]) -> Option<usize
     None
 }
 
+/// Whether there is none of these parts.
+fn is_nowhere(places: Starts<Option<usize>>) -> bool
+    ensures { result ≡ true → places ≡ nowhere }
+{
+    match places {
+        Starts {
+            dynstr: None,
+            strtab: None,
+            frames: None,
+            locals: None,
+            globals: None,
+        } => true,
+        _ => false,
+    }
+}
+
+/// The group's shares begin at 0.
+struct BeginsAtFront;
+
+impl Test<Group> for BeginsAtFront {
+    ghost test = { λ t. begins_at no_starts };
+
+    fn passes(&self, group: &Group) -> bool {
+        begins_at(no_starts(), group)
+    }
+}
+
+/// The same. Where there is none of the parts, no share is added up.
+#[tactic(auto, using(crate::proofs::StartLemmas::none_begins))]
+fn first_astray(places: Starts<Option<usize>>, groups: &[Group]) -> Option<usize>
+    ensures { result ≡ start_astray places no_starts 0 groups.now }
+{
+    if is_nowhere(places) {
+        first_failing(&BeginsAtFront, groups)
+    } else {
+        start_astray(places, groups)
+    }
+}
+
 #[tactic(auto, unfolding(crate::specs::ClauseTests::check_starts))]
 pub(crate) fn check_starts(layout: &Layout) -> Result<(), Clause>
     ensures { result ≡ check_starts layout.now }
 {
     let places = start_places(layout.parts.as_slice());
-    fails(16, start_astray(places, layout.groups.as_slice()))
+    fails(16, first_astray(places, layout.groups.as_slice()))
 }
