@@ -1,5 +1,5 @@
 -- Symbols and files side by side find the first symbol astray.
-use Rattle.std.proofs.Common.{◌≡◌, ℕ, zero, suc, ◌+◌, ◌-◌, ◌<◌, ◌≤◌, inl, inr, true, false, List, [], ◌∷◌, ◌++◌, length, take, drop, get_or, refl, sym, ap, ◌∙◌, subst, arith, drop-cons}
+use Rattle.std.proofs.Common.{◌≡◌, ℕ, Bool, zero, suc, ◌+◌, ◌-◌, ◌<◌, ◌≤◌, inl, inr, true, false, List, [], ◌∷◌, ◌++◌, length, take, drop, get_or, refl, sym, ap, ◌∙◌, subst, arith, drop-cons}
 use Rattle.std.specs.Prelude.{Option, Some, None, is_some, option_and_then, unwrap_or, Result, Ok, Err, ◌&&◌, ◌==◌, if◌then◌else◌, nat_le, nat_lt}
 use Rattle.std.specs.Bool.{MatchBool}
 use Rattle.std.proofs.lemmas.Bool.{cases_Bool, leb-true, and_parts}
@@ -9,10 +9,10 @@ use Rattle.wild_types.specs.declared.symbol.Symbol.{Symbol}
 use Rattle.wild_types.specs.declared.file.File.{File}
 use Rattle.wild_types.specs.declared.file.Group.{Group}
 use Rattle.wild_types.specs.declared.layout.Layout.{Layout}
-use Rattle.wild_types.specs.Lists.{first_failing}
+use Rattle.wild_types.specs.Lists.{first_failing, through}
 use Rattle.wild_types.specs.Lookups.{files_of, file_of}
-use Rattle.wild_clauses.specs.Indexes.{section_count, symbol_indexes_fit, symbol_misfit}
-use Rattle.wild_clauses.specs.Astray.{ranges_lie, all_ranges_lie, count_in, or_first, found_or, gap_astray, range_astray, file_walk, go_on, files_walk, groups_walk, walk_end}
+use Rattle.wild_clauses.specs.Indexes.{section_count, symbol_indexes_fit, symbol_misfit, range_follows, or_place, range_out_of_order}
+use Rattle.wild_clauses.specs.Astray.{range_lies, ranges_lie, all_ranges_lie, count_in, or_first, found_or, gap_astray, range_astray, file_walk, go_on, files_walk, groups_walk, walk_end}
 use Rattle.wild_types.specs.FileSymbols.{range_of}
 
 -- how many input sections the file of a symbol has
@@ -206,3 +206,33 @@ pub own_later : (gs : List Group) (k i : ℕ) (g : Group) (fs : List File) → k
 own_later gs k i g fs lt e same none =
     let none' : count_in g.files i ≡ None = subst (λ (xs : List File). count_in xs i ≡ None) same none in
     own_step gs k i g lt e ∙ rw none'
+
+-- ---- ranges that lie in order are out of order nowhere
+
+file_follows : (len end n : ℕ) (f : File) → range_lies len end f ≡ Some n → range_follows end f ≡ Some n
+file_follows len end n f h = by (f.symbol_count == 0) (nat_le end f.first_symbol) (nat_le (f.first_symbol + f.symbol_count) len) (Some (f.first_symbol + f.symbol_count)) h
+  where
+    by : (none from to : Bool) (next : Option ℕ) → (if none then Some end else (if from && to then next else None)) ≡ Some n → (if none then Some end else (if from then next else None)) ≡ Some n
+    by true from to next k = k
+    by false true true next k = k
+    by false true false next k = cc
+    by false false to next k = cc
+
+files_follow : (len end n : ℕ) (fs : List File) → ranges_lie len end fs ≡ Some n → through range_follows end fs ≡ Some n
+files_follow len end n [] h = h
+files_follow len end n (f ∷ fs) h = by (range_lies len end f) refl h (λ m. files_follow len m n fs)
+  where
+    by : (o : Option ℕ) → range_lies len end f ≡ o → option_and_then (λ m. ranges_lie len m fs) o ≡ Some n → ((m : ℕ) → ranges_lie len m fs ≡ Some n → through range_follows m fs ≡ Some n) → option_and_then (λ m. through range_follows m fs) (range_follows end f) ≡ Some n
+    by None e k again = cc
+    by (Some m) e k again = rw (file_follows len end m f e) (again m k)
+
+groups_follow : (len end i : ℕ) (gs : List Group) → is_some (all_ranges_lie len end gs) ≡ true → range_out_of_order end i gs ≡ None
+groups_follow len end i [] h = refl
+groups_follow len end i (g ∷ gs) h = by (ranges_lie len end g.files) refl h (λ m. groups_follow len m (i + 1) gs)
+  where
+    by : (o : Option ℕ) → ranges_lie len end g.files ≡ o → is_some (option_and_then (λ m. all_ranges_lie len m gs) o) ≡ true → ((m : ℕ) → is_some (all_ranges_lie len m gs) ≡ true → range_out_of_order m (i + 1) gs ≡ None) → or_place i (through range_follows end g.files) (λ next. range_out_of_order next (i + 1) gs) ≡ None
+    by None e k again = cc
+    by (Some m) e k again = rw (files_follow len end m g.files e) (again m k)
+
+pub none_out_of_order : (l : Layout) (lie : Bool) → lie ≡ is_some (all_ranges_lie (length l.symbols) 0 l.groups) → lie ≡ true → range_out_of_order 0 0 l.groups ≡ None
+none_out_of_order l lie e h = groups_follow (length l.symbols) 0 0 l.groups (sym e ∙ h)

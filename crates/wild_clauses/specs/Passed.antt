@@ -1,13 +1,25 @@
--- The tests of clause 8 on one input section at once, and those on parts; and the tests of clause 10 on one relocation.
-use Rattle.std.specs.Prelude.{Bool, ◌&&◌}
+-- What each clause asks of one file by itself, of all clauses at once: one walk tells whether all of it holds.
+--   relocation_passes l s r   the relocation passes each test that clauses ask of one by itself
+--   section_passes l s        so do the section and its relocations
+--   file_passes l f           so do the file and its sections
+--   group_passes l g          so do the files, and there is a share for each part
+--   groups_pass l             so do all groups
+--   parts_fit l               the tests of clause 8 on parts
+use Rattle.std.specs.Prelude.{Bool, ◌==◌, ◌&&◌, ◌||◌, nat_lt, nat_le, ◌+◌, length}
 use Rattle.std.specs.List.{list_all}
-use Rattle.wild_types.specs.declared.kind.Machine.{Machine}
 use Rattle.wild_types.specs.declared.input.InputRelocation.{InputRelocation}
 use Rattle.wild_types.specs.declared.input.InputSection.{InputSection}
+use Rattle.wild_types.specs.declared.file.File.{File}
+use Rattle.wild_types.specs.declared.file.Group.{Group}
 use Rattle.wild_types.specs.declared.layout.Layout.{Layout}
-use Rattle.wild_clauses.specs.Contents.{length_fits, frames_part_fits, discarded_is_empty, part_is_raw, merged_is_raw, identity_is_raw, primary_fits, front_is_free, allocation_agrees, bytes_take_room, field_lies, is_read_well}
+use Rattle.wild_clauses.specs.Places.{ends_low}
+use Rattle.wild_clauses.specs.Contents.{has_share_for_each_part, length_fits, frames_part_fits, discarded_is_empty, part_is_raw, merged_is_raw, identity_is_raw, primary_fits, front_is_free, allocation_agrees, bytes_take_room, field_lies, is_read_well}
+use Rattle.wild_clauses.specs.Indexes.{index_fits, header_is_there, relocation_index_fits, symbol_is_there, block_is_there}
+use Rattle.wild_clauses.specs.ZeroFree.{name_fits, input_name_fits, needs_names_fit}
+use Rattle.wild_clauses.specs.Fronts.{reversed_fits}
+use Rattle.wild_clauses.specs.Partial.{is_of_kind}
 
--- the section passes each of them
+-- the tests of clause 8 on a section
 abbrev pub passes_all : Layout → InputSection → Bool
 passes_all l s = length_fits s && (frames_part_fits l s && (discarded_is_empty s && (part_is_raw l s && (allocation_agrees l s && bytes_take_room l s))))
 
@@ -15,9 +27,39 @@ passes_all l s = length_fits s && (frames_part_fits l s && (discarded_is_empty s
 abbrev pub parts_fit : Layout → Bool
 parts_fit l = list_all (merged_is_raw l) l.merged && (identity_is_raw l && (primary_fits l && front_is_free l))
 
--- the field of the relocation lies in the section, and the reader of the input did not fail at it
-abbrev pub field_passes : Machine → InputSection → InputRelocation → Bool
-field_passes m s r = field_lies m s r && is_read_well r
+-- clauses 9 and 10: its symbol is there, its field lies in the section, and the reader of the input did not fail at it
+unfoldable pub relocation_passes : Layout → InputSection → InputRelocation → Bool
+relocation_passes l s r = relocation_index_fits l r && (field_lies l.machine s r && is_read_well r)
 
-abbrev pub fields_pass : Machine → InputSection → Bool
-fields_pass m s = list_all (field_passes m s) s.relocations
+-- clause 9, but for relocations
+abbrev pub headers_are_there : Layout → InputSection → Bool
+headers_are_there l s = nat_lt s.part (length l.parts) && (index_fits (length l.sections) s.singleton && list_all (header_is_there l) s.members)
+
+-- clauses 1, 8, 9, 10, 19, 20 and 21
+unfoldable pub section_passes : Layout → InputSection → Bool
+section_passes l s =
+    ends_low s.address s.size
+    && (passes_all l s
+    && (headers_are_there l s
+    && (list_all (relocation_passes l s) s.relocations
+    && (input_name_fits s
+    && (reversed_fits l.machine s
+    && is_of_kind l s)))))
+
+-- clause 9, but for sections
+abbrev pub symbols_are_there : Layout → File → Bool
+symbols_are_there l f = (f.symbol_count == 0 || nat_le (f.first_symbol + f.symbol_count) (length l.symbols)) && (list_all (symbol_is_there l) f.copies && block_is_there l f)
+
+-- clause 19, but for sections
+abbrev pub library_names_fit : File → Bool
+library_names_fit f = name_fits f.lib_name && needs_names_fit f.verneed
+
+unfoldable pub file_passes : Layout → File → Bool
+file_passes l f = symbols_are_there l f && (library_names_fit f && list_all (section_passes l) f.sections)
+
+-- with clause 7
+unfoldable pub group_passes : Layout → Group → Bool
+group_passes l g = has_share_for_each_part (length l.parts) g && list_all (file_passes l) g.files
+
+unfoldable pub groups_pass : Layout → Bool
+groups_pass l = list_all (group_passes l) l.groups

@@ -138,7 +138,7 @@ fn ranges_lie(count: usize, end: usize, files: &[File]) -> Option<usize>
 }
 
 /// Whether the files' ranges ascend without overlap, within `count` symbols.
-fn all_ranges_lie(count: usize, groups: &[Group]) -> bool
+pub(crate) fn all_ranges_lie(count: usize, groups: &[Group]) -> bool
     ensures { result ≡ is_some (all_ranges_lie count 0 groups.now) }
 {
     let mut end = 0;
@@ -189,12 +189,9 @@ fn search(layout: &Layout) -> Option<usize>
 }
 
 /// The place of the first symbol whose definition, or whose place, is not there.
-pub(crate) fn symbol_misfit(layout: &Layout) -> Option<usize>
+pub(crate) fn symbol_misfit(layout: &Layout, lie: bool) -> Option<usize>
+    requires { lie ≡ is_some (all_ranges_lie (length layout.now.symbols) 0 layout.now.groups) }
     ensures { result ≡ symbol_misfit layout.now (files_of layout.now.groups) 0 layout.now.symbols }
 {
-    if all_ranges_lie(layout.symbols.len(), layout.groups.as_slice()) {
-        walk(layout)
-    } else {
-        search(layout)
-    }
+    if lie { walk(layout) } else { search(layout) }
 }

@@ -1,7 +1,7 @@
 //! Clause 10: fields.
-ghost use Rattle.std.specs.Prelude.{◌≡◌};
+ghost use Rattle.std.specs.Prelude.{◌≡◌, ◌&&◌};
 ghost use Rattle.wild_clauses.specs.Contents.{field_lies, fields_lie, is_read_well, relocations_are_read};
-ghost use Rattle.wild_clauses.specs.Passed.{field_passes, fields_pass};
+ghost use Rattle.wild_clauses.specs.Passed.{groups_pass};
 ghost use Rattle.wild_clauses.specs.ClauseTests.{check_fields};
 
 use crate::each_section::failing_group;
@@ -73,13 +73,13 @@ impl Test<InputSection> for IsRead {
 
 /// A relocation passes both tests.
 #[derive(Clone, Copy)]
-struct FieldPasses<'a> {
-    machine: Machine,
-    section: &'a InputSection,
+pub(crate) struct FieldPasses<'a> {
+    pub(crate) machine: Machine,
+    pub(crate) section: &'a InputSection,
 }
 
 impl Test<InputRelocation> for FieldPasses<'_> {
-    ghost test = { λ t. field_passes t.machine t.section.now };
+    ghost test = { λ t r. field_lies t.machine t.section.now r && is_read_well r };
 
     fn passes(&self, relocation: &InputRelocation) -> bool {
         let FieldPasses { machine, section } = *self;
@@ -87,30 +87,15 @@ impl Test<InputRelocation> for FieldPasses<'_> {
     }
 }
 
-/// Each relocation of a section does.
-#[derive(Clone, Copy)]
-struct FieldsPass {
-    machine: Machine,
-}
-
-impl Test<InputSection> for FieldsPass {
-    ghost test = { λ t. fields_pass t.machine };
-
-    fn passes(&self, section: &InputSection) -> bool {
-        let machine = self.machine;
-        let test = FieldPasses { machine, section };
-        all_pass(&test, section.relocations.as_slice())
-    }
-}
-
-/// The tests are asked one by one only where a relocation fails one of them.
-#[tactic(auto, using(crate::proofs::PassedLemmas::fields_pass_both), unfolding(crate::specs::ClauseTests::check_fields))]
-pub(crate) fn check_fields(layout: &Layout) -> Result<(), Clause>
+/// The tests are asked one by one only where a group fails one of them.
+#[tactic(auto, using(crate::proofs::PassedLemmas::fields_pass), unfolding(crate::specs::ClauseTests::check_fields))]
+pub(crate) fn check_fields(layout: &Layout, passed: bool) -> Result<(), Clause>
+    requires passed { passed ≡ groups_pass layout.now }
     ensures { result ≡ check_fields layout.now }
 {
     let machine = layout.machine;
     let groups = layout.groups.as_slice();
-    if failing_group(&FieldsPass { machine }, groups).is_none() {
+    if passed {
         return Ok(());
     }
     fails(10, failing_group(&FieldsLie { machine }, groups))?;

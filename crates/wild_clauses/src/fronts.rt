@@ -3,6 +3,7 @@ ghost use Rattle.std.specs.Prelude.{◌≡◌, ◌==◌, not, ◌&&◌, [], drop
 ghost use Rattle.std.specs.List.{list_any};
 ghost use Rattle.wild_clauses.specs.Fronts.{is_whole_word, reversed_fits, given_by, fills_front, merged_size, merged_fits, identity_fills, stands_in_front, front_shared, identity_is_alone, has_type, properties_differ, keeps_tables, dynamic_is_dropped, is_header_role, headers_are_kept};
 ghost use Rattle.wild_clauses.specs.ClauseTests.{check_reversed, check_fronts};
+ghost use Rattle.wild_clauses.specs.Passed.{groups_pass};
 
 use crate::each_section::failing_group;
 use crate::verdict::{fails, unless};
@@ -17,8 +18,8 @@ const WORD: u64 = 8;
 
 /// A section whose words are reversed has words alone, and relocations of whole words.
 #[derive(Clone, Copy)]
-struct ReversedFits {
-    machine: Machine,
+pub(crate) struct ReversedFits {
+    pub(crate) machine: Machine,
 }
 
 impl Test<InputRelocation> for ReversedFits {
@@ -38,10 +39,14 @@ impl Test<InputSection> for ReversedFits {
     }
 }
 
-#[tactic(auto, unfolding(crate::specs::ClauseTests::check_reversed))]
-pub(crate) fn check_reversed(layout: &Layout) -> Result<(), Clause>
+#[tactic(auto, using(crate::proofs::PassedLemmas::reversed_pass), unfolding(crate::specs::ClauseTests::check_reversed))]
+pub(crate) fn check_reversed(layout: &Layout, passed: bool) -> Result<(), Clause>
+    requires passed { passed ≡ groups_pass layout.now }
     ensures { result ≡ check_reversed layout.now }
 {
+    if passed {
+        return Ok(());
+    }
     let machine = layout.machine;
     let groups = layout.groups.as_slice();
     fails(20, failing_group(&ReversedFits { machine }, groups))

@@ -1,11 +1,14 @@
 //! Clause 9: indexes.
-ghost use Rattle.std.specs.Prelude.{◌≡◌, slice_get};
+ghost use Rattle.std.specs.Prelude.{◌≡◌, is_some, length, slice_get};
 ghost use Rattle.wild_clauses.specs.Indexes.{index_fits, part_index_fits, relocation_index_fits, symbol_is_there, header_is_there, section_indexes_fit, file_indexes_fit, group_indexes_fit, thunk_is_there, thunks_are_there, listed_is_there, section_is_there, file_is_there, sorted_is_there, merged_is_there, entry_is_there, definition_is_own, range_follows, range_out_of_order};
 ghost use Rattle.wild_types.specs.Lists.{through};
+ghost use Rattle.wild_clauses.specs.Astray.{all_ranges_lie};
 ghost use Rattle.wild_clauses.specs.ClauseTests.{check_indexes};
+ghost use Rattle.wild_clauses.specs.Passed.{headers_are_there, symbols_are_there, groups_pass};
 
-use crate::astray::{index_fits, symbol_misfit};
+use crate::astray::{all_ranges_lie, index_fits, symbol_misfit};
 use crate::copies::copied_again;
+use crate::passed::failing;
 use crate::verdict::{fails, unless};
 use crate::versions::ParentIsThere;
 use wild_types::{
@@ -16,8 +19,29 @@ use wild_words::Items;
 
 /// Whether the indexes in an item are those of something that is there.
 #[derive(Clone, Copy)]
-struct IndexesFit<'a> {
-    layout: &'a Layout,
+pub(crate) struct IndexesFit<'a> {
+    pub(crate) layout: &'a Layout,
+}
+
+impl IndexesFit<'_> {
+    /// Whether the indexes of a section are, but for those of its relocations.
+    pub(crate) fn headers_are_there(&self, section: &InputSection) -> bool
+        ensures { result ≡ headers_are_there self.now.layout.now section.now }
+    {
+        section.part < self.layout.parts.len()
+            && header_fits(self.layout.sections.len(), section.singleton)
+            && all_pass(self, section.members.as_slice())
+    }
+
+    /// Whether the indexes of a file are, but for those of its sections.
+    pub(crate) fn symbols_are_there(&self, file: &File) -> bool
+        ensures { result ≡ symbols_are_there self.now.layout.now file.now }
+    {
+        let end = file.first_symbol.0 as u128 + file.symbol_count as u128;
+        (file.symbol_count == 0 || end <= self.layout.symbols.len() as u128)
+            && all_pass(self, file.copies.as_slice())
+            && file.thunk_block < self.layout.thunk_blocks.len().max(1)
+    }
 }
 
 impl Test<Part> for IndexesFit<'_> {
@@ -66,10 +90,7 @@ impl Test<InputSection> for IndexesFit<'_> {
     ghost test = { λ t. section_indexes_fit t.layout.now };
 
     fn passes(&self, section: &InputSection) -> bool {
-        section.part < self.layout.parts.len()
-            && header_fits(self.layout.sections.len(), section.singleton)
-            && all_pass(self, section.members.as_slice())
-            && all_pass(self, section.relocations.as_slice())
+        self.headers_are_there(section) && all_pass(self, section.relocations.as_slice())
     }
 }
 
@@ -77,11 +98,7 @@ impl Test<File> for IndexesFit<'_> {
     ghost test = { λ t. file_indexes_fit t.layout.now };
 
     fn passes(&self, file: &File) -> bool {
-        let end = file.first_symbol.0 as u128 + file.symbol_count as u128;
-        (file.symbol_count == 0 || end <= self.layout.symbols.len() as u128)
-            && all_pass(self, file.sections.as_slice())
-            && all_pass(self, file.copies.as_slice())
-            && file.thunk_block < self.layout.thunk_blocks.len().max(1)
+        self.symbols_are_there(file) && all_pass(self, file.sections.as_slice())
     }
 }
 
@@ -186,6 +203,7 @@ fn ranges_end(end: u128, files: &[File]) -> Option<u128>
     Some(end)
 }
 
+/// The place of the first group with a range that begins before the end of the one ahead of it.
 fn range_out_of_order(groups: &[Group]) -> Option<usize>
     ensures { result ≡ range_out_of_order 0 0 groups.now }
 {
@@ -199,16 +217,31 @@ fn range_out_of_order(groups: &[Group]) -> Option<usize>
     None
 }
 
-#[tactic(auto, unfolding(crate::specs::ClauseTests::check_indexes))]
-pub(crate) fn check_indexes(layout: &Layout) -> Result<(), Clause>
+/// The same, which is asked only where the ranges do not lie in order.
+#[tactic(auto, using(crate::proofs::AstrayLemmas::none_out_of_order))]
+fn first_out_of_order(layout: &Layout, lie: bool) -> Option<usize>
+    requires { lie ≡ is_some (all_ranges_lie (length layout.now.symbols) 0 layout.now.groups) }
+    ensures { result ≡ range_out_of_order 0 0 layout.now.groups }
+{
+    if lie {
+        None
+    } else {
+        range_out_of_order(layout.groups.as_slice())
+    }
+}
+
+#[tactic(auto, using(crate::proofs::PassedLemmas::indexes_pass), unfolding(crate::specs::ClauseTests::check_indexes))]
+pub(crate) fn check_indexes(layout: &Layout, passed: bool) -> Result<(), Clause>
+    requires passed { passed ≡ groups_pass layout.now }
     ensures { result ≡ check_indexes layout.now }
 {
     let indexes = IndexesFit { layout };
     let groups = layout.groups.as_slice();
+    let lie = all_ranges_lie(layout.symbols.len(), groups);
     fails(9, first_failing(&indexes, layout.parts.as_slice()))?;
     fails(9, unless(layout.primary_part < layout.parts.len()))?;
-    fails(9, symbol_misfit(layout))?;
-    fails(9, first_failing(&indexes, groups))?;
+    fails(9, symbol_misfit(layout, lie))?;
+    fails(9, failing(passed, &indexes, groups))?;
     fails(9, first_failing(&indexes, layout.dynsyms.as_slice()))?;
     fails(
         9,
@@ -221,5 +254,5 @@ pub(crate) fn check_indexes(layout: &Layout) -> Result<(), Clause>
     fails(9, unless(entry_is_there(layout)))?;
     fails(9, copied_again(layout, groups))?;
     fails(9, first_failing(&indexes, layout.symbols.as_slice()))?;
-    fails(9, range_out_of_order(groups))
+    fails(9, first_out_of_order(layout, lie))
 }

@@ -1,8 +1,8 @@
 //! Clause 8: input sections in their parts.
-ghost use Rattle.std.specs.Prelude.{◌≡◌, slice_get};
+ghost use Rattle.std.specs.Prelude.{◌≡◌, Ok, slice_get};
 ghost use Rattle.wild_clauses.specs.Contents.{length_fits, may_lack_bytes, is_frames_part, frames_part_fits, discarded_is_empty, is_raw, part_is_raw, holds_bytes, merged_is_raw, identity_is_raw, holds_thunks, primary_fits, has_room, allocation_agrees, has_some, bytes_take_room};
-ghost use Rattle.wild_clauses.specs.Passed.{passes_all, parts_fit};
-ghost use Rattle.wild_clauses.specs.ClauseTests.{once_fits, check_inputs};
+ghost use Rattle.wild_clauses.specs.Passed.{passes_all, parts_fit, groups_pass};
+ghost use Rattle.wild_clauses.specs.ClauseTests.{once_fits, check_sizes, check_shares, check_inputs};
 
 use crate::each_section::failing_group;
 use crate::front::front_is_free;
@@ -200,8 +200,8 @@ impl Test<InputSection> for BytesTakeRoom<'_> {
 
 /// A section passes each of these tests.
 #[derive(Clone, Copy)]
-struct PassesAll<'a> {
-    layout: &'a Layout,
+pub(crate) struct PassesAll<'a> {
+    pub(crate) layout: &'a Layout,
 }
 
 impl Test<InputSection> for PassesAll<'_> {
@@ -228,9 +228,12 @@ fn parts_fit(layout: &Layout) -> bool
         && front_is_free(layout)
 }
 
-/// The tests are asked one by one only where a section fails one of them.
+/// It is asked where sizes and shares hold. The tests are asked one by one only where a group or a part fails one of them.
 #[tactic(auto, using(crate::proofs::PassedLemmas::inputs_pass), unfolding(crate::specs::ClauseTests::check_inputs))]
-pub(crate) fn check_inputs(layout: &Layout) -> Result<(), Clause>
+pub(crate) fn check_inputs(layout: &Layout, passed: bool) -> Result<(), Clause>
+    requires sizes { check_sizes layout.now ≡ Ok tt }
+    requires shares { check_shares layout.now ≡ Ok tt }
+    requires passed { passed ≡ groups_pass layout.now }
     ensures { result ≡ check_inputs layout.now }
 {
     let groups = layout.groups.as_slice();
@@ -240,7 +243,7 @@ pub(crate) fn check_inputs(layout: &Layout) -> Result<(), Clause>
         8,
         first_failing(&NamesSorted { layout }, layout.sorted.as_slice()),
     )?;
-    if failing_group(&PassesAll { layout }, groups).is_none() && parts_fit(layout) {
+    if passed && parts_fit(layout) {
         return Ok(());
     }
     fails(8, failing_group(&LengthFits, groups))?;

@@ -18,6 +18,7 @@ mod loaded;
 mod names;
 mod order;
 mod partial;
+mod passed;
 mod places;
 mod roles;
 mod sections;

@@ -2,7 +2,9 @@
 ghost use Rattle.std.specs.Prelude.{◌≡◌};
 ghost use Rattle.wild_clauses.specs.ZeroFree.{name_fits, given_name_fits, section_name_fits, symbol_name_fits, input_name_fits, version_name_fits, file_names_fit, group_names_fit, listed_name_fits, definition_name_fits, ends_with_zero, interp_fits};
 ghost use Rattle.wild_clauses.specs.ClauseTests.{check_names};
+ghost use Rattle.wild_clauses.specs.Passed.{library_names_fit, groups_pass};
 
+use crate::passed::failing;
 use crate::verdict::{fails, unless};
 use wild_types::{
     Clause, DynamicSymbol, File, Group, InputSection, Layout, NeededVersion, Section, Symbol, Test,
@@ -29,7 +31,20 @@ fn given_name_fits(name: &Option<Bytes>) -> bool
 }
 
 /// The names of an item have no zero byte.
-struct NamesFit;
+pub(crate) struct NamesFit;
+
+impl NamesFit {
+    /// Whether the file's name as a library does, and those of the versions that are needed of it.
+    pub(crate) fn library_names_fit(&self, file: &File) -> bool
+        ensures { result ≡ library_names_fit file.now }
+    {
+        name_fits(file.lib_name.as_slice())
+            && match &file.verneed {
+                Some(needs) => all_pass(self, needs.versions.as_slice()),
+                None => true,
+            }
+    }
+}
 
 impl Test<Bytes> for NamesFit {
     ghost test = { λ t. name_fits };
@@ -74,14 +89,8 @@ impl Test<NeededVersion> for NamesFit {
 impl Test<File> for NamesFit {
     ghost test = { λ t. file_names_fit };
 
-    /// The names of the file's sections, its own as a library, and those of the versions that are needed of it.
     fn passes(&self, file: &File) -> bool {
-        all_pass(self, file.sections.as_slice())
-            && name_fits(file.lib_name.as_slice())
-            && match &file.verneed {
-                Some(needs) => all_pass(self, needs.versions.as_slice()),
-                None => true,
-            }
+        all_pass(self, file.sections.as_slice()) && self.library_names_fit(file)
     }
 }
 
@@ -128,8 +137,9 @@ fn interp_fits(path: &[u8]) -> bool
     path.is_empty() || ends_with_zero(path)
 }
 
-#[tactic(auto, unfolding(crate::specs::ClauseTests::check_names))]
-pub(crate) fn check_names(layout: &Layout) -> Result<(), Clause>
+#[tactic(auto, using(crate::proofs::PassedLemmas::names_pass), unfolding(crate::specs::ClauseTests::check_names))]
+pub(crate) fn check_names(layout: &Layout, passed: bool) -> Result<(), Clause>
+    requires passed { passed ≡ groups_pass layout.now }
     ensures { result ≡ check_names layout.now }
 {
     let options = &layout.options;
@@ -138,7 +148,7 @@ pub(crate) fn check_names(layout: &Layout) -> Result<(), Clause>
     fails(19, first_failing(&NamesFit, options.auxiliary.as_slice()))?;
     fails(19, first_failing(&NamesFit, layout.sections.as_slice()))?;
     fails(19, first_failing(&NamesFit, layout.symbols.as_slice()))?;
-    fails(19, first_failing(&NamesFit, layout.groups.as_slice()))?;
+    fails(19, failing(passed, &NamesFit, layout.groups.as_slice()))?;
     fails(19, first_failing(&NamesFit, layout.dynsyms.as_slice()))?;
     fails(19, first_failing(&NamesFit, layout.verdefs.as_slice()))?;
     fails(19, unless(interp_fits(layout.interp.as_slice())))

@@ -3,6 +3,7 @@ ghost use Rattle.std.specs.Prelude.{◌≡◌, slice_get};
 ghost use Rattle.wild_clauses.specs.Partial.{has_no_segments, is_slotless, has_no_slot, has_no_pair, has_no_thunks, lists_no_symbols, is_indexless, has_no_index, is_no_debug, is_group, is_of_kind, has_entries, table_fits, file_tables_fit, tables_fit, group_fits_members, table_has_data};
 ghost use Rattle.wild_types.specs.Lookups.{is_rela};
 ghost use Rattle.wild_clauses.specs.ClauseTests.{check_partial};
+ghost use Rattle.wild_clauses.specs.Passed.{groups_pass};
 
 use crate::each_section::failing_group;
 use crate::verdict::{fails, unless};
@@ -122,8 +123,8 @@ fn is_group(slot: Slot) -> bool
 
 /// A table of relocations, a group and a section that is kept by itself are a relocatable object's.
 #[derive(Clone, Copy)]
-struct IsOfKind<'a> {
-    layout: &'a Layout,
+pub(crate) struct IsOfKind<'a> {
+    pub(crate) layout: &'a Layout,
 }
 
 impl Test<InputSection> for IsOfKind<'_> {
@@ -203,12 +204,16 @@ impl Test<InputSection> for TableHasData {
 }
 
 /// Of another output than a relocatable object all else follows from what only such an object has.
-#[tactic(auto, using(crate::proofs::PartialLemmas::no_partial), unfolding(crate::specs::ClauseTests::check_partial))]
-pub(crate) fn check_partial(layout: &Layout) -> Result<(), Clause>
+#[tactic(auto, using(crate::proofs::PartialLemmas::no_partial, crate::proofs::PassedLemmas::kinds_pass), unfolding(crate::specs::ClauseTests::check_partial))]
+pub(crate) fn check_partial(layout: &Layout, passed: bool) -> Result<(), Clause>
+    requires passed { passed ≡ groups_pass layout.now }
     ensures { result ≡ check_partial layout.now }
 {
     let groups = layout.groups.as_slice();
     if !layout.kind.is_partial_link() {
+        if passed {
+            return Ok(());
+        }
         return fails(21, failing_group(&IsOfKind { layout }, groups));
     }
     let symbols = layout.symbols.as_slice();

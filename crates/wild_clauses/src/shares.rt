@@ -4,9 +4,11 @@ ghost use Rattle.wild_types.specs.Lists.{total};
 ghost use Rattle.wild_types.specs.FilePlaces.{given, file_placed, later_placed, files_placed, file_misplaced};
 ghost use Rattle.wild_clauses.specs.Contents.{share_mismatch, has_share_for_each_part};
 ghost use Rattle.wild_clauses.specs.ClauseTests.{check_shares};
+ghost use Rattle.wild_clauses.specs.Passed.{groups_pass};
 
+use crate::passed::failing;
 use crate::verdict::fails;
-use wild_types::{Clause, File, Group, Layout, Part, Test, first_failing};
+use wild_types::{Clause, File, Group, Layout, Part, Test};
 
 fn total_given(part: usize, groups: &[Group]) -> u128
     ensures { result ≡ total (given part) groups.now }
@@ -31,8 +33,8 @@ fn share_mismatch(groups: &[Group], parts: &[Part]) -> Option<usize>
 
 /// A group has a share for each part.
 #[derive(Clone, Copy)]
-struct HasShareForEachPart {
-    count: usize,
+pub(crate) struct HasShareForEachPart {
+    pub(crate) count: usize,
 }
 
 impl Test<Group> for HasShareForEachPart {
@@ -82,13 +84,14 @@ fn file_misplaced(groups: &[Group]) -> Option<usize>
     None
 }
 
-#[tactic(auto, unfolding(crate::specs::ClauseTests::check_shares))]
-pub(crate) fn check_shares(layout: &Layout) -> Result<(), Clause>
+#[tactic(auto, using(crate::proofs::PassedLemmas::shares_pass), unfolding(crate::specs::ClauseTests::check_shares))]
+pub(crate) fn check_shares(layout: &Layout, passed: bool) -> Result<(), Clause>
+    requires passed { passed ≡ groups_pass layout.now }
     ensures { result ≡ check_shares layout.now }
 {
     let groups = layout.groups.as_slice();
     let count = layout.parts.len();
     fails(7, share_mismatch(groups, layout.parts.as_slice()))?;
-    fails(7, first_failing(&HasShareForEachPart { count }, groups))?;
+    fails(7, failing(passed, &HasShareForEachPart { count }, groups))?;
     fails(7, file_misplaced(groups))
 }

@@ -6,7 +6,9 @@ ghost use Rattle.wild_clauses.specs.Places.{ends_low, zero_or_power, part_fits, 
 ghost use Rattle.wild_types.specs.declared.file.File.{File};
 ghost use Rattle.wild_types.specs.declared.input.InputSection.{InputSection};
 ghost use Rattle.wild_clauses.specs.ClauseTests.{check_sizes};
+ghost use Rattle.wild_clauses.specs.Passed.{groups_pass};
 
+use crate::passed::failing;
 use crate::verdict::{fails, unless};
 use wild_types::{
     Clause, File, Group, InputSection, Layout, Part, Section, Segment, Test, all_pass,
@@ -26,7 +28,7 @@ fn zero_or_power(align: u64) -> bool
 }
 
 /// An item ends below 2^62 in memory and in the file, and its alignment is a power of two.
-struct SizesFit;
+pub(crate) struct SizesFit;
 
 impl Test<Part> for SizesFit {
     ghost test = { λ t. part_fits };
@@ -108,8 +110,9 @@ fn section_misfit(sections: &[Section]) -> Option<usize>
     }
 }
 
-#[tactic(auto, unfolding(crate::specs::ClauseTests::check_sizes))]
-pub(crate) fn check_sizes(layout: &Layout) -> Result<(), Clause>
+#[tactic(auto, using(crate::proofs::PassedLemmas::sizes_pass), unfolding(crate::specs::ClauseTests::check_sizes))]
+pub(crate) fn check_sizes(layout: &Layout, passed: bool) -> Result<(), Clause>
+    requires passed { passed ≡ groups_pass layout.now }
     ensures { result ≡ check_sizes layout.now }
 {
     let page = layout.page_size;
@@ -121,5 +124,5 @@ pub(crate) fn check_sizes(layout: &Layout) -> Result<(), Clause>
     fails(1, section_misfit(layout.sections.as_slice()))?;
     fails(1, first_failing(&SizesFit, layout.segments.as_slice()))?;
     fails(1, unless(layout.tls.align.is_power_of_two()))?;
-    fails(1, first_failing(&SizesFit, layout.groups.as_slice()))
+    fails(1, failing(passed, &SizesFit, layout.groups.as_slice()))
 }

@@ -15,6 +15,7 @@ use crate::loaded::Side;
 use crate::names::check_names;
 use crate::order::check_order;
 use crate::partial::check_partial;
+use crate::passed::groups_pass;
 use crate::roles::check_roles;
 use crate::sections::check_sections;
 use crate::segments::check_segments;
@@ -51,16 +52,17 @@ pub(crate) fn unless(ok: bool) -> Option<usize>
 pub fn well_formed(layout: &Layout) -> Result<(), Clause>
     ensures { result ≡ first_clause layout.now }
 {
-    check_sizes(layout)?;
+    let passed = groups_pass(layout);
+    check_sizes(layout, passed)?;
     check_counts(layout)?;
     check_order(layout)?;
     check_roles(layout)?;
     check_sections(layout)?;
     check_segments(layout)?;
-    check_shares(layout)?;
-    check_inputs(layout)?;
-    check_indexes(layout)?;
-    check_fields(layout)?;
+    check_shares(layout, passed)?;
+    check_inputs(layout, passed)?;
+    check_indexes(layout, passed)?;
+    check_fields(layout, passed)?;
     check_slots(layout)?;
     check_thunks(layout)?;
     check_dynsyms(layout)?;
@@ -69,8 +71,8 @@ pub fn well_formed(layout: &Layout) -> Result<(), Clause>
     check_starts(layout)?;
     check_hashes(layout)?;
     check_versions(layout)?;
-    check_names(layout)?;
-    check_reversed(layout)?;
-    check_partial(layout)?;
+    check_names(layout, passed)?;
+    check_reversed(layout, passed)?;
+    check_partial(layout, passed)?;
     check_fronts(layout)
 }

@@ -1,9 +1,8 @@
 use Rattle.std.proofs.Common.{sym, ap, ◌∙◌}
 use Rattle.wild_types.specs.Lists.{first_failing}
 use Rattle.wild_clauses.specs.ClauseTests.{fails}
-use Rattle.wild_clauses.specs.Contents.{each_section, names_sorted}
-use Rattle.wild_clauses.specs.Passed.{passes_all}
-use Rattle.wild_clauses.proofs.PassedLemmas.{none_of, inputs_pass}
+use Rattle.wild_clauses.specs.Contents.{names_sorted}
+use Rattle.wild_clauses.proofs.PassedLemmas.{inputs_pass}
 use Rattle.wild_clauses.proofs.inputs.check_inputs.Goals as goal
 
 pub returns-then-parts_fit : goal.returns-then-parts_fit
@@ -12,5 +11,5 @@ returns-then-parts_fit c =
     let placed = ap (fails 8) (sym c.section_misplaced.ensures) ∙ sym c.fails.ensures ∙ c.in_ok-fails.was in
     let once = ap (fails 8) (sym c.sorted_named_once.ensures) ∙ sym c.fails-2.ensures ∙ c.in_ok-fails-2.was in
     let named = ap (fails 8) (ap (first_failing (names_sorted l) 0) (sym c.as_slice.ensures) ∙ sym c.first_failing.ensures.is) ∙ sym c.fails-3.ensures ∙ c.in_ok-fails-3.was in
-    let passed = ap (first_failing (each_section (passes_all l)) 0) (sym c.as_slice-groups.ensures) ∙ sym c.failing_group.ensures ∙ none_of c.failing_group.result c.if-is_none.ensures in
+    let passed = sym c.requires.passed ∙ c.if-passed.true in
     sym (inputs_pass l placed once named passed (sym c.parts_fit.ensures ∙ c.if-parts_fit.true))
