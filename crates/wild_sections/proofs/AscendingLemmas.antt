@@ -1,5 +1,5 @@
 -- Laws of fields that are written one behind the other.
-use Rattle.std.proofs.Common.{◌≡◌, ℕ, ◌+◌, ◌<◌, ◌≤◌, inl, inr, true, false, List, [], ◌∷◌, ◌++◌, length, get_or, map, if◌then◌else◌, refl, sym, ap, ◌∙◌, arith, subst}
+use Rattle.std.proofs.Common.{◌≡◌, ℕ, ◌+◌, ◌<◌, ◌≤◌, inl, inr, List, [], ◌∷◌, ◌++◌, length, get_or, map, if◌then◌else◌, refl, sym, ap, ◌∙◌, arith, subst}
 use Rattle.std.specs.Prelude.{All, AllPairs, Option, Some, None, Ok, nat_lt, slice_get}
 use Rattle.std.specs.List.{flat_map, range_with_len}
 use Rattle.std.proofs.lemmas.Bool.{cases_lt, lt-ltb, le-ltb}
@@ -25,7 +25,6 @@ use Rattle.wild_layout.specs.Faults.{relocation_errors, relocations_errors}
 use Rattle.wild_layout.specs.SectionPlaces.{FieldLies}
 use Rattle.wild_layout.proofs.SiteLemmas.{LiesIn, length-field_site}
 use Rattle.wild_sections.specs.Decided.{put_decision, WrittenLies, DecisionLies, reach_of, reach_behind, IsNext}
-use Rattle.wild_sections.proofs.FaultLemmas.{Refuses-front}
 use Rattle.wild_sections.proofs.DecidedLemmas.{none_refused, refuses_decision, decision_site, put_next}
 use Rattle.wild_sections.proofs.InstructionLemmas.{length-instruction, decision_lies}
 

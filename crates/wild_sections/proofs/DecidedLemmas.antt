@@ -23,7 +23,7 @@ use Rattle.wild_layout.specs.declared.decision.Decision.{Decision}
 use Rattle.wild_layout.specs.declared.decision.Decision.TheVariants.{Nothing, Field, Moved, Left, Rewritten, Partner}
 use Rattle.wild_relax.specs.Linked.{pattern_size, template_of}
 use Rattle.wild_layout.specs.Decide.{decide}
-use Rattle.wild_layout.specs.Sites.{Written, written_by, field_site, template_site, site_by, site_of, site, extent_of, extent_back, extents_by, input_extents, shared_byte, MovesApart}
+use Rattle.wild_layout.specs.Sites.{Written, written_by, field_site, template_site, site_by, site_of, site, extent_back, extents_by, input_extents, shared_byte, MovesApart}
 use Rattle.wild_types.specs.Faults.{Refuses, Answers}
 use Rattle.wild_layout.specs.Faults.{relocation_errors, at_section, overlap_errors, relocations_errors, item_errors}
 use Rattle.wild_layout.specs.SectionPlaces.{FieldLies}

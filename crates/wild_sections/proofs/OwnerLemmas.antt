@@ -1,11 +1,11 @@
 -- Laws of the files of symbols, as a table of their places has them, and of layouts without merged sections.
-use Rattle.std.proofs.Common.{◌≡◌, ℕ, zero, suc, ◌+◌, ◌-◌, ◌<◌, ◌≤◌, inl, inr, Bool, true, false, List, [], ◌∷◌, ◌++◌, length, get_or, refl, sym, ap, ◌∙◌, arith, subst}
+use Rattle.std.proofs.Common.{◌≡◌, ℕ, suc, ◌+◌, ◌-◌, ◌<◌, ◌≤◌, inl, inr, Bool, true, false, List, [], ◌∷◌, ◌++◌, length, get_or, refl, sym, ap, ◌∙◌, arith, subst}
 use Rattle.std.specs.Prelude.{All, Option, Some, None, option_and_then, option_map, if◌then◌else◌, not, ◌||◌, slice_get}
 use Rattle.std.specs.Option.{option_or}
 use Rattle.std.specs.List.{list_all}
 use Rattle.std.proofs.lemmas.Bool.{cases_Bool, and_parts}
 use Rattle.std.proofs.lemmas.List.{get_or_read}
-use Rattle.std.proofs.lemmas.List.Elements.{All-nil, All-cons, All-append}
+use Rattle.std.proofs.lemmas.List.Elements.{All-nil, All-append}
 use Rattle.std.proofs.lemmas.Option.{slice_get_past}
 use Rattle.wild_words.proofs.ListLemmas.{All-from_list_all, holds_at}
 use Rattle.wild_types.specs.declared.input.Slot.{Slot}
@@ -26,7 +26,7 @@ use Rattle.wild_layout.specs.Merged.{is_section_symbol, strings_by, strings_of, 
 use Rattle.wild_layout.proofs.MergedLemmas.{HaveNoStrings, none_named, none_merged}
 use Rattle.wild_sections.specs.declared.owner.Owner.{Owner}
 use Rattle.wild_sections.specs.Strings.{offsets_ascend, section_ascends, is_other_slot, is_unmerged, are_unmerged, all_ascend}
-use Rattle.wild_sections.specs.Owners.{owned_by, owner_in, owner_among, file_at, asks_owners, HasOwners}
+use Rattle.wild_sections.specs.Owners.{owner_in, owner_among, file_at, asks_owners, HasOwners}
 
 -- ---- places of files
 

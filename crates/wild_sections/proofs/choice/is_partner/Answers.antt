@@ -1,6 +1,4 @@
-use Rattle.std.proofs.Common.{◌≡◌, ◌∙◌, List, false, sym, subst}
-use Rattle.wild_types.specs.declared.input.InputRelocation.{InputRelocation}
-use Rattle.wild_layout.specs.Choice.{may_be_partner}
+use Rattle.std.proofs.Common.{◌∙◌, sym}
 use Rattle.wild_layout.proofs.AskedLemmas.{none_before}
 use Rattle.wild_types.specs.Item.{item_now}
 use Rattle.wild_sections.proofs.choice.is_partner.Goals as goal

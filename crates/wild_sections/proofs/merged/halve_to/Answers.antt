@@ -1,4 +1,4 @@
-use Rattle.std.proofs.Common.{sym, ap, arith, rules}
+use Rattle.std.proofs.Common.{sym, rules}
 use Rattle.std.proofs.lemmas.List.Sorted.{IsPartitionPoint-from_clause}
 use Rattle.wild_types.specs.declared.input.MergedString.{MergedString}
 use Rattle.wild_sections.proofs.StringLemmas.{stands_before, parted, halved_none, halved_last}

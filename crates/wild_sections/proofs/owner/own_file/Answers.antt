@@ -1,6 +1,4 @@
-use Rattle.std.proofs.Common.{◌<◌, ◌≤◌, subst, arith, ◌∙◌, ap, length, Some, None}
-use Rattle.std.specs.Option.{option_or}
-use Rattle.std.proofs.lemmas.List.{get_or_read}
+use Rattle.std.proofs.Common.{◌<◌, ◌≤◌, subst, arith, length}
 use Rattle.wild_types.specs.declared.file.File.{File}
 use Rattle.wild_symbols.proofs.NoteLemmas.{note_more}
 use Rattle.wild_sections.proofs.owner.own_file.Goals as goal

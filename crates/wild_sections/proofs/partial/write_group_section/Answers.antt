@@ -1,4 +1,4 @@
-use Rattle.std.proofs.Common.{◌≡◌, ◌+◌, ◌*◌, ◌≤◌, length, take, ap, ◌∙◌, arith}
+use Rattle.std.proofs.Common.{◌+◌, ◌*◌, ◌≤◌, length, take, ap, ◌∙◌, arith}
 use Rattle.wild_sections.proofs.PartialLemmas.{flags_put, member_more, length-members}
 use Rattle.wild_sections.proofs.partial.write_group_section.Goals as goal
 

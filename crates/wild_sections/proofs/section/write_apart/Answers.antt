@@ -1,7 +1,7 @@
 use Rattle.std.proofs.lemmas.Result.{err_from_is_err_and}
 use Rattle.wild_types.specs.Item.{item_now}
 use Rattle.wild_sections.specs.Origins.{ending_errors}
-use Rattle.wild_sections.proofs.DecidedLemmas.{relocation_refused, ending_refused, overlap_refused, item_passes, decided_apart, decisions_lie, lies_in_bytes}
+use Rattle.wild_sections.proofs.DecidedLemmas.{ending_refused, overlap_refused, item_passes, decided_apart, decisions_lie, lies_in_bytes}
 use Rattle.wild_sections.proofs.section.write_apart.Goals as goal
 
 pub returns-in_err-check_overlap-clause-faults : goal.returns-in_err-check_overlap-clause-faults
