@@ -6,7 +6,7 @@ ghost use Rattle.wild_text.specs.Answer.{image_text, count_lines, hex_text, no_p
 use crate::warning::push_warnings;
 use std::alloc::{AllocError, Global};
 use std::fmt::Write;
-use wild_plan::{EntryWarning, Layout};
+use wild_types::{EntryWarning, Layout};
 
 /// How many bytes of an image a line shows.
 const LINE: usize = 32;

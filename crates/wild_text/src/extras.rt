@@ -7,7 +7,7 @@ use crate::fault::PlanFault;
 use crate::members::{Planned, closed, member, members, object};
 use serde_json::Value;
 use std::alloc::Global;
-use wild_plan::{Identity, Merged, Property, PropertyValue, SortedSection};
+use wild_types::{Identity, Merged, Property, PropertyValue, SortedSection};
 use wild_words::{Bytes, Items};
 
 impl Planned for SortedSection {

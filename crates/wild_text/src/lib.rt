@@ -1,6 +1,7 @@
 //! The texts of the program: which JSON value stands for which layout, and what is answered.
 #![tactic(auto)]
 
+mod ahead;
 mod answer;
 mod extras;
 mod fault;

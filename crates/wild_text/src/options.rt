@@ -7,7 +7,7 @@ use crate::fault::PlanFault;
 use crate::members::{Planned, closed, member, object};
 use serde_json::Value;
 use std::alloc::Global;
-use wild_plan::Options;
+use wild_types::Options;
 use wild_words::Items;
 
 /// Options of every output; all others are absent.

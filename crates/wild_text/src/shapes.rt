@@ -5,7 +5,7 @@ use crate::fault::PlanFault;
 use crate::members::{Planned, closed, member, members, object};
 use serde_json::Value;
 use std::alloc::Global;
-use wild_plan::{GnuHash, SymbolIndex, SysvHash, Thunk};
+use wild_types::{GnuHash, SymbolIndex, SysvHash, Thunk};
 
 impl Planned for SysvHash {
     ghost reads = { sysv_hash_in };

@@ -5,7 +5,7 @@ use crate::fault::PlanFault;
 use crate::members::{Planned, closed, member, members, object};
 use serde_json::Value;
 use std::alloc::Global;
-use wild_plan::{NeededVersion, VersionDefinition, VersionNeeds};
+use wild_types::{NeededVersion, VersionDefinition, VersionNeeds};
 use wild_words::{Bytes, Items};
 
 impl Planned for VersionDefinition {

@@ -5,7 +5,7 @@ ghost use Rattle.wild_text.specs.Answer.{is_control, shown_name, name_of, warnin
 
 use std::alloc::{AllocError, Global};
 use std::fmt::Write;
-use wild_plan::{EntryWarning, Layout, SymbolIndex};
+use wild_types::{EntryWarning, Layout, SymbolIndex};
 
 /// Whether a name has a control character of ASCII: a newline would end the line of the warning.
 fn has_control(name: &[u8]) -> bool
