@@ -15,3 +15,4 @@ pub mod StandingLemmas
 pub mod FrontLemmas
 pub mod StoodLemmas
 pub mod SoLemmas
+pub mod BareLemmas

@@ -1,7 +1,7 @@
 -- Groups that need nothing but their input sections.
 use Rattle.std.proofs.Common.{◌≡◌, ℕ, suc, ◌+◌, ◌<◌, ◌==◌, inl, inr, Bool, true, false, List, [], ◌∷◌, ◌++◌, length, get_or, refl, sym, ap, ◌∙◌, arith, subst}
 use Rattle.std.specs.Prelude.{min, ◌-◌, ◌^◌, Some, slice_get}
-use Rattle.std.proofs.lemmas.Bool.{cases_order}
+use Rattle.std.proofs.lemmas.Bool.{cases_order, eqb-true, le-ltb}
 use Rattle.std.proofs.lemmas.Option.{get_or_from_slice_get}
 use Rattle.wild_types.specs.declared.file.Group.{Group}
 use Rattle.wild_types.specs.declared.layout.Layout.{Layout}
@@ -9,6 +9,8 @@ use Rattle.wild_types.specs.declared.part.Part.{Part}
 use Rattle.wild_types.specs.declared.part.Role.{Role}
 use Rattle.wild_types.specs.declared.part.Role.TheVariants as role
 use Rattle.wild_types.specs.FilePlaces.{given}
+use Rattle.wild_types.specs.Parts.{has_role}
+use Rattle.wild_geometry.proofs.TableLemmas.{role_place-0}
 use Rattle.wild_needs.specs.Needs.{group_share, needs_of, needs}
 use Rattle.wild_layout.specs.Faults.{flat_map_from, has_spare, share_errors}
 use Rattle.wild_image.specs.Steps.{share_faults, part_faults}
@@ -33,6 +35,19 @@ errors_none false i j has needed a b = rw (a, b) refl
 pub share_plain : (l : Layout) (i j : ℕ) (p : Part) (g : Group) → slice_get l.parts i ≡ Some p → slice_get l.groups j ≡ Some g → given i g ≡ 0 → ((q : Role) → group_share l q g ≡ 0) → share_faults l i p j g ≡ []
 unfolding share_faults
 share_plain l i j p g part group zero_is none = errors_none (has_spare p g) i j (given i g) (needs l i j) zero_is (needs_none l i j p g part group zero_is none)
+
+-- a raw part needs what is given
+same_none : (spare : Bool) (i j n : ℕ) → share_errors spare i j n n ≡ []
+same_none spare i j n = let e = le-ltb n n (omega arith) in rw e refl
+
+raw_needed : (l : Layout) (i j : ℕ) (p : Part) (g : Group) → slice_get l.parts i ≡ Some p → slice_get l.groups j ≡ Some g → p.role ≡ role.Raw → needs l i j ≡ given i g
+unfolding needs
+raw_needed l i j p g part group raw = rw (part, group, raw) refl
+
+pub share_raw : (l : Layout) (i j : ℕ) (p : Part) (g : Group) → slice_get l.parts i ≡ Some p → slice_get l.groups j ≡ Some g → has_role role.Raw p ≡ true → share_faults l i p j g ≡ []
+unfolding share_faults
+share_raw l i j p g part group raw =
+    ap (share_errors (has_spare p g) i j (given i g)) (raw_needed l i j p g part group (role_place-0 p.role (eqb-true _ _ raw))) ∙ same_none (has_spare p g) i j (given i g)
 
 -- ---- no share has a fault
 

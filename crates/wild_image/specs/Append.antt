@@ -1,12 +1,12 @@
 -- Bytes that are taken from the front of others.
 --   BeginsWith own bytes   the bytes begin with its own
 --   GoesOn own from to     what stands behind its own
---   HasStarts l j starts   what the groups before group j are given of each part
+--   HasStarts l j starts   what the groups before group j write of each part
 --   GivesItsShares l g     a group gives to each table what it is given of it
 --   HasRolesOnce l         each role is of one part
 --   FileLies l f           all that a file has lies in its parts; EachFileLies l so does what all have
 --   GroupStands l g        so do the sections of a group's files, as they stand
-use Rattle.std.specs.Prelude.{◌≡◌, ℕ, ◌<◌, ◌≤◌, ◌^◌, true, false, List, [], ◌∷◌, ◌++◌, length, if◌then◌else◌, All, Contains, Some, slice_get, slice_index, slice_index_or}
+use Rattle.std.specs.Prelude.{◌≡◌, ℕ, ◌<◌, ◌≤◌, ◌^◌, true, false, List, [], ◌∷◌, ◌++◌, length, if◌then◌else◌, All, Contains, Option, Some, None, slice_get, slice_index, slice_index_or}
 use Rattle.wild_types.specs.declared.part.Part.{Part}
 use Rattle.wild_types.specs.declared.part.Role.{Role}
 use Rattle.wild_types.specs.declared.part.Role.TheVariants.{Raw}
@@ -28,7 +28,7 @@ use Rattle.wild_layout.specs.Content.{content}
 use Rattle.wild_layout.specs.Image.{given_before}
 use Rattle.wild_layout.specs.Image.{merged_bytes}
 use Rattle.wild_layout.specs.SectionPlaces.{SectionLies, HasWords, FrontLies, PartLies}
-use Rattle.wild_image.specs.Pieces.{standing}
+use Rattle.wild_image.specs.Pieces.{standing, written}
 use Rattle.wild_layout.specs.ThunkPlaces.{ThunkLies}
 
 -- the bytes begin with its own
@@ -39,10 +39,15 @@ BeginsWith own bytes = (rest : List ℕ) × (bytes ≡ own ++ rest)
 abbrev pub GoesOn : List ℕ → List ℕ → List ℕ → Type 0
 GoesOn own from to = (rest : List ℕ) → from ≡ own ++ rest → to ≡ rest
 
--- what the groups before group j are given of each part
+-- what the groups before group j write of part k
+abbrev pub start_of : Layout → ℕ → ℕ → Option Part → ℕ
+start_of l j k None = 0
+start_of l j k (Some p) = written l p (given_before l k j)
+
+-- and of each part
 pub record HasStarts (l : Layout) (j : ℕ) (starts : List ℕ) : Type 0 where
   pub count : length starts ≡ length l.parts
-  pub each : (k : ℕ) → k < length starts → slice_index starts k ≡ given_before l k j
+  pub each : (k : ℕ) → k < length starts → slice_index starts k ≡ start_of l j k (slice_get l.parts k)
 
 -- each part, as its groups share it
 abbrev pub EachPartLies : Layout → Type 0

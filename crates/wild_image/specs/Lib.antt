@@ -6,3 +6,4 @@ pub mod Pieces
 pub mod Steps
 pub mod Stood
 pub mod Owners
+pub mod Known

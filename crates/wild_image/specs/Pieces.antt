@@ -24,6 +24,7 @@ use Rattle.wild_types.specs.declared.layout.SortedSection.{SortedSection}
 use Rattle.wild_types.specs.declared.layout.Layout.{Layout}
 use Rattle.wild_types.specs.FileThunks.{thunks_of}
 use Rattle.wild_types.specs.Kinds.{is_partial_link}
+use Rattle.wild_types.specs.Parts.{has_role}
 use Rattle.wild_types.specs.Lookups.{section_of, has_range, is_filled, is_counted, has_data, is_hollow_at, is_hollow_part}
 use Rattle.wild_types.specs.Hollow.{is_dropped}
 use Rattle.wild_laid.specs.Turned.{as_turned}
@@ -111,6 +112,10 @@ group_files l g = flat_map (file_bytes l) g.files
 -- what a group gives to a table of which something is written
 abbrev pub table_given : Layout → Group → Part → List ℕ
 table_given l g p = if is_hollow_at l p.section then [] else content l p.role g
+
+-- of so many bytes that groups give to a part those that they write: none of a raw one, and none where nothing of its section is written
+abbrev pub written : Layout → Part → ℕ → ℕ
+written l p n = if is_hollow_at l p.section then 0 else if has_role role.Raw p then 0 else n
 
 -- to the tables, part by part
 abbrev pub group_tables : Layout → Group → List ℕ

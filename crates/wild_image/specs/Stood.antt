@@ -8,6 +8,7 @@
 --   stands_so l s                 it is loaded as the plan has it, with bytes of its own that are written; StandsSo l s is the same;
 --                                 so_errors l g f i file s its faults, so_bytes l file s its bytes
 --   IsMade l t                    the search table of frames was made, or its first fault was met
+--   is_plain_object f             it is an object that writes no thunks
 --   errors_behind l g f file      the faults of a file behind those of its sections; bytes_behind l f its bytes behind theirs
 use Rattle.std.specs.Prelude.{◌≡◌, ℕ, not, ◌&&◌, Bool, true, false, if◌then◌else◌, List, [], ◌∷◌, ◌++◌, map, length, replicate, Option, Some, None}
 use Rattle.std.specs.List.{flat_map}
@@ -15,6 +16,8 @@ use Rattle.wild_types.specs.declared.fault.Fault.{Fault}
 use Rattle.wild_types.specs.declared.fault.Error.{Error}
 use Rattle.wild_types.specs.declared.input.InputSection.{InputSection}
 use Rattle.wild_types.specs.declared.file.File.{File}
+use Rattle.wild_types.specs.declared.file.FileRole.{FileRole}
+use Rattle.wild_types.specs.declared.file.FileRole.TheVariants as file_role
 use Rattle.wild_types.specs.declared.layout.Layout.{Layout}
 use Rattle.wild_types.specs.Item.{item_of}
 use Rattle.wild_types.specs.declared.part.Role.TheVariants as role
@@ -95,6 +98,14 @@ first_of (f ∷ fs) = Some f
 pub record IsMade (l : Layout) (t : SearchTable) : Type 0 where
   pub fault : t.fault ≡ first_of (search_table_faults l)
   pub bytes : is_hollow_role l role.EhFrameHdr ≡ false → t.fault ≡ None → t.bytes ≡ search_table l
+
+-- an object that writes no thunks
+abbrev pub is_object : FileRole → Bool
+is_object file_role.Object = true
+is_object other = false
+
+abbrev pub is_plain_object : File → Bool
+is_plain_object f = is_object f.role && not f.owns_thunk_block
 
 -- the faults of a file behind those of its sections
 unfoldable pub errors_behind : Layout → ℕ → ℕ → File → List Error

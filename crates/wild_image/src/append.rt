@@ -5,19 +5,17 @@ ghost use Rattle.wild_words.specs.Words.{place};
 ghost use Rattle.wild_words.specs.Overlay.{overlay};
 ghost use Rattle.wild_types.specs.declared.file.File.{File};
 ghost use Rattle.wild_types.specs.declared.file.Group.{Group};
-ghost use Rattle.wild_types.specs.declared.part.Role.TheVariants.{Raw};
 ghost use Rattle.wild_types.specs.FileRoles.{is_prelude, is_epilogue};
 ghost use Rattle.wild_types.specs.Faults.{Answers};
 ghost use Rattle.wild_laid.specs.Laid.{of_last_file};
 ghost use Rattle.wild_types.specs.Lookups.{image_size, is_hollow_at, is_hollow_part};
-ghost use Rattle.wild_types.specs.Parts.{has_role};
 ghost use Rattle.wild_types.specs.FilePlaces.{given};
 ghost use Rattle.wild_types.specs.FileThunks.{thunks_of};
 ghost use Rattle.wild_layout.specs.Image.{unless_hollow, merged_bytes, front_piece, once_pieces, thunk_piece, thunk_pieces, of_first_file, given_before, table_piece, table_pieces};
 ghost use Rattle.wild_layout.specs.SectionPlaces.{FrontLies};
 ghost use Rattle.wild_layout.specs.ThunkPlaces.{ThunkLies};
 ghost use Rattle.wild_layout.specs.Thunks.{thunk_bytes, file_thunks};
-ghost use Rattle.wild_image.specs.Pieces.{has_some, has_room, some_by, ranged_room, table_given, place_in, file_sections, sorted_owned, all_sorted, once_bytes, ends_bytes, file_bytes, group_tables, group_files};
+ghost use Rattle.wild_image.specs.Pieces.{has_some, has_room, some_by, ranged_room, table_given, written, place_in, file_sections, sorted_owned, all_sorted, once_bytes, ends_bytes, file_bytes, group_tables, group_files};
 ghost use Rattle.wild_image.specs.Owners.{ranged_pieces, sorted_pieces, all_sorted_pieces, merged_piece, ends_pieces, standing_pieces};
 ghost use Rattle.wild_image.specs.Append.{BeginsWith, GoesOn, HasStarts, EachPartLies, RangedLies, SortedLies, SomeLies, MergedLies, FileLies, EachFileLies};
 ghost use Rattle.wild_image.specs.Batches.{AreBatches, IsWithin, GivesBatch, HasBatch, batch_errors, batch_pieces};
@@ -31,7 +29,7 @@ use wild_laid::sorted_input;
 use wild_sections::offset_of;
 use wild_types::{
     Error, File, Group, InputSection, Layout, Merged, Part, Role, Slot, SortedSection, THUNK_SIZE,
-    Thunk,
+    Thunk, has_role,
 };
 use wild_words::put;
 
@@ -349,36 +347,27 @@ fn append_files<'b>(layout: &Layout, group: &Group, bytes: &'b [u8], out: &mut [
     rest
 }
 
-/// How many of its bytes a group gives to a part: none of a raw one.
-fn table_size(part: &Part, group: &Group, i: usize) -> u64
-    ensures { result ≡ (if has_role Raw part.now then 0 else given i group.now) }
-{
-    match part.role {
-        Role::Raw => 0,
-        _ => group.given(i),
-    }
-}
-
-/// How many of these it writes: none where nothing of the part's section is written.
+/// How many bytes a group writes of what it gives to a part: none of a raw one, and none where nothing of the part's section is written.
 pub(crate) fn written_size(layout: &Layout, part: &Part, group: &Group, i: usize) -> u64
-    ensures { result ≡ (if is_hollow_at layout.now part.now.section then 0 else (if has_role Raw part.now then 0 else given i group.now)) }
+    ensures { result ≡ written layout.now part.now (given i group.now) }
 {
-    let size = table_size(part, group, i);
-    if size == 0 || layout.is_hollow_at(part.section) {
+    let size = group.given(i);
+    if size == 0 || has_role(Role::Raw, part) || layout.is_hollow_at(part.section) {
         0
     } else {
         size
     }
 }
 
-/// Puts what the group with that number gives to part i, the first of these bytes, into the image, behind what the
-/// groups before are given of it, unless nothing of its section is written, and tells what stands behind that.
+/// Puts what the group with that number gives to part i, the first `size` of these bytes, into the image, behind what the
+/// groups before write of it, and tells what stands behind that.
 fn append_table<'b>(
     layout: &Layout,
     index: usize,
     group: &Group,
     i: usize,
     part: &Part,
+    size: u64,
     bytes: &'b [u8],
     start: u64,
     out: &mut [u8],
@@ -386,55 +375,50 @@ fn append_table<'b>(
     requires part { slice_get layout.now.parts i ≡ Some part.now }
     requires parts { EachPartLies layout.now }
     requires group { slice_get layout.now.groups index ≡ Some group.now }
-    requires start { start ≡ given_before layout.now i index }
+    requires size { size ≡ written layout.now part.now (given i group.now) }
+    requires start { start ≡ written layout.now part.now (given_before layout.now i index) }
     requires own { BeginsWith (table_given layout.now group.now part.now) bytes.now }
     requires room { (length out.old ≡ image_size layout.now) × (image_size layout.now ≤ 2 ^ 62) }
     ensures image { out.new ≡ overlay (table_piece layout.now index group.now i part.now) out.old }
     ensures rest { GoesOn (table_given layout.now group.now part.now) bytes.now result.now }
 {
-    let size = written_size(layout, part, group, i) as usize;
     if size == 0 {
         return bytes;
     }
-    let (own, rest) = bytes.split_at(size);
+    let (own, rest) = bytes.split_at(size as usize);
     put(out, (part.offset + start) as usize, own);
     rest
 }
 
-/// Puts what the group with that number gives to the parts into the image, and tells what stands behind that.
+/// Puts what the group with that number gives to the parts into the image, moves each part's start behind that, and tells what stands
+/// behind it. Where no bytes are left there is nothing to put.
 fn append_tables<'b>(
     layout: &Layout,
     index: usize,
     group: &Group,
     bytes: &'b [u8],
-    starts: &[u64],
+    starts: &mut [u64],
     out: &mut [u8],
 ) -> &'b [u8]
     requires lies { EachPartLies layout.now }
     requires group { slice_get layout.now.groups index ≡ Some group.now }
     requires own { BeginsWith (group_tables layout.now group.now) bytes.now }
-    requires starts { HasStarts layout.now index starts.now }
+    requires starts { HasStarts layout.now index starts.old }
     requires room { (length out.old ≡ image_size layout.now) × (image_size layout.now ≤ 2 ^ 62) }
     ensures image { out.new ≡ overlay (table_pieces layout.now index group.now) out.old }
     ensures rest { GoesOn (group_tables layout.now group.now) bytes.now result.now }
+    ensures starts { HasStarts layout.now (index + 1) starts.new }
 {
+    if bytes.is_empty() {
+        return bytes;
+    }
     let mut rest = bytes;
     for (i, part) in layout.parts.as_slice().iter().enumerate() {
-        rest = append_table(layout, index, group, i, part, rest, starts[i], out);
+        let size = written_size(layout, part, group, i);
+        rest = append_table(layout, index, group, i, part, size, rest, starts[i], out);
+        starts[i] += size;
     }
     rest
-}
-
-/// Moves each part's start behind what the group with that number is given of it.
-fn move_starts(layout: &Layout, index: usize, group: &Group, starts: &mut [u64])
-    requires lies { EachPartLies layout.now }
-    requires group { slice_get layout.now.groups index ≡ Some group.now }
-    requires starts { HasStarts layout.now index starts.old }
-    ensures { HasStarts layout.now (index + 1) starts.new }
-{
-    for i in 0..layout.parts.len() {
-        starts[i] += group.given(i);
-    }
 }
 
 /// Puts all that a batch has into the image, and moves the parts' starts behind it.
@@ -461,7 +445,6 @@ fn append_batch(
         let index = batch.first + i;
         tables = append_tables(layout, index, group, tables, starts, out);
         files = append_files(layout, group, files, out);
-        move_starts(layout, index, group, starts);
     }
 }
 

@@ -1,9 +1,11 @@
 //! All bytes of a group: what it gives to the tables, part by part, and its input sections' bytes and thunks in the order of
 //! processing.
-ghost use Rattle.std.specs.Prelude.{◌≡◌, ◌+◌, ◌<◌, ◌^◌, ◌++◌, [], true, false, List, ℕ, length, replicate, Some, slice_get, option_to_list, IfOk, OnOk, All};
+ghost use Rattle.std.specs.Prelude.{◌≡◌, ◌&&◌, ◌+◌, ◌<◌, ◌^◌, ◌++◌, [], true, false, List, ℕ, length, replicate, Some, slice_get, option_to_list, IfOk, OnOk, All};
 ghost use Rattle.std.specs.List.{flat_map};
 ghost use Rattle.wild_types.specs.FileRoles.{is_epilogue};
 ghost use Rattle.wild_types.specs.Faults.{Answers};
+ghost use Rattle.wild_types.specs.FilePlaces.{given};
+ghost use Rattle.wild_types.specs.Lists.{total};
 ghost use Rattle.wild_types.specs.declared.file.File.{File};
 ghost use Rattle.wild_types.specs.declared.part.Role.TheVariants.{EhFrame, EhFrameHdr};
 ghost use Rattle.wild_types.specs.Hollow.{is_hollow_role, is_dropped};
@@ -19,12 +21,14 @@ ghost use Rattle.wild_contents.specs.Given.{NeedsFit};
 ghost use Rattle.wild_contents.specs.Laid.{group_frames, HaveSearchTable};
 ghost use Rattle.wild_contents.specs.SearchTable.{IsTableFor, IsSearchTable};
 ghost use Rattle.wild_image.specs.Append.{GivesItsShares, HasRolesOnce, IsTurned, IsOfKind, SortedStands, FileStands, GroupStands};
-ghost use Rattle.wild_image.specs.Pieces.{table_given, section_owned, sorted_owned, all_sorted, once_bytes, file_bytes, group_files, group_tables};
-ghost use Rattle.wild_image.specs.Stood.{kept_faults, stood_faults, StoodApart, HasOrigins, IsMadeOf, IsWhole, zeros_of, stands_so, so_errors, so_bytes, errors_behind, bytes_behind};
+ghost use Rattle.wild_image.specs.Known.{IsKnown, GiveNothing};
+ghost use Rattle.wild_image.specs.Pieces.{table_given, written, section_owned, sorted_owned, all_sorted, once_bytes, file_bytes, group_files, group_tables};
+ghost use Rattle.wild_image.specs.Stood.{kept_faults, stood_faults, StoodApart, HasOrigins, IsMadeOf, IsWhole, zeros_of, stands_so, so_errors, so_bytes, errors_behind, bytes_behind, is_plain_object};
 ghost use Rattle.wild_image.specs.Batches.{HasBatch, batch_errors};
 
 use crate::append::written_size;
 use crate::batch::Batch;
+use crate::known::Known;
 use std::alloc::{AllocError, Global};
 use std::thread::Threads;
 use wild_contents::{
@@ -32,11 +36,11 @@ use wild_contents::{
     check_symbol_tables,
 };
 use wild_debug::{ShardedArch, Workers};
-use wild_laid::{LaidSection, frames_at, lay, lay_sorted, sorted_input};
+use wild_laid::{LaidSection, lay, lay_sorted, sorted_input};
 use wild_relax::Arch;
 use wild_sections::{InputPlace, Origin, Resolved, write_data};
 use wild_types::{
-    Error, File, Group, InputSection, Layout, Part, Role, Slot, SortedSection, has_role,
+    Error, File, FileRole, Group, InputSection, Layout, Part, Role, Slot, SortedSection, has_role,
 };
 use wild_words::Bytes;
 
@@ -304,7 +308,8 @@ fn stands_so(layout: &Layout, section: &InputSection) -> bool
         && !section.nobits
         && !section.reversed
         && !layout.kind.is_partial_link()
-        && section.is_filled(layout)
+        && section.bytes.len() != 0
+        && !layout.is_hollow_part(section.part)
 }
 
 /// Adds the bytes of a section that stands so, or answers its first fault.
@@ -336,6 +341,7 @@ fn add_so<A: Arch>(
 
 /// Lays a section of that file and adds its bytes, or answers its first fault, where the file's next frames stand at an address; tells
 /// where those behind it stand.
+#[inline(never)]
 #[tactic(auto, using(crate::proofs::StoodLemmas::section_stood, crate::proofs::StoodLemmas::laid_whole, crate::proofs::StoodLemmas::laid_apart, wild_contents::proofs::LaidLemmas::room_of_laid))]
 fn add_laid<A: ShardedArch, R: Threads + Sync>(
     by: &Workers<R>,
@@ -546,6 +552,7 @@ fn check_search_table(
 
 /// Adds what a file has behind its sections: what only the last or the first file has, and its thunks; or answers the first fault of
 /// these, of its copies and slots, and of the search table.
+#[inline(never)]
 #[tactic(auto, using(wild_sections::proofs::FaultLemmas::first_of_both), unfolding(crate::specs::Stood::errors_behind, crate::specs::Stood::bytes_behind))]
 fn add_behind<A: ShardedArch, R: Threads + Sync>(
     by: &Workers<R>,
@@ -569,6 +576,13 @@ fn add_behind<A: ShardedArch, R: Threads + Sync>(
     check_search_table(resolved.layout, place, file, table)
 }
 
+/// Whether a file is known to have nothing behind its sections: in a bare output an object that writes no thunks.
+fn ends_there(known: Known, file: &File) -> bool
+    ensures { result ≡ (known.bare && is_plain_object file.now) }
+{
+    known.bare && matches!(file.role, FileRole::Object) && !file.owns_thunk_block
+}
+
 /// Adds the bytes of the sections of a file, whose frames stand from an address on, and what it has behind them, or answers its first
 /// fault; tells where the frames behind stand.
 #[tactic(auto, using(wild_sections::proofs::FaultLemmas::first_of_both, crate::proofs::StoodLemmas::file_faults_by, crate::proofs::StoodLemmas::file_owned_by, crate::proofs::StoodLemmas::file_frames_by))]
@@ -578,9 +592,11 @@ fn add_file<A: ShardedArch, R: Threads + Sync>(
     place: InputPlace,
     file: &File,
     at: u64,
+    known: Known,
     table: &SearchTable,
     bytes: &mut GroupBytes,
 ) -> Result<u64, Error>
+    requires known { IsKnown resolved.now.layout.now known }
     requires stands { FileStands resolved.now.layout.now at file.now }
     requires table { IsTableFor resolved.now.layout.now table.now file.now }
     ensures faults { Answers result (file_errors resolved.now.layout.now place.group at place.file file.now) }
@@ -590,6 +606,9 @@ fn add_file<A: ShardedArch, R: Threads + Sync>(
     ensures tables { bytes.new.tables ≡ bytes.old.tables }
 {
     let next = add_file_sections(by, resolved, place, file, at, bytes)?;
+    if ends_there(known, file) {
+        return Ok(next);
+    }
     add_behind(by, resolved, place, file, table, bytes)?;
     Ok(next)
 }
@@ -601,9 +620,11 @@ fn add_files<A: ShardedArch, R: Threads + Sync>(
     resolved: &Resolved<A>,
     index: usize,
     group: &Group,
+    known: Known,
     table: &SearchTable,
     bytes: &mut GroupBytes,
 ) -> Result<(), Error>
+    requires known { IsKnown resolved.now.layout.now known }
     requires stands { GroupStands resolved.now.layout.now group.now }
     requires table { All (IsTableFor resolved.now.layout.now table.now) group.now.files }
     ensures faults { Answers result (files_errors resolved.now.layout.now index (frames_at resolved.now.layout.now group.now) 0 group.now.files) }
@@ -611,28 +632,31 @@ fn add_files<A: ShardedArch, R: Threads + Sync>(
     ensures frames { OnOk result (is_hollow_role resolved.now.layout.now EhFrame ≡ false → bytes.new.frames ≡ bytes.old.frames ++ group_frames resolved.now.layout.now group.now) }
     ensures tables { bytes.new.tables ≡ bytes.old.tables }
 {
-    let mut next = frames_at(resolved.layout, group);
+    let mut next = known.frames_at(group);
     for (i, file) in group.files.as_slice().iter().enumerate() {
         let place = InputPlace {
             group: index,
             file: i,
             section: 0,
         };
-        next = add_file(by, resolved, place, file, next, table, bytes)?;
+        next = add_file(by, resolved, place, file, next, known, table, bytes)?;
     }
     Ok(())
 }
 
-/// Adds the bytes of a group's files, or answers its first fault: that of its files, or else of the symbols that other modules see.
+/// Adds the bytes of a group's files, or answers its first fault: that of its files, or else of the symbols that other modules see. A
+/// bare output has no table of symbols.
 #[tactic(auto, using(wild_sections::proofs::FaultLemmas::first_of_both), unfolding(wild_layout::specs::Faults::group_errors))]
 fn add_group_files<A: ShardedArch, R: Threads + Sync>(
     by: &Workers<R>,
     resolved: &Resolved<A>,
     index: usize,
     group: &Group,
+    known: Known,
     table: &SearchTable,
     bytes: &mut GroupBytes,
 ) -> Result<(), Error>
+    requires known { IsKnown resolved.now.layout.now known }
     requires stands { GroupStands resolved.now.layout.now group.now }
     requires table { All (IsTableFor resolved.now.layout.now table.now) group.now.files }
     ensures faults { Answers result (group_errors resolved.now.layout.now index group.now) }
@@ -640,31 +664,56 @@ fn add_group_files<A: ShardedArch, R: Threads + Sync>(
     ensures frames { OnOk result (is_hollow_role resolved.now.layout.now EhFrame ≡ false → bytes.new.frames ≡ bytes.old.frames ++ group_frames resolved.now.layout.now group.now) }
     ensures tables { bytes.new.tables ≡ bytes.old.tables }
 {
-    add_files(by, resolved, index, group, table, bytes)?;
+    add_files(by, resolved, index, group, known, table, bytes)?;
+    if known.bare {
+        return Ok(());
+    }
     check_symbol_tables(resolved, index, group.files.as_slice())
 }
 
-/// How many bytes some groups have of raw parts and of tables, so that their buffers are taken at once.
-fn room_of_groups(layout: &Layout, groups: &[Group]) -> (usize, usize) {
-    let mut files: usize = 0;
-    let mut tables: usize = 0;
+/// How many bytes of part i some groups are given, at most 2^64 - 1.
+fn total_given(i: usize, groups: &[Group]) -> u64
+    ensures { result ≡ 0 → total (given i) groups.now ≡ 0 }
+{
+    let mut sum: u64 = 0;
     for group in groups {
-        for (part, size) in layout
-            .parts
-            .as_slice()
-            .iter()
-            .zip(group.part_sizes.as_slice())
-        {
-            if *size != 0 && layout.takes_file_bytes(part.section) {
-                if has_role(Role::Raw, part) {
-                    files = files.saturating_add(*size as usize);
-                } else {
-                    tables = tables.saturating_add(*size as usize);
-                }
-            }
+        sum = sum.saturating_add(group.given(i));
+    }
+    sum
+}
+
+/// How many bytes some groups have of raw parts, so that their buffer is taken at once.
+fn room_of_files(layout: &Layout, groups: &[Group]) -> u64 {
+    let mut room: u64 = 0;
+    for (i, part) in layout.parts.as_slice().iter().enumerate() {
+        if has_role(Role::Raw, part) && layout.takes_file_bytes(part.section) {
+            room = room.saturating_add(total_given(i, groups));
         }
     }
-    (tables, files)
+    room
+}
+
+/// How many bytes some groups write of part i, unless it is raw, at most 2^64 - 1.
+#[tactic(auto, using(crate::proofs::TableLemmas::written_hollow, crate::proofs::TableLemmas::written_raw, crate::proofs::TableLemmas::written_all))]
+fn total_written(layout: &Layout, i: usize, part: &Part, groups: &[Group]) -> u64
+    ensures { result ≡ 0 → written layout.now part.now (total (given i) groups.now) ≡ 0 }
+{
+    if has_role(Role::Raw, part) || layout.is_hollow_at(part.section) {
+        0
+    } else {
+        total_given(i, groups)
+    }
+}
+
+/// How many bytes some groups write of tables, so that their buffer is taken at once.
+fn room_of_tables(layout: &Layout, groups: &[Group]) -> u64
+    ensures { result ≡ 0 → GiveNothing layout.now groups.now }
+{
+    let mut room: u64 = 0;
+    for (i, part) in layout.parts.as_slice().iter().enumerate() {
+        room = room.saturating_add(total_written(layout, i, part, groups));
+    }
+    room
 }
 
 impl GroupBytes {
@@ -682,14 +731,17 @@ impl GroupBytes {
 }
 
 /// Adds all bytes of a group, or answers its first fault.
+#[inline(never)]
 pub(crate) fn add_group<A: ShardedArch, R: Threads + Sync>(
     by: &Workers<R>,
     resolved: &Resolved<A>,
     index: usize,
     group: &Group,
+    known: Known,
     table: &SearchTable,
     bytes: &mut GroupBytes,
 ) -> Result<(), Error>
+    requires known { IsKnown resolved.now.layout.now known }
     requires stands { GroupStands resolved.now.layout.now group.now }
     requires gives { GivesItsShares resolved.now.layout.now group.now }
     requires few { NeedsFit group.now }
@@ -700,7 +752,7 @@ pub(crate) fn add_group<A: ShardedArch, R: Threads + Sync>(
     ensures files { OnOk result (bytes.new.files ≡ bytes.old.files ++ group_files resolved.now.layout.now group.now) }
 {
     bytes.frames = PartBytes::empty(by.alloc);
-    add_group_files(by, resolved, index, group, table, bytes)?;
+    add_group_files(by, resolved, index, group, known, table, bytes)?;
     let beside = Beside {
         frames: bytes.frames.as_slice(),
         table: table.bytes.as_slice(),
@@ -709,13 +761,43 @@ pub(crate) fn add_group<A: ShardedArch, R: Threads + Sync>(
     Ok(())
 }
 
+/// The same, of a group that gives nothing to the tables unless `gives` says so.
+fn add_batch_group<A: ShardedArch, R: Threads + Sync>(
+    by: &Workers<R>,
+    resolved: &Resolved<A>,
+    index: usize,
+    group: &Group,
+    known: Known,
+    table: &SearchTable,
+    gives: bool,
+    bytes: &mut GroupBytes,
+) -> Result<(), Error>
+    requires known { IsKnown resolved.now.layout.now known }
+    requires stands { GroupStands resolved.now.layout.now group.now }
+    requires gives { GivesItsShares resolved.now.layout.now group.now }
+    requires few { NeedsFit group.now }
+    requires once { HasRolesOnce resolved.now.layout.now }
+    requires table { All (IsTableFor resolved.now.layout.now table.now) group.now.files }
+    requires none { gives ≡ false → group_tables resolved.now.layout.now group.now ≡ [] }
+    ensures faults { Answers result (group_errors resolved.now.layout.now index group.now) }
+    ensures tables { OnOk result (bytes.new.tables ≡ bytes.old.tables ++ group_tables resolved.now.layout.now group.now) }
+    ensures files { OnOk result (bytes.new.files ≡ bytes.old.files ++ group_files resolved.now.layout.now group.now) }
+{
+    if gives {
+        return add_group(by, resolved, index, group, known, table, bytes);
+    }
+    add_group_files(by, resolved, index, group, known, table, bytes)
+}
+
 /// All bytes of a batch, or its first fault.
 pub(crate) fn bytes_of_batch<A: ShardedArch, R: Threads + Sync>(
     by: &Workers<R>,
     resolved: &Resolved<A>,
     batch: &Batch,
+    known: Known,
     table: &SearchTable,
 ) -> Result<GroupBytes, Error>
+    requires known { IsKnown resolved.now.layout.now known }
     requires stands { All (GroupStands resolved.now.layout.now) batch.now.groups.now }
     requires gives { All (GivesItsShares resolved.now.layout.now) batch.now.groups.now }
     requires few { All NeedsFit batch.now.groups.now }
@@ -725,10 +807,21 @@ pub(crate) fn bytes_of_batch<A: ShardedArch, R: Threads + Sync>(
     ensures faults { Answers result (batch_errors resolved.now.layout.now batch.now) }
     ensures bytes { IfOk result (HasBatch resolved.now.layout.now batch.now) }
 {
-    let (tables, files) = room_of_groups(resolved.layout, batch.groups);
-    let mut bytes = GroupBytes::with_room(by.alloc, tables, files)?;
+    let tables = room_of_tables(resolved.layout, batch.groups);
+    let files = room_of_files(resolved.layout, batch.groups);
+    let mut bytes = GroupBytes::with_room(by.alloc, tables as usize, files as usize)?;
     for (i, group) in batch.groups.iter().enumerate() {
-        add_group(by, resolved, batch.first + i, group, table, &mut bytes)?;
+        let index = batch.first + i;
+        add_batch_group(
+            by,
+            resolved,
+            index,
+            group,
+            known,
+            table,
+            tables != 0,
+            &mut bytes,
+        )?;
     }
     Ok(bytes)
 }

@@ -3,10 +3,12 @@ ghost use Rattle.std.specs.Prelude.{◌≡◌, ◌<◌, ◌^◌, length, Ok, []}
 ghost use Rattle.wild_clauses.specs.WellFormed.{first_clause};
 ghost use Rattle.wild_layout.specs.Faults.{flat_map_from, part_errors};
 ghost use Rattle.wild_image.specs.Batches.{AreBatches};
+ghost use Rattle.wild_image.specs.Known.{IsKnown};
 ghost use Rattle.wild_image.specs.Stood.{IsMade};
 
 use crate::batch::Batch;
 use crate::buffer::{GroupBytes, bytes_of_batch};
+use crate::known::Known;
 use crate::pairs::pairs_of_groups;
 use std::alloc::AllocError;
 use std::thread::Threads;
@@ -39,11 +41,13 @@ pub(crate) struct GroupJob<'a, A: Arch, R> {
     pub(crate) by: Workers<'a, R>,
     pub(crate) resolved: Resolved<'a, A>,
     pub(crate) batches: &'a [Batch<'a>],
+    pub(crate) known: Known,
     pub(crate) table: &'a SearchTable,
     ghost clauses: { first_clause resolved.layout.now ≡ Ok tt },
     ghost shares: { flat_map_from (part_errors resolved.layout.now) 0 resolved.layout.now.parts ≡ [] },
     ghost batches_are: { AreBatches resolved.layout.now.groups batches.now },
     ghost few: { length batches.now < 2 ^ 32 },
+    ghost known_is: { IsKnown resolved.layout.now known },
     ghost table_is: { IsMade resolved.layout.now table.now },
 }
 
@@ -68,7 +72,7 @@ impl<'a, A: ShardedArch, R: Threads + Sync> Job<Outcome> for GroupJob<'a, A, R> 
         layouts_are_laid_out();
         let batch = &self.batches[group as usize];
         let counts = pairs_of_groups(self.by.alloc, self.resolved.layout, batch.groups)?;
-        let bytes = bytes_of_batch(&self.by, &self.resolved, batch, self.table);
+        let bytes = bytes_of_batch(&self.by, &self.resolved, batch, self.known, self.table);
         Ok(Outcome { bytes, counts })
     }
 }

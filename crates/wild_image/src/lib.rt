@@ -6,6 +6,7 @@ mod batch;
 mod buffer;
 mod cut;
 mod job;
+mod known;
 mod marks;
 mod output;
 mod padding;

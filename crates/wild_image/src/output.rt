@@ -8,13 +8,15 @@ ghost use Rattle.wild_layout.specs.Warnings.{warnings};
 ghost use Rattle.wild_layout.specs.Faults.{clause_errors, flat_map_from, part_errors, group_errors, errors};
 ghost use Rattle.wild_layout.specs.Geometry.{IsLaidOut};
 ghost use Rattle.wild_image.specs.Batches.{AreBatches, GivesBatch};
+ghost use Rattle.wild_image.specs.Known.{IsKnown};
 ghost use Rattle.wild_image.specs.declared.job.Outcome.{Outcome};
 
 use crate::append::append_all;
 use crate::batch::{Batch, batch_size, batches_of};
 use crate::job::{GroupJob, Outcome};
+use crate::known::Known;
 use crate::padding::padded_image;
-use crate::shares::check_shares;
+use crate::shares::check_shares_in;
 use std::alloc::{AllocError, Global};
 use std::thread::Threads;
 use wild_clauses::well_formed;
@@ -22,7 +24,7 @@ use wild_contents::make_search_table;
 use wild_crew::{Gate, OpenGate, gather};
 use wild_debug::{ShardedArch, Workers};
 use wild_geometry::layouts_are_laid_out;
-use wild_needs::elf_entry_address;
+use wild_needs::{elf_entry_address, is_bare};
 use wild_relax::{Arch, ElfAArch64, ElfX86_64};
 use wild_sections::Resolved;
 use wild_types::{At, EntryWarning, Error, Fault, Layout, Machine};
@@ -89,11 +91,13 @@ fn write_laid_out<A: ShardedArch + Sync, G: Gate + Sync, R: Threads + Sync>(
     rt: &R,
     alloc: Global,
     layout: &Layout,
+    known: Known,
     workers: u8,
     gate: &G,
 ) -> Result<SizedOutput, Error>
 where
     A::Relaxation: Sync,
+    requires known { IsKnown layout.now known }
     requires machine { layout.now.machine ≡ A.machine }
     requires workers { (1 ≤ workers) × (workers ≤ 64) }
     requires clauses { first_clause layout.now ≡ Ok tt }
@@ -119,6 +123,7 @@ where
         by,
         resolved,
         batches,
+        known,
         table: &table,
     };
     let sections = layout.sections.len() as u32;
@@ -154,9 +159,11 @@ where
     ensures counts { IfOk result (λ o. o.counts ≡ counts layout.now) }
 {
     check_clauses(layout)?;
-    check_shares(layout)?;
+    let bare = is_bare(layout);
+    check_shares_in(layout, bare)?;
     layouts_are_laid_out();
-    write_laid_out::<A, _, _>(rt, alloc, layout, workers, gate)
+    let known = Known::of(layout, bare);
+    write_laid_out::<A, _, _>(rt, alloc, layout, known, workers, gate)
 }
 
 /// The image of a layout, or its first fault, by so many workers.

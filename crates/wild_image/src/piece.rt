@@ -13,10 +13,12 @@ ghost use Rattle.wild_contents.specs.SearchTable.{IsTableFor};
 ghost use Rattle.wild_image.specs.Append.{GivesItsShares, HasRolesOnce, FileLies, GroupStands};
 ghost use Rattle.wild_image.specs.Pieces.{group_parts, group_pairs};
 ghost use Rattle.wild_image.specs.Jobs.{GivesPiece};
+ghost use Rattle.wild_image.specs.Known.{IsKnown};
 ghost use Rattle.wild_contents.specs.Given.{NeedsFit};
 
 use crate::buffer::{GroupBytes, add_group};
 use crate::cut::cut_group;
+use crate::known::Known;
 use crate::pairs::pairs_of_group;
 use std::alloc::{AllocError, Global};
 use std::marker::Sync;
@@ -24,6 +26,7 @@ use std::thread::Threads;
 use wild_contents::{PartBytes, SearchTable, make_search_table};
 use wild_debug::{ShardedArch, Workers};
 use wild_geometry::layouts_are_laid_out;
+use wild_needs::is_bare;
 use wild_relax::Arch;
 use wild_sections::Resolved;
 use wild_types::{Error, Group, Layout};
@@ -43,8 +46,10 @@ fn piece_of<A: ShardedArch, R: Threads + Sync>(
     resolved: &Resolved<A>,
     index: usize,
     group: &Group,
+    known: Known,
     table: &SearchTable,
 ) -> Result<GroupPiece, Error>
+    requires known { IsKnown resolved.now.layout.now known }
     requires inputs { All (FileLies resolved.now.layout.now) group.now.files }
     requires stands { GroupStands resolved.now.layout.now group.now }
     requires table { All (IsTableFor resolved.now.layout.now table.now) group.now.files }
@@ -57,7 +62,7 @@ fn piece_of<A: ShardedArch, R: Threads + Sync>(
     ensures counts { IfOk result (λ p. p.counts ≡ group_pairs resolved.now.layout.now group.now) }
 {
     let mut bytes = GroupBytes::with_room(by.alloc, 0, 0)?;
-    add_group(by, resolved, index, group, table, &mut bytes)?;
+    add_group(by, resolved, index, group, known, table, &mut bytes)?;
     let parts = cut_group(by.alloc, resolved.layout, group, &bytes)?;
     let counts = Items::from_vec(pairs_of_group(by.alloc, resolved.layout, group)?);
     Ok(GroupPiece { parts, counts })
@@ -115,5 +120,6 @@ pub fn write_group<A: ShardedArch>(
         alloc,
         count: 1,
     };
-    piece_of(&by, &resolved, group, found, &table)
+    let known = Known::of(layout, is_bare(layout));
+    piece_of(&by, &resolved, group, found, known, &table)
 }

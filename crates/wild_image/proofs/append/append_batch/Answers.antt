@@ -32,13 +32,6 @@ pub append_files-files-requires-clause-own : goal.append_files-files-requires-cl
 append_files-files-requires-clause-own c =
     next_begins (group_files c.args.layout.now) c.args.batch.now.groups.now c.loop-i.i c.group-item.result c.args.bytes.now.files c.loop-i.files.now c.loop-i-test.true c.group-item.is (begins_all _ _ c.requires.bytes.files) c.loop-i.invariant.files
 
-pub move_starts-requires-clause-group : goal.move_starts-requires-clause-group
-move_starts-requires-clause-group c =
-    let gs = c.args.batch.now.groups.now in
-    let i = c.loop-i.i in
-    let at : slice_get gs i ≡ Some c.group-item.result = slice_get_read gs (length gs) i c.group-item.result (search rules) c.loop-i-test.true c.group-item.is in
-    c.requires.within i c.group-item.result at
-
 pub loop-i-preserved : goal.loop-i-preserved
 loop-i-preserved c =
     let l = c.args.layout.now in
@@ -57,5 +50,5 @@ loop-i-preserved c =
       image = overlay_behind (group_pieces l) n i gs g c.args.out.now c.loop-i.out c.append_files-files.new.out c.loop-i-test.true c.group-item.is c.loop-i.invariant.image image;
       tables = stands_more (group_tables l) gs i g c.args.bytes.now.tables c.loop-i.tables.now c.append_tables-tables.result.now c.loop-i-test.true c.group-item.is c.loop-i.invariant.tables c.append_tables-tables.ensures.rest;
       files = stands_more (group_files l) gs i g c.args.bytes.now.files c.loop-i.files.now c.append_files-files.result.now c.loop-i-test.true c.group-item.is c.loop-i.invariant.files c.append_files-files.ensures.rest;
-      starts = subst (λ (k : ℕ). HasStarts l k c.move_starts.new.starts) next c.move_starts.ensures;
+      starts = subst (λ (k : ℕ). HasStarts l k c.append_tables-tables.new.starts) next c.append_tables-tables.ensures.starts;
     }

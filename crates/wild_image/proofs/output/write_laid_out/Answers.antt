@@ -8,6 +8,7 @@ use Rattle.wild_layout.specs.Faults.{flat_map_from, part_errors}
 use Rattle.wild_layout.specs.Geometry.{IsLaidOut}
 use Rattle.wild_image.specs.declared.batch.Batch.{Batch}
 use Rattle.wild_image.specs.Batches.{AreBatches, GivesBatch, pairs_at}
+use Rattle.wild_image.specs.Known.{IsKnown}
 use Rattle.wild_image.proofs.OutputLemmas.{FieldsFit-IsLaidOut, role_address}
 use Rattle.wild_image.proofs.GatherLemmas.{pairs_below, sums_fit, totals_are}
 use Rattle.wild_image.proofs.JobLemmas.{few_groups}
@@ -75,3 +76,6 @@ make_search_table-requires g c = (search rules, role_address c.in_ok-resolved.re
 
 pub invariant_of-job-clause-table_is : goal.invariant_of-job-clause-table_is
 invariant_of-job-clause-table_is g c = made c.in_ok-resolved.resolved.layout.now c.in_ok-table.table c.in_ok-table.ensures
+
+pub invariant_of-job-clause-known_is : goal.invariant_of-job-clause-known_is
+invariant_of-job-clause-known_is g c = subst (λ (l : Layout). IsKnown l c.args.known) (sym c.in_ok-resolved.ensures) c.requires.known
