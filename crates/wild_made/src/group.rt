@@ -2,7 +2,7 @@
 ghost use Rattle.std.specs.Prelude.{◌≡◌, ◌<◌, map, IfOk};
 ghost use Rattle.std.specs.List.{range_with_len};
 ghost use Rattle.wild_types.specs.declared.file.FileRole.TheVariants as file_role;
-ghost use Rattle.wild_made.specs.Made.{made_symbol, made_relocation, made_section, plain_file, made_object, made_files, made_sizes, made_group, code};
+ghost use Rattle.wild_made.specs.Made.{made_symbol, made_relocation, made_section, file_with, plain_file, made_object, made_files, made_sizes, made_group, code};
 
 use std::alloc::{AllocError, Global};
 use wild_records::abi::relocation::R_X86_64_PC32;
@@ -71,6 +71,7 @@ fn relocation(groups: u32, group: u32, call: u32) -> InputRelocation
     }
 }
 
+#[inline(always)]
 fn relocations(alloc: Global, groups: u32, group: u32) -> Result<Items<InputRelocation>, AllocError>
     requires { (0 < groups) × (group < 65536) }
     ensures { IfOk result (λ v. v ≡ map (made_relocation groups group) (range_with_len 0 8)) }
@@ -89,12 +90,14 @@ fn relocations(alloc: Global, groups: u32, group: u32) -> Result<Items<InputRelo
 }
 
 /// The eight calls of a group.
+#[inline(always)]
 fn code(alloc: Global) -> Result<Bytes, AllocError>
     ensures { IfOk result (λ v. v ≡ code) }
 {
     Ok(Bytes::from_vec(Vec::from_slice(alloc, &CODE)?))
 }
 
+#[inline(always)]
 #[tactic(auto, unfolding(crate::specs::Made::made_section))]
 fn section(alloc: Global, groups: u32, group: u32) -> Result<InputSection, AllocError>
     requires { (0 < groups) × (group < 65536) }
@@ -118,15 +121,22 @@ fn section(alloc: Global, groups: u32, group: u32) -> Result<InputSection, Alloc
     })
 }
 
-/// A file without symbols or sections.
-fn plain_file(alloc: Global, role: FileRole) -> File
-    ensures { result ≡ plain_file role }
+/// A file with these symbols and sections.
+#[inline(always)]
+fn file(
+    role: FileRole,
+    first: u32,
+    count: usize,
+    sections: Items<InputSection>,
+    alloc: Global,
+) -> File
+    ensures { result ≡ file_with role first count sections }
 {
     File {
         role,
-        first_symbol: SymbolIndex(0),
-        symbol_count: 0,
-        sections: Items::new(alloc),
+        first_symbol: SymbolIndex(first as usize),
+        symbol_count: count,
+        sections,
         thunk_block: 0,
         owns_thunk_block: false,
         lib_name: Bytes::new(alloc),
@@ -135,48 +145,70 @@ fn plain_file(alloc: Global, role: FileRole) -> File
     }
 }
 
+#[inline(always)]
 fn object(alloc: Global, groups: u32, group: u32) -> Result<File, AllocError>
     requires { (0 < groups) × (group < 65536) }
     ensures { IfOk result (λ f. f ≡ made_object groups group) }
 {
-    let mut sections = Vec::with_capacity(alloc, 1)?;
-    sections.push(section(alloc, groups, group)?)?;
-    Ok(File {
-        first_symbol: SymbolIndex(group as usize),
-        symbol_count: 1,
-        sections: Items::from_vec(sections),
-        ..plain_file(alloc, FileRole::Object)
-    })
+    let sections = vec![in alloc; section(alloc, groups, group)?]?;
+    Ok(file(FileRole::Object, group, 1, Items::from_vec(sections), alloc))
 }
 
+/// A file without symbols or sections.
+fn plain_file(alloc: Global, role: FileRole) -> File
+    ensures { result ≡ plain_file role }
+{
+    file(role, 0, 0, Items::new(alloc), alloc)
+}
+
+/// The files of the first or of the last group, whose object is this.
+#[inline(never)]
+fn files_at_an_end(
+    alloc: Global,
+    groups: u32,
+    group: u32,
+    object: File,
+) -> Result<Items<File>, AllocError>
+    requires range { (0 < groups) × (group < 65536) }
+    requires object { object ≡ made_object groups group }
+    ensures { IfOk result (λ v. v ≡ made_files groups group) }
+{
+    let mut all = Items::new(alloc);
+    if group == 0 {
+        all.push(plain_file(alloc, FileRole::Prelude))?;
+    }
+    all.push(object)?;
+    if group + 1 == groups {
+        all.push(plain_file(alloc, FileRole::Epilogue))?;
+    }
+    Ok(all)
+}
+
+#[inline(always)]
 fn files(alloc: Global, groups: u32, group: u32) -> Result<Items<File>, AllocError>
     requires { (0 < groups) × (group < 65536) }
     ensures { IfOk result (λ v. v ≡ made_files groups group) }
 {
-    let count = 1 + usize::from(group == 0) + usize::from(group + 1 == groups);
-    let mut all = Vec::with_capacity(alloc, count)?;
-    if group == 0 {
-        all.push(plain_file(alloc, FileRole::Prelude))?;
+    let object = object(alloc, groups, group)?;
+    if group == 0 || group + 1 == groups {
+        return files_at_an_end(alloc, groups, group, object);
     }
-    all.push(object(alloc, groups, group)?)?;
-    if group + 1 == groups {
-        all.push(plain_file(alloc, FileRole::Epilogue))?;
-    }
-    Ok(Items::from_vec(all))
+    Ok(Items::from_vec(vec![in alloc; object]?))
 }
 
 fn sizes(alloc: Global, group: u32) -> Result<Items<u64>, AllocError>
     ensures { IfOk result (λ v. v ≡ made_sizes group) }
 {
     let sizes = if group == 0 {
-        [64, 56, 64, 17, 192]
+        vec![in alloc; 64, 56, 64, 17, 192]?
     } else {
-        [0, 0, 64, 0, 0]
+        vec![in alloc; 0, 0, 64, 0, 0]?
     };
-    Ok(Items::from_vec(Vec::from_slice(alloc, &sizes)?))
+    Ok(Items::from_vec(sizes))
 }
 
 /// A group of a made plan.
+#[inline(always)]
 pub(crate) fn group(alloc: Global, groups: u32, group: u32) -> Result<Group, AllocError>
     requires { (0 < groups) × (group < 65536) }
     ensures { IfOk result (λ g. g ≡ made_group groups group) }
