@@ -1,0 +1,6 @@
+use Rattle.std.proofs.Common.{◌≡◌, ◌*◌, ◌≤◌, take}
+use Rattle.std.specs.List.{sum}
+use Rattle.wild_program.proofs.making.short_sum.Given as goal
+
+abbrev pub invariant-loop-byte : goal.invariant-loop-byte
+invariant-loop-byte l = (l.all ≡ sum (take l.byte-index l.bytes)) × (l.all ≤ 255 * l.byte-index)
