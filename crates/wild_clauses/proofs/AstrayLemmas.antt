@@ -173,12 +173,15 @@ groups_ascend l next n (g ∷ gs) lie = by_end (ranges_lie (length l.symbols) ne
     by_end None e lie again = cc
     by_end (Some m) e lie again = files_ascend l next m g.files (files_of gs) e (again m lie)
 
-pub walk_finds : (l : Layout) → is_some (all_ranges_lie (length l.symbols) 0 l.groups) ≡ true → symbol_misfit l (files_of l.groups) 0 l.symbols ≡ walk_end l (groups_walk l 0 l.groups)
-walk_finds l lie = by (all_ranges_lie (length l.symbols) 0 l.groups) refl lie
+pub lie_ascend : (l : Layout) → is_some (all_ranges_lie (length l.symbols) 0 l.groups) ≡ true → Ascend (length l.symbols) 0 (files_of l.groups)
+lie_ascend l lie = by (all_ranges_lie (length l.symbols) 0 l.groups) refl lie
   where
-    by : (o : Option ℕ) → all_ranges_lie (length l.symbols) 0 l.groups ≡ o → is_some o ≡ true → symbol_misfit l (files_of l.groups) 0 l.symbols ≡ walk_end l (groups_walk l 0 l.groups)
+    by : (o : Option ℕ) → all_ranges_lie (length l.symbols) 0 l.groups ≡ o → is_some o ≡ true → Ascend (length l.symbols) 0 (files_of l.groups)
     by None e h = cc
-    by (Some n) e h = is_astray_by l (files_of l.groups) 0 l.symbols ∙ groups_step l 0 l.groups (groups_ascend l 0 n l.groups e)
+    by (Some n) e h = groups_ascend l 0 n l.groups e
+
+pub walk_finds : (l : Layout) → is_some (all_ranges_lie (length l.symbols) 0 l.groups) ≡ true → symbol_misfit l (files_of l.groups) 0 l.symbols ≡ walk_end l (groups_walk l 0 l.groups)
+walk_finds l lie = is_astray_by l (files_of l.groups) 0 l.symbols ∙ groups_step l 0 l.groups (lie_ascend l lie)
 
 -- ---- one symbol's own file
 

@@ -1,10 +1,12 @@
 -- Where each symbol that is asked passes all tests of clause 14, none of the tests fails.
-use Rattle.std.proofs.Common.{◌≡◌, ℕ, ◌+◌, inl, inr, Bool, true, false, ◌&&◌, List, [], ◌∷◌, None, Ok, refl}
-use Rattle.std.specs.Prelude.{not}
+use Rattle.std.proofs.Common.{◌≡◌, ℕ, ◌+◌, inl, inr, Bool, true, false, ◌&&◌, List, [], ◌∷◌, None, Ok, refl, sym, ◌∙◌}
+use Rattle.std.specs.Prelude.{not, is_some}
 use Rattle.std.proofs.lemmas.Bool.{cases_Bool, and_parts}
 use Rattle.wild_types.specs.declared.symbol.Symbol.{Symbol}
 use Rattle.wild_types.specs.declared.layout.Layout.{Layout}
-use Rattle.wild_clauses.specs.SlotFlags.{is_asked, first_asked_failing, dynamic_is_interposable, stub_is_value, stub_has_slot, one_slot_for_address, thread_slot_alone, resolver_is_own, slot_agrees, resolver_moves, second_slot_fits, agrees_in_all}
+use Rattle.wild_types.specs.Flags.{has_flag, dynamic, ifunc, got_slot, ifunc_got_for_address, canonical_plt_got_for_address}
+use Rattle.wild_types.specs.SymbolSlots.{got_of, plt_of, has_thread_slot}
+use Rattle.wild_clauses.specs.SlotFlags.{is_asked, first_asked_failing, dynamic_is_interposable, stub_is_value, stub_has_slot, one_slot_for_address, thread_slot_alone, resolver_is_own, slot_agrees, resolver_moves, second_slot_fits, is_plain, agrees_in_all}
 use Rattle.wild_clauses.specs.ClauseTests.{check_slot_flags}
 
 not_failing : (asked a b : Bool) → (a ≡ true → b ≡ true) → (asked && not a) ≡ false → (asked && not b) ≡ false
@@ -58,3 +60,32 @@ flags_agree l h =
     let k = asked_weaker l (agrees_in_all l) resolver_moves 0 l.symbols (λ s t. (each s t).moves) h in
     let m = asked_weaker l (agrees_in_all l) (second_slot_fits l) 0 l.symbols (λ s t. (each s t).second) h in
     rw (a, b, c, d, e, f, g, k, m) refl
+
+-- ---- a plain symbol passes all tests
+
+neither : (a b : Bool) → (not a && b) ≡ true → (a ≡ false) × (b ≡ true)
+neither true b h = cc
+neither false b h = (refl, h)
+
+is_not : (a : Bool) → not a ≡ true → a ≡ false
+is_not true h = cc
+is_not false h = refl
+
+pub plain_agrees : (l : Layout) (s : Symbol) (plain : Bool) → plain ≡ is_plain s → plain ≡ true → agrees_in_all l s ≡ true
+plain_agrees l s plain is h =
+    let stub = not (is_some (plt_of s)) in
+    let slots = not (is_some (got_of s)) && stub in
+    let second = not (has_flag s.flags canonical_plt_got_for_address) && slots in
+    let address = not (has_flag s.flags ifunc_got_for_address) && second in
+    let thread = not (has_thread_slot s.flags) && address in
+    let slot = not (has_flag s.flags got_slot) && thread in
+    let resolver = not (has_flag s.flags ifunc) && slot in
+    let a = neither (has_flag s.flags dynamic) resolver (sym is ∙ h) in
+    let b = neither (has_flag s.flags ifunc) slot a.1 in
+    let c = neither (has_flag s.flags got_slot) thread b.1 in
+    let d = neither (has_thread_slot s.flags) address c.1 in
+    let e = neither (has_flag s.flags ifunc_got_for_address) second d.1 in
+    let f = neither (has_flag s.flags canonical_plt_got_for_address) slots e.1 in
+    let g = neither (is_some (got_of s)) stub f.1 in
+    let k = is_not (is_some (plt_of s)) g.1 in
+    rw (a.0, b.0, c.0, d.0, e.0, f.0, g.0, k) refl

@@ -4,6 +4,7 @@
 --   is_asked l i s                 symbol i is asked
 --   first_asked_failing l t i ss   the place of the first of those that are asked and fail a test, counted from i on
 --   takes_block_word l s         the slot is one of a block of packed words
+--   is_plain s                   the symbol has neither slots nor a stub
 --   agrees_in_all l s            the symbol passes each test
 use Rattle.std.specs.Prelude.{ℕ, ◌+◌, ◌==◌, Bool, true, not, ◌&&◌, ◌||◌, if◌then◌else◌, List, [], ◌∷◌, Option, Some, None, is_some}
 use Rattle.wild_types.specs.declared.symbol.Resolution.{Resolution}
@@ -74,6 +75,11 @@ takes_block_word l s =
 -- a second slot stands behind the first, and so in no block
 abbrev pub second_slot_fits : Layout → Symbol → Bool
 second_slot_fits l s = (not (has_flag s.flags ifunc_got_for_address) && not (has_flag s.flags canonical_plt_got_for_address)) || not (takes_block_word l s)
+
+-- neither slots nor stub, and no flag that asks for one
+abbrev pub is_plain : Symbol → Bool
+is_plain s =
+    not (has_flag s.flags dynamic) && (not (has_flag s.flags ifunc) && (not (has_flag s.flags got_slot) && (not (has_thread_slot s.flags) && (not (has_flag s.flags ifunc_got_for_address) && (not (has_flag s.flags canonical_plt_got_for_address) && (not (is_some (got_of s)) && not (is_some (plt_of s))))))))
 
 -- ---- all tests at once
 

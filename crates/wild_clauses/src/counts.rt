@@ -1,6 +1,8 @@
 //! Clause 2: counts.
-ghost use Rattle.std.specs.Prelude.{◌≡◌, ◌+◌, ◌-◌, ◌^◌, min, length};
+ghost use Rattle.std.specs.Prelude.{◌≡◌, ◌+◌, ◌-◌, ◌^◌, min, length, is_some};
 ghost use Rattle.wild_needs.specs.Needs.{total_share};
+ghost use Rattle.wild_needs.specs.DynamicPlaces.{need_number};
+ghost use Rattle.wild_clauses.specs.Astray.{all_ranges_lie};
 ghost use Rattle.wild_clauses.specs.Counts.{symbols_of, table_fits, lists_fit, counts_fit};
 ghost use Rattle.wild_clauses.specs.Places.{relocations_in, relocations_of, relocation_count};
 ghost use Rattle.wild_types.specs.Lists.{total};
@@ -73,16 +75,23 @@ fn most_entries(layout: &Layout) -> usize
     symbols_of_groups(layout.groups.as_slice()).saturating_add(layout.dynsyms.len())
 }
 
-/// Whether that table is not too long. Its entries are counted only where that is not known by the files' ranges.
-#[tactic(auto, using(crate::proofs::CountLemmas::few_entries))]
-fn table_fits(layout: &Layout) -> bool
+/// Whether that table is not too long. Its entries are counted only where that is not known by the files' ranges: where these lie in
+/// order, they have no more symbols than there are.
+#[tactic(auto, using(crate::proofs::CountLemmas::few_in_order, crate::proofs::CountLemmas::few_entries))]
+fn table_fits(layout: &Layout, lie: bool) -> bool
+    requires { lie ≡ is_some (all_ranges_lie (length layout.now.symbols) 0 layout.now.groups) }
     ensures { result ≡ table_fits layout.now }
 {
+    let all = layout.symbols.len().saturating_add(layout.dynsyms.len());
+    if lie && all < (1 << 32) - 1 {
+        return true;
+    }
     most_entries(layout) < (1 << 32) - 1 || table_length(layout) < (1 << 32) - 1
 }
 
 /// Whether no list is too long.
-fn lists_fit(layout: &Layout) -> bool
+fn lists_fit(layout: &Layout, lie: bool) -> bool
+    requires { lie ≡ is_some (all_ranges_lie (length layout.now.symbols) 0 layout.now.groups) }
     ensures { result ≡ lists_fit layout.now }
 {
     let sections = layout.sections.len();
@@ -91,26 +100,31 @@ fn lists_fit(layout: &Layout) -> bool
         && sections < 1 << 31
         && layout.segments.len() <= 65534
         && layout.symbols.len() < (1 << 32) - 1
-        && table_fits(layout)
+        && table_fits(layout, lie)
         && relocation_count(layout) < (1 << 32) - 1
         && 1 <= groups
         && groups < (1 << 32) - 1
 }
 
 /// Whether no string table is too long either, and each version can have an index.
-fn counts_fit(layout: &Layout) -> bool
+fn counts_fit(layout: &Layout, lie: bool, needs: u64) -> bool
+    requires lie { lie ≡ is_some (all_ranges_lie (length layout.now.symbols) 0 layout.now.groups) }
+    requires needs { needs ≡ need_number layout.now }
     ensures { result ≡ counts_fit layout.now }
 {
-    lists_fit(layout)
+    lists_fit(layout, lie)
         && name_bytes(layout) < 1 << 32
         && total_share(layout, Role::Dynstr) < 1 << 32
         && total_share(layout, Role::Strtab) < 1 << 32
-        && versions_fit(layout)
+        && versions_fit(layout, needs)
 }
 
+/// It is told whether the files' ranges of symbols lie in order, and how many libraries have versions.
 #[tactic(auto, unfolding(crate::specs::ClauseTests::check_counts))]
-pub(crate) fn check_counts(layout: &Layout) -> Result<(), Clause>
+pub(crate) fn check_counts(layout: &Layout, lie: bool, needs: u64) -> Result<(), Clause>
+    requires lie { lie ≡ is_some (all_ranges_lie (length layout.now.symbols) 0 layout.now.groups) }
+    requires needs { needs ≡ need_number layout.now }
     ensures { result ≡ check_counts layout.now }
 {
-    fails(2, unless(counts_fit(layout)))
+    fails(2, unless(counts_fit(layout, lie, needs)))
 }

@@ -6,7 +6,7 @@ ghost use Rattle.wild_clauses.specs.Astray.{all_ranges_lie};
 ghost use Rattle.wild_clauses.specs.ClauseTests.{check_indexes};
 ghost use Rattle.wild_clauses.specs.Passed.{headers_are_there, symbols_are_there, groups_pass};
 
-use crate::astray::{all_ranges_lie, index_fits, symbol_misfit};
+use crate::astray::{index_fits, symbol_misfit};
 use crate::copies::copied_again;
 use crate::passed::failing;
 use crate::verdict::{fails, unless};
@@ -231,13 +231,13 @@ fn first_out_of_order(layout: &Layout, lie: bool) -> Option<usize>
 }
 
 #[tactic(auto, using(crate::proofs::PassedLemmas::indexes_pass), unfolding(crate::specs::ClauseTests::check_indexes))]
-pub(crate) fn check_indexes(layout: &Layout, passed: bool) -> Result<(), Clause>
+pub(crate) fn check_indexes(layout: &Layout, passed: bool, lie: bool) -> Result<(), Clause>
     requires passed { passed ≡ groups_pass layout.now }
+    requires lie { lie ≡ is_some (all_ranges_lie (length layout.now.symbols) 0 layout.now.groups) }
     ensures { result ≡ check_indexes layout.now }
 {
     let indexes = IndexesFit { layout };
     let groups = layout.groups.as_slice();
-    let lie = all_ranges_lie(layout.symbols.len(), groups);
     fails(9, first_failing(&indexes, layout.parts.as_slice()))?;
     fails(9, unless(layout.primary_part < layout.parts.len()))?;
     fails(9, symbol_misfit(layout, lie))?;

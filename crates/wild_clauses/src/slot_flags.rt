@@ -1,7 +1,7 @@
 //! Clause 14: what is known of a symbol agrees with its slots and its stub.
 ghost use Rattle.std.specs.Prelude.{◌≡◌};
 ghost use Rattle.wild_types.specs.SymbolSlots.{got_of, plt_of, has_dynamic_symbol, has_thread_slot};
-ghost use Rattle.wild_clauses.specs.SlotFlags.{is_asked, first_asked_failing, dynamic_is_interposable, is_value, stub_is_value, stub_has_slot, one_slot_for_address, thread_slot_alone, resolver_is_own, slot_agrees, resolver_moves, takes_block_word, second_slot_fits, agrees_in_all};
+ghost use Rattle.wild_clauses.specs.SlotFlags.{is_asked, first_asked_failing, dynamic_is_interposable, is_value, stub_is_value, stub_has_slot, one_slot_for_address, thread_slot_alone, resolver_is_own, slot_agrees, resolver_moves, takes_block_word, second_slot_fits, is_plain, agrees_in_all};
 ghost use Rattle.wild_clauses.specs.ClauseTests.{check_slot_flags};
 
 use crate::verdict::fails;
@@ -147,6 +147,21 @@ impl Test<Symbol> for SecondSlotFits<'_> {
     }
 }
 
+/// Whether a symbol has no slot and no stub, and no flag that asks for one. It passes them all.
+fn is_plain(symbol: &Symbol) -> bool
+    ensures { result ≡ is_plain symbol.now }
+{
+    let flags = symbol.flags;
+    !flags.is_dynamic()
+        && !flags.is_ifunc()
+        && !flags.needs_got()
+        && !has_thread_slot(flags)
+        && !flags.needs_ifunc_got_for_address()
+        && !flags.needs_canonical_plt_got_for_address()
+        && got_of(symbol).is_none()
+        && plt_of(symbol).is_none()
+}
+
 /// A symbol passes each of these tests.
 #[derive(Clone, Copy)]
 struct AgreesInAll<'a> {
@@ -156,7 +171,11 @@ struct AgreesInAll<'a> {
 impl Test<Symbol> for AgreesInAll<'_> {
     ghost test = { λ t. agrees_in_all t.layout.now };
 
+    #[tactic(auto, using(crate::proofs::FlagLemmas::plain_agrees))]
     fn passes(&self, symbol: &Symbol) -> bool {
+        if is_plain(symbol) {
+            return true;
+        }
         let layout = self.layout;
         DynamicIsInterposable.passes(symbol)
             && StubIsValue.passes(symbol)

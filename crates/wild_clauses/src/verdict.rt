@@ -4,6 +4,7 @@ ghost use Rattle.wild_types.specs.Lists.{unless};
 ghost use Rattle.wild_clauses.specs.ClauseTests.{fails};
 ghost use Rattle.wild_clauses.specs.WellFormed.{first_clause};
 
+use crate::astray::all_ranges_lie;
 use crate::counts::check_counts;
 use crate::dynsyms::check_dynsyms;
 use crate::fields::check_fields;
@@ -27,6 +28,7 @@ use crate::starts::check_starts;
 use crate::threads::check_tls;
 use crate::thunks::check_thunks;
 use crate::versions::check_versions;
+use wild_needs::need_count;
 use wild_types::{Clause, Layout};
 
 /// Clause `clause` fails at that place, where there is one.
@@ -53,15 +55,17 @@ pub fn well_formed(layout: &Layout) -> Result<(), Clause>
     ensures { result ≡ first_clause layout.now }
 {
     let passed = groups_pass(layout);
+    let lie = all_ranges_lie(layout.symbols.len(), layout.groups.as_slice());
+    let needs = need_count(layout);
     check_sizes(layout, passed)?;
-    check_counts(layout)?;
+    check_counts(layout, lie, needs)?;
     check_order(layout)?;
     check_roles(layout)?;
     check_sections(layout)?;
     check_segments(layout)?;
     check_shares(layout, passed)?;
     check_inputs(layout, passed)?;
-    check_indexes(layout, passed)?;
+    check_indexes(layout, passed, lie)?;
     check_fields(layout, passed)?;
     check_slots(layout)?;
     check_thunks(layout)?;
@@ -70,7 +74,7 @@ pub fn well_formed(layout: &Layout) -> Result<(), Clause>
     check_tls(layout)?;
     check_starts(layout)?;
     check_hashes(layout)?;
-    check_versions(layout)?;
+    check_versions(layout, needs)?;
     check_names(layout, passed)?;
     check_reversed(layout, passed)?;
     check_partial(layout, passed)?;

@@ -2,12 +2,13 @@
 ghost use Rattle.std.specs.Prelude.{◌≡◌, ◌-◌, ◌^◌, ◌&&◌, nat_le, length, min, IfSome, Ok};
 ghost use Rattle.std.specs.List.{filter};
 ghost use Rattle.wild_types.specs.Lists.{through, total};
+ghost use Rattle.wild_needs.specs.DynamicPlaces.{need_number};
 ghost use Rattle.wild_needs.specs.Versions.{has_needs, need_count, file_versions, group_versions, versions_needed, most_versions, versions_fit};
 ghost use Rattle.wild_clauses.specs.VersionTables.{parent_is_there, parent_fits, parent_astray, some_definition, definition_astray, mark_step, mark_astray};
 ghost use Rattle.wild_clauses.specs.ClauseTests.{check_counts, check_versions};
 
 use crate::verdict::{fails, unless};
-use wild_needs::{need_count, needs_of};
+use wild_needs::needs_of;
 use wild_types::{Clause, File, Group, Layout, Role, Test, VersionDefinition, is_there};
 
 /// An index of a version has 16 bits (LSB, `vd_ndx`, `vn_cnt`).
@@ -53,20 +54,21 @@ fn versions_needed(layout: &Layout) -> u64
     versions_of_groups(layout.groups.as_slice())
 }
 
-/// Whether each version that is needed can have an index. They are counted only where some library has any.
+/// Whether each version that is needed can have an index, where so many libraries have any. They are counted only where some library does.
 #[tactic(auto, using(crate::proofs::VersionLemmas::none_needed), unfolding(wild_needs::specs::DynamicPlaces::need_number))]
-fn needs_fit(layout: &Layout) -> bool
+fn needs_fit(layout: &Layout, count: u64) -> bool
+    requires { count ≡ need_number layout.now }
     ensures { result ≡ (nat_le (need_count layout.now) most_versions && nat_le (versions_needed layout.now) most_versions) }
 {
-    let count = need_count(layout);
     count == 0 || count <= MOST_VERSIONS && versions_needed(layout) <= MOST_VERSIONS
 }
 
 /// Whether each version can have an index.
-pub(crate) fn versions_fit(layout: &Layout) -> bool
+pub(crate) fn versions_fit(layout: &Layout, count: u64) -> bool
+    requires { count ≡ need_number layout.now }
     ensures { result ≡ versions_fit layout.now }
 {
-    layout.verdefs.len() as u64 <= MOST_VERSIONS && needs_fit(layout)
+    layout.verdefs.len() as u64 <= MOST_VERSIONS && needs_fit(layout, count)
 }
 
 /// A version's parent is one of the list.
@@ -166,36 +168,39 @@ fn mark_astray(count: u64, groups: &[Group]) -> Option<usize>
     None
 }
 
-/// Of how many libraries versions are needed.
+/// Where the counts fit, the number of libraries with versions is exact.
 #[tactic(auto, using(crate::proofs::VersionLemmas::few_needs), unfolding(wild_needs::specs::DynamicPlaces::need_number))]
-fn exact_need_count(layout: &Layout) -> u64
+fn exact_need_count(layout: &Layout, count: u64) -> u64
+    requires needs { count ≡ need_number layout.now }
     requires counts { check_counts layout.now ≡ Ok tt }
     ensures { result ≡ need_count layout.now }
 {
-    need_count(layout)
+    count
 }
 
 /// The first group with a mark that does not fit. None is looked for where no library has versions.
 #[tactic(auto, using(crate::proofs::VersionLemmas::nothing_marked))]
-fn wrong_mark(layout: &Layout) -> Option<usize>
+fn wrong_mark(layout: &Layout, count: u64) -> Option<usize>
+    requires needs { count ≡ need_number layout.now }
     requires counts { check_counts layout.now ≡ Ok tt }
     ensures { result ≡ mark_astray (need_count layout.now) 0 layout.now.groups }
 {
-    let count = exact_need_count(layout);
+    let count = exact_need_count(layout, count);
     if count == 0 {
         return None;
     }
     mark_astray(count, layout.groups.as_slice())
 }
 
-/// It is asked where the counts fit.
+/// It is asked where the counts fit, with the number of libraries of which versions are needed.
 #[tactic(auto, unfolding(crate::specs::ClauseTests::check_versions))]
-pub(crate) fn check_versions(layout: &Layout) -> Result<(), Clause>
+pub(crate) fn check_versions(layout: &Layout, count: u64) -> Result<(), Clause>
+    requires needs { count ≡ need_number layout.now }
     requires counts { check_counts layout.now ≡ Ok tt }
     ensures { result ≡ check_versions layout.now }
 {
     fails(18, definition_astray(layout))?;
-    fails(18, wrong_mark(layout))?;
+    fails(18, wrong_mark(layout, count))?;
     let has_versions = is_there(Role::GnuVersion, layout.parts.as_slice());
     fails(18, unless(layout.options.versions == has_versions))
 }
