@@ -1,8 +1,10 @@
 //! Whether the input sections of each part stand in its range of their group, in order and without overlap.
-ghost use Rattle.std.specs.Prelude.{◌≡◌, ◌+◌, ◌*◌, ◌^◌, ◌≤◌, ◌<◌, length, if◌then◌else◌, is_some, Some, None, ℕ, slice_index};
+ghost use Rattle.std.specs.Prelude.{◌≡◌, ◌+◌, ◌^◌, ◌≤◌, ◌<◌, length, Ok, if◌then◌else◌, is_some, Some, None, ℕ, slice_index};
 ghost use Rattle.wild_laid.specs.Laid.{sorted_input};
 ghost use Rattle.wild_clauses.specs.Contents.{addresses, ends_of, section_misplaced};
-ghost use Rattle.wild_types.specs.Lists.{through};
+ghost use Rattle.wild_types.specs.FilePlaces.{given};
+ghost use Rattle.wild_types.specs.Lists.{through, total};
+ghost use Rattle.wild_clauses.specs.ClauseTests.{check_sizes, check_shares};
 ghost use Rattle.wild_clauses.specs.Misplaced.{earlier, misplaced, all_placed, bytes_placed, file_all_placed};
 ghost use Rattle.wild_clauses.specs.Ordered.{as_ordered, sections_of, ordered};
 
@@ -24,7 +26,7 @@ pub(crate) fn earlier(left: Option<usize>, right: Option<usize>) -> Option<usize
 /// Moves the cursor of a part behind a section with bytes, where that is one of the parts from number `part` on; false where the section
 /// is out of its place.
 #[tactic(auto, using(crate::proofs::BlockLemmas::before_all, crate::proofs::BlockLemmas::behind_all))]
-fn pass_bytes(part: usize, ends: &[u128], cursors: &mut [u128], section: &InputSection) -> bool
+fn pass_bytes(part: usize, ends: &[u64], cursors: &mut [u64], section: &InputSection) -> bool
     requires { length ends.now ≡ length cursors.old }
     ensures { bytes_placed part ends.now cursors.old section.now ≡ (if result then Some cursors.new else None) }
 {
@@ -36,10 +38,10 @@ fn pass_bytes(part: usize, ends: &[u128], cursors: &mut [u128], section: &InputS
         return true;
     }
     let behind = wide_sum(section.address, section.size);
-    if u128::from(section.address) < cursors[k] || ends[k] < behind {
+    if section.address < cursors[k] || u128::from(ends[k]) < behind {
         return false;
     }
-    cursors[k] = behind;
+    cursors[k] = section.address + section.size;
     true
 }
 
@@ -48,8 +50,8 @@ fn pass_bytes(part: usize, ends: &[u128], cursors: &mut [u128], section: &InputS
 fn pass_section(
     layout: &Layout,
     part: usize,
-    ends: &[u128],
-    cursors: &mut [u128],
+    ends: &[u64],
+    cursors: &mut [u64],
     section: &InputSection,
 ) -> bool
     requires { length ends.now ≡ length cursors.old }
@@ -63,8 +65,8 @@ fn pass_section(
 fn pass_ordered(
     layout: &Layout,
     part: usize,
-    ends: &[u128],
-    cursors: &mut [u128],
+    ends: &[u64],
+    cursors: &mut [u64],
     section: &InputSection,
 ) -> bool
     requires { length ends.now ≡ length cursors.old }
@@ -76,8 +78,8 @@ fn pass_ordered(
 fn pass_sections(
     layout: &Layout,
     part: usize,
-    ends: &[u128],
-    cursors: &mut [u128],
+    ends: &[u64],
+    cursors: &mut [u64],
     sections: &[InputSection],
 ) -> bool
     requires { length ends.now ≡ length cursors.old }
@@ -95,8 +97,8 @@ fn pass_sections(
 fn pass_entry(
     layout: &Layout,
     part: usize,
-    ends: &[u128],
-    cursors: &mut [u128],
+    ends: &[u64],
+    cursors: &mut [u64],
     entry: SortedSection,
 ) -> bool
     requires { length ends.now ≡ length cursors.old }
@@ -111,8 +113,8 @@ fn pass_entry(
 fn pass_order(
     layout: &Layout,
     part: usize,
-    ends: &[u128],
-    cursors: &mut [u128],
+    ends: &[u64],
+    cursors: &mut [u64],
     order: &[SortedSection],
 ) -> bool
     requires { length ends.now ≡ length cursors.old }
@@ -127,7 +129,7 @@ fn pass_order(
 }
 
 /// The same for the sections of a file, and with the last file for those in a given order.
-fn pass_file(layout: &Layout, part: usize, ends: &[u128], cursors: &mut [u128], file: &File) -> bool
+fn pass_file(layout: &Layout, part: usize, ends: &[u64], cursors: &mut [u64], file: &File) -> bool
     requires { length ends.now ≡ length cursors.old }
     ensures { file_all_placed layout.now part ends.now cursors.old file.now ≡ (if result then Some cursors.new else None) }
 {
@@ -140,8 +142,8 @@ fn pass_file(layout: &Layout, part: usize, ends: &[u128], cursors: &mut [u128], 
 fn pass_files(
     layout: &Layout,
     part: usize,
-    ends: &[u128],
-    cursors: &mut [u128],
+    ends: &[u64],
+    cursors: &mut [u64],
     files: &[File],
 ) -> bool
     requires { length ends.now ≡ length cursors.old }
@@ -155,26 +157,27 @@ fn pass_files(
     true
 }
 
-/// Moves the starts of the parts from number `part` on behind the group's ranges.
-fn move_starts(starts: &mut [u128], part: usize, group: &Group)
+/// Moves the starts of the parts from number `part` on behind the group's ranges, and the cursors to where these begin.
+fn move_starts(starts: &mut [u64], cursors: &mut [u64], part: usize, group: &Group)
+    requires same { length cursors.old ≡ length starts.old }
     requires numbers { part + length starts.old < 2 ^ 64 }
-    requires room { (k : ℕ) → slice_index starts.old k + 2 ^ 64 < 2 ^ 128 }
+    requires room { (k : ℕ) → k < length starts.old → slice_index starts.old k + given (part + k) group.now < 2 ^ 64 }
     ensures ends { starts.new ≡ ends_of group.now part starts.old }
-    ensures near { (k : ℕ) → slice_index starts.new k < slice_index starts.old k + 2 ^ 64 }
+    ensures begins { cursors.new ≡ starts.old }
 {
     for (k, start) in starts.iter_mut().enumerate() {
-        *start += u128::from(group.given(part + k));
+        cursors[k] = *start;
+        *start += group.given(part + k);
     }
 }
 
 /// Puts where the parts begin.
-fn first_starts(starts: &mut [u128], parts: &[Part])
+fn first_starts(starts: &mut [u64], parts: &[Part])
     requires { length starts.old ≡ length parts.now }
-    ensures starts { starts.new ≡ addresses parts.now }
-    ensures low { (k : ℕ) → slice_index starts.new k < 2 ^ 64 }
+    ensures { starts.new ≡ addresses parts.now }
 {
     for (k, part) in parts.iter().enumerate() {
-        starts[k] = u128::from(part.address);
+        starts[k] = part.address;
     }
 }
 
@@ -184,17 +187,16 @@ fn first_starts(starts: &mut [u128], parts: &[Part])
 fn misplaced_from(
     layout: &Layout,
     part: usize,
-    starts: &mut [u128],
-    cursors: &mut [u128],
+    starts: &mut [u64],
+    cursors: &mut [u64],
 ) -> Option<usize>
     requires same { length cursors.old ≡ length starts.old }
     requires numbers { part + length starts.old < 2 ^ 64 }
-    requires low { (k : ℕ) → slice_index starts.old k < 2 ^ 64 }
+    requires room { (k : ℕ) → k < length starts.old → slice_index starts.old k + total (given (part + k)) layout.now.groups < 2 ^ 64 }
     ensures { result ≡ misplaced layout.now part starts.old 0 layout.now.groups }
 {
     for (i, group) in layout.groups.as_slice().iter().enumerate() {
-        cursors.copy_from_slice(starts);
-        move_starts(starts, part, group);
+        move_starts(starts, cursors, part, group);
         if !pass_files(layout, part, starts, cursors, group.files.as_slice()) {
             return Some(i);
         }
@@ -208,18 +210,21 @@ const BLOCK: usize = 512;
 fn block_misplaced(layout: &Layout, part: usize, block: &[Part]) -> Option<usize>
     requires small { length block.now ≤ 512 }
     requires numbers { part + length block.now < 2 ^ 64 }
+    requires room { (k : ℕ) → k < length block.now → slice_index (addresses block.now) k + total (given (part + k)) layout.now.groups < 2 ^ 64 }
     ensures { result ≡ misplaced layout.now part (addresses block.now) 0 layout.now.groups }
 {
-    let mut starts = [0u128; BLOCK];
-    let mut cursors = [0u128; BLOCK];
+    let mut starts = [0u64; BLOCK];
+    let mut cursors = [0u64; BLOCK];
     let starts = &mut starts[..block.len()];
     let cursors = &mut cursors[..block.len()];
     first_starts(starts, block);
     misplaced_from(layout, part, starts, cursors)
 }
 
-/// The place of the first group with an input section out of its place.
+/// The place of the first group with an input section out of its place. It is asked where parts end low, and shares add up to them.
 pub(crate) fn section_misplaced(layout: &Layout) -> Option<usize>
+    requires sizes { check_sizes layout.now ≡ Ok tt }
+    requires shares { check_shares layout.now ≡ Ok tt }
     ensures { result ≡ section_misplaced layout.now (addresses layout.now.parts) 0 layout.now.groups }
 {
     let parts = layout.parts.as_slice();

@@ -1,4 +1,4 @@
-use Rattle.std.proofs.Common.{◌≡◌, ℕ, ◌+◌, ◌^◌, ◌<◌, ◌≤◌, get_or}
+use Rattle.std.proofs.Common.{◌≡◌, ℕ, ◌+◌, ◌<◌, ◌≤◌, get_or, length}
 use Rattle.wild_types.specs.FilePlaces.{given}
 use Rattle.wild_clauses.proofs.places.move_starts.Given as goal
 
@@ -6,5 +6,6 @@ abbrev pub invariant-loop-k : goal.invariant-loop-k
 invariant-loop-k l = record {
   moved : (j : ℕ) → j < l.k → get_or l.starts j 0 ≡ get_or l.initial.starts j 0 + given (l.part + j) l.group;
   left : (j : ℕ) → l.k ≤ j → get_or l.starts j 0 ≡ get_or l.initial.starts j 0;
-  near : (j : ℕ) → get_or l.starts j 0 < get_or l.initial.starts j 0 + 2 ^ 64;
+  begins : (j : ℕ) → j < l.k → get_or l.cursors j 0 ≡ get_or l.initial.starts j 0;
+  same : length l.cursors ≡ length l.initial.starts;
 }
