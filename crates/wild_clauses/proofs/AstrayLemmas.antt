@@ -183,6 +183,11 @@ lie_ascend l lie = by (all_ranges_lie (length l.symbols) 0 l.groups) refl lie
 pub walk_finds : (l : Layout) → is_some (all_ranges_lie (length l.symbols) 0 l.groups) ≡ true → symbol_misfit l (files_of l.groups) 0 l.symbols ≡ walk_end l (groups_walk l 0 l.groups)
 walk_finds l lie = is_astray_by l (files_of l.groups) 0 l.symbols ∙ groups_step l 0 l.groups (lie_ascend l lie)
 
+-- ---- a range that begins where the one ahead ends
+
+pub no_gap : (l : Layout) (next : ℕ) (f : File) → f.first_symbol ≤ next → gap_astray l next f ≡ None
+no_gap l next f h = let e : f.first_symbol - next ≡ 0 = omega (arith, h) in rw e refl
+
 -- ---- one symbol's own file
 
 count_of : (files later : List File) (i : ℕ) → section_count (file_of (files ++ later) i) ≡ unwrap_or (count_in files i) (section_count (file_of later i))

@@ -49,9 +49,13 @@ fn astray_in(layout: &Layout, count: usize, first: usize, symbols: &[Symbol]) ->
     None
 }
 
+#[tactic(auto, using(crate::proofs::AstrayLemmas::no_gap))]
 fn gap_astray(layout: &Layout, next: usize, file: &File) -> Option<usize>
     ensures { result ≡ gap_astray layout.now next file.now }
 {
+    if file.first_symbol.0 <= next {
+        return None;
+    }
     let symbols = layout.symbols.as_slice();
     let gap = some_from(symbols, next, file.first_symbol.0.saturating_sub(next));
     astray_in(layout, 0, next, gap)

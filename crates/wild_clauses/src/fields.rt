@@ -26,7 +26,7 @@ impl Test<InputRelocation> for FieldLies<'_> {
     #[tactic(auto, using(crate::proofs::FieldLemmas::field_lies_early))]
     fn passes(&self, relocation: &InputRelocation) -> bool {
         let size = self.section.size;
-        if WIDEST <= size && relocation.offset <= size - WIDEST {
+        if relocation.offset < size.saturating_sub(WIDEST - 1) {
             return true;
         }
         let bytes = field_bytes(self.machine, relocation.number) as u64;
