@@ -1,5 +1,5 @@
 -- Groups that need nothing but their input sections.
-use Rattle.std.proofs.Common.{◌≡◌, ℕ, suc, ◌+◌, ◌<◌, ◌==◌, inl, inr, Bool, true, false, List, [], ◌∷◌, ◌++◌, length, get_or, refl, sym, ap, ◌∙◌, arith, subst}
+use Rattle.std.proofs.Common.{◌≡◌, ℕ, suc, ◌+◌, ◌<◌, inl, inr, Bool, true, false, List, [], ◌∷◌, length, get_or, refl, sym, ap, ◌∙◌, arith, subst}
 use Rattle.std.specs.Prelude.{min, ◌-◌, ◌^◌, Some, slice_get}
 use Rattle.std.proofs.lemmas.Bool.{cases_order, eqb-true, le-ltb}
 use Rattle.std.proofs.lemmas.Option.{get_or_from_slice_get}

@@ -1,4 +1,4 @@
-use Rattle.std.proofs.Common.{◌≡◌, ◌≤◌, ◌∙◌, ap, sym, length, arith}
+use Rattle.std.proofs.Common.{◌∙◌, ap, sym, length, arith}
 use Rattle.std.proofs.lemmas.Bool.{eqb-true}
 use Rattle.wild_image.specs.Pieces.{table_given, group_tables}
 use Rattle.wild_layout.specs.Image.{table_piece}

@@ -1,8 +1,7 @@
-use Rattle.std.proofs.Common.{[], sym, ap, ◌∙◌, subst, All}
+use Rattle.std.proofs.Common.{[], sym, ap, ◌∙◌}
 use Rattle.std.proofs.lemmas.List.{take_all}
 use Rattle.std.proofs.lemmas.Result.{err_from_is_err_and}
 use Rattle.std.specs.List.{flat_map}
-use Rattle.wild_types.specs.declared.file.Group.{Group}
 use Rattle.wild_layout.specs.Faults.{flat_map_from, group_errors}
 use Rattle.wild_image.specs.Pieces.{group_tables, group_files}
 use Rattle.wild_sections.proofs.FaultLemmas.{none_behind, refuses_behind}

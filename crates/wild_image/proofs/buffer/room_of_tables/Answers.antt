@@ -1,4 +1,4 @@
-use Rattle.std.proofs.Common.{◌≡◌, length, ap, arith}
+use Rattle.std.proofs.Common.{length, ap, arith}
 use Rattle.std.proofs.lemmas.Option.{slice_get_within}
 use Rattle.wild_image.proofs.AppendLemmas.{read_at}
 use Rattle.wild_image.proofs.TableLemmas.{nothing_more}
