@@ -24,6 +24,7 @@ use Rattle.wild_layout.specs.SectionPlaces.{SectionLies, FieldLies}
 use Rattle.wild_layout.proofs.MovedSites.{turned_or_stays}
 use Rattle.wild_image.specs.Pieces.{section_owned}
 use Rattle.wild_image.specs.Stood.{stands_so, StandsSo, so_errors, so_bytes}
+use Rattle.wild_image.specs.declared.buffer.GroupBytes.{GroupBytes}
 
 loaded_slot : (k : Slot) → is_loaded k ≡ true → k ≡ slot.Loaded
 loaded_slot slot.Loaded e = refl
@@ -78,7 +79,7 @@ pub so_lie : (l : Layout) (s : InputSection) → StandsSo l s → SectionLies l 
 so_lie l s h lies = subst (λ (n : ℕ). All (FieldLies l.machine n) s.relocations) (sym (lies.bytes (fields_written l s h))) (lies.fields (ap has_fields h.loaded))
 
 -- its faults are those of the section as it stands
-pub so_faults : (l : Layout) (group file : ℕ) (f : File) (at section : ℕ) (s : InputSection) → StandsSo l s → so_errors l group file section f s ≡ section_errors l group file f at section s
+so_faults : (l : Layout) (group file : ℕ) (f : File) (at section : ℕ) (s : InputSection) → StandsSo l s → so_errors l group file section f s ≡ section_errors l group file f at section s
 unfolding section_errors
 so_faults l group file f at section s h =
     sym (
@@ -95,7 +96,7 @@ pub so_refuses : (l : Layout) (group file : ℕ) (f : File) (at section : ℕ) (
 so_refuses l group file f at section s e h is = subst (Refuses e) (so_faults l group file f at section s h) is
 
 -- its bytes are its own
-pub so_owned : (l : Layout) (f : File) (at : ℕ) (s : InputSection) → StandsSo l s → so_bytes l f s ≡ section_owned l f (laid_section l f at s)
+so_owned : (l : Layout) (f : File) (at : ℕ) (s : InputSection) → StandsSo l s → so_bytes l f s ≡ section_owned l f (laid_section l f at s)
 unfolding section_bytes
 so_owned l f at s h =
     sym (
@@ -106,7 +107,7 @@ so_owned l f at s h =
     )
 
 -- it adds no frames
-pub so_frames : (l : Layout) (f : File) (at : ℕ) (s : InputSection) (old : List ℕ) → StandsSo l s → old ≡ old ++ frame_bytes_of l f (laid_section l f at s)
+so_frames : (l : Layout) (f : File) (at : ℕ) (s : InputSection) (old : List ℕ) → StandsSo l s → old ≡ old ++ frame_bytes_of l f (laid_section l f at s)
 unfolding frame_bytes_of
 so_frames l f at s old h =
     sym (
@@ -120,5 +121,24 @@ unfolding kept_size
 none_kept l f s h = rw h.loaded refl
 
 -- those behind it stand where they did
-pub so_next : (l : Layout) (f : File) (at : ℕ) (s : InputSection) → at < 2 ^ 64 → StandsSo l s → at ≡ behind at (kept_size l f s)
+so_next : (l : Layout) (f : File) (at : ℕ) (s : InputSection) → at < 2 ^ 64 → StandsSo l s → at ≡ behind at (kept_size l f s)
 so_next l f at s small h = let none = none_kept l f s h in omega (arith, small, none)
+
+-- what one more section adds, and where the frames behind it stand
+pub record Adds (l : Layout) (group file section at next : ℕ) (f : File) (s : InputSection) (old now : GroupBytes) : Type 0 where
+  pub faults : section_errors l group file f at section s ≡ []
+  pub place : next ≡ behind at (kept_size l f s)
+  pub files : now.files ≡ old.files ++ section_owned l f (laid_section l f at s)
+  pub frames : is_hollow_role l role.EhFrame ≡ false → now.frames ≡ old.frames ++ frame_bytes_of l f (laid_section l f at s)
+  pub tables : now.tables ≡ old.tables
+
+pub so_adds : (l : Layout) (group file section at next : ℕ) (f : File) (s : InputSection) (old now : GroupBytes) → stands_so l s ≡ true → at < 2 ^ 64 → so_errors l group file section f s ≡ [] → next ≡ at → now.files ≡ old.files ++ so_bytes l f s → now.frames ≡ old.frames → now.tables ≡ old.tables → Adds l group file section at next f s old now
+so_adds l group file section at next f s old now h small none here files frames tables =
+    let so = told l s h in
+    record {
+      faults = sym (so_faults l group file f at section s so) ∙ none;
+      place = here ∙ so_next l f at s small so;
+      files = files ∙ ap (λ (bs : List ℕ). old.files ++ bs) (so_owned l f at s so);
+      frames = λ written. frames ∙ so_frames l f at s old.frames so;
+      tables = tables;
+    }

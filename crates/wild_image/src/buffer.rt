@@ -343,7 +343,7 @@ fn add_so<A: Arch>(
 /// where those behind it stand.
 #[inline(never)]
 #[tactic(auto, using(crate::proofs::StoodLemmas::section_stood, crate::proofs::StoodLemmas::laid_whole, crate::proofs::StoodLemmas::laid_apart, wild_contents::proofs::LaidLemmas::room_of_laid))]
-fn add_laid<A: ShardedArch, R: Threads + Sync>(
+fn add_section<A: ShardedArch, R: Threads + Sync>(
     by: &Workers<R>,
     resolved: &Resolved<A>,
     place: InputPlace,
@@ -366,35 +366,8 @@ fn add_laid<A: ShardedArch, R: Threads + Sync>(
     Ok(behind_frames(at, laid.section()))
 }
 
-/// Adds the bytes of a section of that file, or answers its first fault, where the file's next frames stand at an address; tells
-/// where those behind it stand. One that stands as the plan has it is not laid.
-fn add_section<A: ShardedArch, R: Threads + Sync>(
-    by: &Workers<R>,
-    resolved: &Resolved<A>,
-    place: InputPlace,
-    file: &File,
-    at: u64,
-    section: &InputSection,
-    bytes: &mut GroupBytes,
-) -> Result<u64, Error>
-    requires lies { SectionLies resolved.now.layout.now (laid_section resolved.now.layout.now file.now at section.now) }
-    requires turned { IsTurned resolved.now.layout.now section.now }
-    requires kind { IsOfKind resolved.now.layout.now section.now }
-    ensures faults { Answers result (section_errors resolved.now.layout.now place.group place.file file.now at place.section section.now) }
-    ensures next { IfOk result (λ n. n ≡ behind at (kept_size resolved.now.layout.now file.now section.now)) }
-    ensures files { OnOk result (bytes.new.files ≡ bytes.old.files ++ section_owned resolved.now.layout.now file.now (laid_section resolved.now.layout.now file.now at section.now)) }
-    ensures frames { OnOk result (is_hollow_role resolved.now.layout.now EhFrame ≡ false → bytes.new.frames ≡ bytes.old.frames ++ frame_bytes_of resolved.now.layout.now file.now (laid_section resolved.now.layout.now file.now at section.now)) }
-    ensures tables { bytes.new.tables ≡ bytes.old.tables }
-{
-    if stands_so(resolved.layout, section) {
-        add_so(by.alloc, resolved, place, file, section, &mut bytes.files)?;
-        return Ok(at);
-    }
-    add_laid(by, resolved, place, file, at, section, bytes)
-}
-
 /// Adds the bytes of the sections of a file, whose frames stand from an address on, or answers their first fault; tells where those
-/// behind stand.
+/// behind stand. One that stands as the plan has it is not laid.
 #[tactic(auto, using(crate::proofs::StoodLemmas::faults_refuse, crate::proofs::StoodLemmas::faults_done, crate::proofs::StoodLemmas::given_done, wild_contents::proofs::LaidLemmas::reach_done))]
 fn add_file_sections<A: ShardedArch, R: Threads + Sync>(
     by: &Workers<R>,
@@ -419,7 +392,11 @@ fn add_file_sections<A: ShardedArch, R: Threads + Sync>(
             section: i,
             ..place
         };
-        next = add_section(by, resolved, here, file, next, section, bytes)?;
+        if stands_so(resolved.layout, section) {
+            add_so(by.alloc, resolved, here, file, section, &mut bytes.files)?;
+        } else {
+            next = add_section(by, resolved, here, file, next, section, bytes)?;
+        }
     }
     Ok(next)
 }

@@ -1,12 +1,15 @@
-use Rattle.std.proofs.Common.{◌≡◌, ◌∙◌, List, drop, length, get_or, sym, ap, arith, subst}
+use Rattle.std.proofs.Common.{◌∙◌, sym, ap, arith, subst}
 use Rattle.std.proofs.lemmas.Result.{err_from_is_err_and}
-use Rattle.wild_types.specs.declared.input.InputSection.{InputSection}
 use Rattle.wild_layout.specs.Content.{frame_bytes_of}
 use Rattle.wild_image.specs.Append.{IsTurned}
 use Rattle.wild_image.specs.Pieces.{section_owned}
 use Rattle.wild_contents.proofs.LaidLemmas.{reach_more, reach_done, behind_small}
-use Rattle.wild_image.proofs.StoodLemmas.{faults_more, faults_refuse, faults_done, lies_head, lies_tail, given_more, given_done}
+use Rattle.wild_image.proofs.StoodLemmas.{faults_more, faults_refuse, lies_head, lies_tail, given_more}
+use Rattle.wild_image.proofs.SoLemmas.{told, so_laid, so_refuses, Adds, so_adds}
+use Rattle.wild_image.specs.declared.buffer.GroupBytes.{GroupBytes}
+use Rattle.wild_layout.specs.SectionPlaces.{SectionLies}
 use Rattle.wild_image.proofs.buffer.add_file_sections.Goals as goal
+use Rattle.wild_image.proofs.buffer.add_file_sections.Goals.{then-stands_so+in_ok-add_so, else-stands_so+in_ok-next}
 
 pub add_section-requires-clause-lies : goal.add_section-requires-clause-lies
 add_section-requires-clause-lies g c κs within = lies_head c.args.resolved.now.layout.now c.args.file.now c.as_slice-section-items.result.now c.loop-i.i c.loop-i.next c.section-item.result c.loop-i-test.true c.section-item.is c.loop-i.invariant.lies
@@ -17,6 +20,23 @@ add_section-requires-clause-turned g c κs within =
     let read = rw c.as_slice-section-items.ensures at c.section-item.is in
     subst (IsTurned c.args.resolved.now.layout.now) (sym read) (c.requires.turned c.loop-i.i c.section-item.result h)
 
+pub add_so-requires-clause-lies : goal.add_so-requires-clause-lies
+add_so-requires-clause-lies g c =
+    let l = c.args.resolved.now.layout.now in
+    let f = c.args.file.now in
+    let s = c.section-item.result in
+    let here = lies_head l f c.as_slice-section-items.result.now c.loop-i.i c.loop-i.next s c.loop-i-test.true c.section-item.is c.loop-i.invariant.lies in
+    subst (SectionLies l) (so_laid l f c.loop-i.next s (told l s (sym c.stands_so.ensures ∙ c.if-stands_so.true))) here
+
+pub returns-in_err-add_so-clause-faults : goal.returns-in_err-add_so-clause-faults
+returns-in_err-add_so-clause-faults g c =
+    let l = c.args.resolved.now.layout.now in
+    let f = c.args.file.now in
+    let s = c.section-item.result in
+    let p = err_from_is_err_and c.from_residual.result c.from_residual.ensures.1 in
+    let refused = so_refuses l c.args.place.group c.args.place.file f c.loop-i.next c.loop-i.i s _ (told l s (sym c.stands_so.ensures ∙ c.if-stands_so.true)) c.in_err-add_so.ensures.faults in
+    rw (p.1, p.2) (faults_refuse l c.args.place.group c.args.place.file f c.as_slice-section-items.result.now c.loop-i.i c.loop-i.next s _ _ c.loop-i-test.true c.section-item.is c.loop-i.invariant.faults refused)
+
 pub loop-i-preserved : goal.loop-i-preserved
 loop-i-preserved g c =
     let l = c.args.resolved.now.layout.now in
@@ -26,15 +46,25 @@ loop-i-preserved g c =
     let s = c.section-item.result in
     let low = c.loop-i-test.true in
     let read = c.section-item.is in
-    let is = c.in_ok-next.ensures.next in
+    let now = c.if-stands_so.bytes in
+    let added : Adds l c.args.place.group c.args.place.file i c.loop-i.next c.if-stands_so.next f s c.loop-i.bytes now = elim c.if-stands_so.branch [
+      | then-stands_so+in_ok-add_so w ↦ so_adds l c.args.place.group c.args.place.file i c.loop-i.next c.if-stands_so.next f s c.loop-i.bytes now (sym c.stands_so.ensures ∙ w.if-stands_so.true) c.loop-i.invariant.small w.in_ok-add_so.ensures.faults w.next-is (ap (λ (b : GroupBytes). b.files) w.bytes-is ∙ w.in_ok-add_so.ensures.bytes) (ap (λ (b : GroupBytes). b.frames) w.bytes-is) (ap (λ (b : GroupBytes). b.tables) w.bytes-is)
+      | else-stands_so+in_ok-next w ↦ rw (w.next-is, w.bytes-is) (record {
+        faults = w.in_ok-next.ensures.faults;
+        place = w.in_ok-next.ensures.next;
+        files = w.in_ok-next.ensures.files;
+        frames = w.in_ok-next.ensures.frames;
+        tables = w.add_section.ensures.tables;
+      })
+    ] in
     record {
-      faults = faults_more l c.args.place.group c.args.place.file f ss i c.loop-i.next _ s _ low read c.loop-i.invariant.faults c.in_ok-next.ensures.faults is;
-      next = reach_more l f ss i s c.loop-i.next _ _ low read c.loop-i.invariant.next is;
-      small = behind_small c.loop-i.next _ _ is;
-      files = given_more (section_owned l f) l f ss i c.loop-i.next _ s c.loop-i.bytes.files _ _ low read is c.loop-i.invariant.files c.in_ok-next.ensures.files;
-      frames = λ written. given_more (frame_bytes_of l f) l f ss i c.loop-i.next _ s c.loop-i.bytes.frames _ _ low read is (c.loop-i.invariant.frames written) (c.in_ok-next.ensures.frames written);
-      tables = c.add_section.ensures.tables ∙ c.loop-i.invariant.tables;
-      lies = lies_tail l f ss i c.loop-i.next _ s low read is c.loop-i.invariant.lies;
+      faults = faults_more l c.args.place.group c.args.place.file f ss i c.loop-i.next _ s _ low read c.loop-i.invariant.faults added.faults added.place;
+      next = reach_more l f ss i s c.loop-i.next _ _ low read c.loop-i.invariant.next added.place;
+      small = behind_small c.loop-i.next _ _ added.place;
+      files = given_more (section_owned l f) l f ss i c.loop-i.next _ s c.loop-i.bytes.files now.files _ low read added.place c.loop-i.invariant.files added.files;
+      frames = λ written. given_more (frame_bytes_of l f) l f ss i c.loop-i.next _ s c.loop-i.bytes.frames now.frames _ low read added.place (c.loop-i.invariant.frames written) (added.frames written);
+      tables = added.tables ∙ c.loop-i.invariant.tables;
+      lies = lies_tail l f ss i c.loop-i.next _ s low read added.place c.loop-i.invariant.lies;
     }
 
 pub returns-clause-next : goal.returns-clause-next

@@ -1,47 +1,24 @@
-use Rattle.std.proofs.Common.{◌≡◌, ◌<◌, ◌^◌, ◌++◌, ◌∙◌, List, ℕ, rules, sym, ap, subst}
-use Rattle.std.proofs.lemmas.Result.{err_from_is_err_and}
-use Rattle.wild_layout.specs.SectionPlaces.{SectionLies}
-use Rattle.wild_image.proofs.SoLemmas.{told, so_laid, so_faults, so_refuses, so_owned, so_frames, so_next}
+use Rattle.std.proofs.Common.{◌≡◌, true, sym, subst}
+use Rattle.wild_types.specs.Lookups.{is_read}
+use Rattle.wild_laid.specs.Stood.{Stood}
+use Rattle.wild_image.specs.Stood.{StoodApart, HasOrigins, IsWhole}
+use Rattle.wild_image.specs.Append.{IsOfKind}
+use Rattle.wild_image.proofs.StoodLemmas.{laid_whole, laid_apart, laid_origins, laid_kind}
 use Rattle.wild_image.proofs.buffer.add_section.Goals as goal
 
-pub add_so-requires-clause-lies : goal.add_so-requires-clause-lies
-add_so-requires-clause-lies g c =
-    let l = c.args.resolved.now.layout.now in
-    let s = c.args.section.now in
-    let so = told l s (sym c.stands_so.ensures ∙ c.if-stands_so.true) in
-    subst (SectionLies l) (so_laid l c.args.file.now c.args.at s so) c.requires.lies
+pub add_stood-requires-clause-whole : goal.add_stood-requires-clause-whole
+add_stood-requires-clause-whole g c κs within = subst (λ (x : Stood). IsWhole x.section) (sym c.in_ok-laid.ensures) (laid_whole c.args.resolved.now.layout.now c.args.file.now c.args.at c.args.section.now)
 
-pub returns-in_err-add_so-clause-faults : goal.returns-in_err-add_so-clause-faults
-returns-in_err-add_so-clause-faults g c =
+pub add_stood-requires-clause-moves : goal.add_stood-requires-clause-moves
+add_stood-requires-clause-moves g c κs within =
     let l = c.args.resolved.now.layout.now in
-    let s = c.args.section.now in
-    let so = told l s (sym c.stands_so.ensures ∙ c.if-stands_so.true) in
-    let p = err_from_is_err_and c.from_residual.result c.from_residual.ensures.1 in
-    rw (p.1, p.2) (so_refuses l c.args.place.group c.args.place.file c.args.file.now c.args.at c.args.place.section s _ so c.in_err-add_so.ensures.faults)
+    let f = c.args.file.now in
+    subst (λ (x : Stood). is_read x.section ≡ true → StoodApart l f x) (sym c.in_ok-laid.ensures) (laid_apart l f c.args.at c.args.section.now c.requires.turned)
 
-pub returns-then-stands_so-clause-faults : goal.returns-then-stands_so-clause-faults
-returns-then-stands_so-clause-faults g c =
+pub add_stood-requires-clause-kind : goal.add_stood-requires-clause-kind
+add_stood-requires-clause-kind g c κs within =
     let l = c.args.resolved.now.layout.now in
-    let s = c.args.section.now in
-    let so = told l s (sym c.stands_so.ensures ∙ c.if-stands_so.true) in
-    sym (so_faults l c.args.place.group c.args.place.file c.args.file.now c.args.at c.args.place.section s so) ∙ c.in_ok-add_so.ensures.faults
+    subst (λ (x : Stood). IsOfKind l x.section) (sym c.in_ok-laid.ensures) (laid_kind l c.args.file.now c.args.at c.args.section.now c.requires.kind)
 
-pub returns-then-stands_so-clause-next : goal.returns-then-stands_so-clause-next
-returns-then-stands_so-clause-next g c =
-    let l = c.args.resolved.now.layout.now in
-    let s = c.args.section.now in
-    let small : c.args.at < 2 ^ 64 = search rules in
-    so_next l c.args.file.now c.args.at s small (told l s (sym c.stands_so.ensures ∙ c.if-stands_so.true))
-
-pub returns-then-stands_so-clause-files : goal.returns-then-stands_so-clause-files
-returns-then-stands_so-clause-files g c =
-    let l = c.args.resolved.now.layout.now in
-    let s = c.args.section.now in
-    let so = told l s (sym c.stands_so.ensures ∙ c.if-stands_so.true) in
-    c.in_ok-add_so.ensures.bytes ∙ ap (λ (bs : List ℕ). c.args.bytes.now.files ++ bs) (so_owned l c.args.file.now c.args.at s so)
-
-pub returns-then-stands_so-clause-frames : goal.returns-then-stands_so-clause-frames
-returns-then-stands_so-clause-frames g c = λ written.
-    let l = c.args.resolved.now.layout.now in
-    let s = c.args.section.now in
-    so_frames l c.args.file.now c.args.at s c.args.bytes.now.frames (told l s (sym c.stands_so.ensures ∙ c.if-stands_so.true))
+pub add_stood-requires-clause-origins : goal.add_stood-requires-clause-origins
+add_stood-requires-clause-origins g c κs within = subst HasOrigins (sym c.in_ok-laid.ensures) (laid_origins c.args.resolved.now.layout.now c.args.file.now c.args.at c.args.section.now c.requires.kind)
