@@ -15,6 +15,7 @@ pub mod PlacelessLemmas
 pub mod RoomLemmas
 pub mod SlotPlaceLemmas
 pub mod StartLemmas
+pub mod SurveyLemmas
 pub mod UnlistedLemmas
 pub mod VersionLemmas
 pub mod ClauseLemmas

@@ -16,6 +16,7 @@ pub mod Positions
 pub mod Segments
 pub mod SlotFlags
 pub mod SlotPlaces
+pub mod Survey
 pub mod Thunks
 pub mod VersionTables
 pub mod WellFormed

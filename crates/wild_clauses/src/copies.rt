@@ -3,6 +3,7 @@
 ghost use Rattle.std.specs.Prelude.{◌≡◌, ◌≤◌, ◌+◌, ◌^◌, [], map, Some, None, if◌then◌else◌};
 ghost use Rattle.std.specs.List.{flat_map};
 ghost use Rattle.wild_clauses.specs.Copies.{copied_of, windows_of, marked, first_marked, again_between};
+ghost use Rattle.wild_clauses.specs.Survey.{are_ordinary};
 ghost use Rattle.wild_types.specs.FileSymbols.{copied_in, copied_again};
 ghost use Rattle.wild_types.specs.Lists.{through};
 ghost use Rattle.wild_types.specs.Lookups.{canonical};
@@ -114,7 +115,7 @@ fn again_in_window(layout: &Layout, groups: &[Group], start: usize) -> Option<us
 
 /// The place of the first group with a copy whose definition is that of a copy ahead.
 #[tactic(auto, using(crate::proofs::CopyLemmas::no_window, crate::proofs::CopyLemmas::next_window, crate::proofs::CopyLemmas::all_windows))]
-pub(crate) fn copied_again(layout: &Layout, groups: &[Group]) -> Option<usize>
+fn copied_again(layout: &Layout, groups: &[Group]) -> Option<usize>
     ensures { result ≡ copied_again layout.now [] 0 groups.now }
 {
     let mut first = None;
@@ -122,4 +123,17 @@ pub(crate) fn copied_again(layout: &Layout, groups: &[Group]) -> Option<usize>
         first = earlier(first, again_in_window(layout, groups, window * WINDOW));
     }
     first
+}
+
+/// The same, which is asked only where some file is not ordinary.
+#[tactic(auto, using(crate::proofs::SurveyLemmas::none_copied))]
+pub(crate) fn first_copied_again(layout: &Layout, ordinary: bool) -> Option<usize>
+    requires { ordinary ≡ are_ordinary layout.now.groups }
+    ensures { result ≡ copied_again layout.now [] 0 layout.now.groups }
+{
+    if ordinary {
+        None
+    } else {
+        copied_again(layout, layout.groups.as_slice())
+    }
 }

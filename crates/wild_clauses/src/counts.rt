@@ -4,47 +4,14 @@ ghost use Rattle.wild_needs.specs.Needs.{total_share};
 ghost use Rattle.wild_needs.specs.DynamicPlaces.{need_number};
 ghost use Rattle.wild_clauses.specs.Astray.{all_ranges_lie};
 ghost use Rattle.wild_clauses.specs.Counts.{symbols_of, table_fits, lists_fit, counts_fit};
-ghost use Rattle.wild_clauses.specs.Places.{relocations_in, relocations_of, relocation_count};
+ghost use Rattle.wild_clauses.specs.Places.{relocation_count};
 ghost use Rattle.wild_types.specs.Lists.{total};
 ghost use Rattle.wild_clauses.specs.ClauseTests.{check_counts};
 
 use crate::verdict::{fails, unless};
 use crate::versions::versions_fit;
 use wild_needs::{name_bytes, table_length, total_share};
-use wild_types::{Clause, File, Group, Layout, Role};
-
-/// At most 2^64 - 1.
-fn relocations_of_file(file: &File) -> u64
-    ensures { result ≡ min (2 ^ 64 - 1) (relocations_in file.now) }
-{
-    let mut count: u64 = 0;
-    for section in file.sections.as_slice() {
-        count = count.saturating_add(section.relocations.len() as u64);
-    }
-    count
-}
-
-/// At most 2^64 - 1.
-fn relocations_of_group(group: &Group) -> u64
-    ensures { result ≡ min (2 ^ 64 - 1) (relocations_of group.now) }
-{
-    let mut count: u64 = 0;
-    for file in group.files.as_slice() {
-        count = count.saturating_add(relocations_of_file(file));
-    }
-    count
-}
-
-/// At most 2^64 - 1.
-fn relocation_count(layout: &Layout) -> u64
-    ensures { result ≡ min (2 ^ 64 - 1) (relocation_count layout.now) }
-{
-    let mut count: u64 = 0;
-    for group in layout.groups.as_slice() {
-        count = count.saturating_add(relocations_of_group(group));
-    }
-    count
-}
+use wild_types::{Clause, Group, Layout, Role};
 
 /// How many symbols the ranges of a group's files have, at most 2^64 - 1.
 fn symbols_of_group(group: &Group) -> usize
@@ -90,8 +57,9 @@ fn table_fits(layout: &Layout, lie: bool) -> bool
 }
 
 /// Whether no list is too long.
-fn lists_fit(layout: &Layout, lie: bool) -> bool
-    requires { lie ≡ is_some (all_ranges_lie (length layout.now.symbols) 0 layout.now.groups) }
+fn lists_fit(layout: &Layout, lie: bool, relocations: u64) -> bool
+    requires lie { lie ≡ is_some (all_ranges_lie (length layout.now.symbols) 0 layout.now.groups) }
+    requires relocations { min (2 ^ 64 - 1) relocations ≡ min (2 ^ 64 - 1) (relocation_count layout.now) }
     ensures { result ≡ lists_fit layout.now }
 {
     let sections = layout.sections.len();
@@ -101,30 +69,37 @@ fn lists_fit(layout: &Layout, lie: bool) -> bool
         && layout.segments.len() <= 65534
         && layout.symbols.len() < (1 << 32) - 1
         && table_fits(layout, lie)
-        && relocation_count(layout) < (1 << 32) - 1
+        && relocations < (1 << 32) - 1
         && 1 <= groups
         && groups < (1 << 32) - 1
 }
 
 /// Whether no string table is too long either, and each version can have an index.
-fn counts_fit(layout: &Layout, lie: bool, needs: u64) -> bool
+fn counts_fit(layout: &Layout, lie: bool, needs: u64, relocations: u64) -> bool
     requires lie { lie ≡ is_some (all_ranges_lie (length layout.now.symbols) 0 layout.now.groups) }
     requires needs { needs ≡ need_number layout.now }
+    requires relocations { min (2 ^ 64 - 1) relocations ≡ min (2 ^ 64 - 1) (relocation_count layout.now) }
     ensures { result ≡ counts_fit layout.now }
 {
-    lists_fit(layout, lie)
+    lists_fit(layout, lie, relocations)
         && name_bytes(layout) < 1 << 32
         && total_share(layout, Role::Dynstr) < 1 << 32
         && total_share(layout, Role::Strtab) < 1 << 32
         && versions_fit(layout, needs)
 }
 
-/// It is told whether the files' ranges of symbols lie in order, and how many libraries have versions.
+/// It is told whether the files' ranges of symbols lie in order, how many libraries have versions, and how many relocations there are.
 #[tactic(auto, unfolding(crate::specs::ClauseTests::check_counts))]
-pub(crate) fn check_counts(layout: &Layout, lie: bool, needs: u64) -> Result<(), Clause>
+pub(crate) fn check_counts(
+    layout: &Layout,
+    lie: bool,
+    needs: u64,
+    relocations: u64,
+) -> Result<(), Clause>
     requires lie { lie ≡ is_some (all_ranges_lie (length layout.now.symbols) 0 layout.now.groups) }
     requires needs { needs ≡ need_number layout.now }
+    requires relocations { min (2 ^ 64 - 1) relocations ≡ min (2 ^ 64 - 1) (relocation_count layout.now) }
     ensures { result ≡ check_counts layout.now }
 {
-    fails(2, unless(counts_fit(layout, lie, needs)))
+    fails(2, unless(counts_fit(layout, lie, needs, relocations)))
 }

@@ -4,10 +4,11 @@ ghost use Rattle.wild_clauses.specs.Indexes.{index_fits, part_index_fits, reloca
 ghost use Rattle.wild_types.specs.Lists.{through};
 ghost use Rattle.wild_clauses.specs.Astray.{all_ranges_lie};
 ghost use Rattle.wild_clauses.specs.ClauseTests.{check_indexes};
+ghost use Rattle.wild_clauses.specs.Survey.{are_ordinary};
 ghost use Rattle.wild_clauses.specs.Passed.{headers_are_there, symbols_are_there, groups_pass};
 
 use crate::astray::{index_fits, symbol_misfit};
-use crate::copies::copied_again;
+use crate::copies::first_copied_again;
 use crate::passed::failing;
 use crate::verdict::{fails, unless};
 use crate::versions::ParentIsThere;
@@ -231,8 +232,14 @@ fn first_out_of_order(layout: &Layout, lie: bool) -> Option<usize>
 }
 
 #[tactic(auto, using(crate::proofs::PassedLemmas::indexes_pass), unfolding(crate::specs::ClauseTests::check_indexes))]
-pub(crate) fn check_indexes(layout: &Layout, passed: bool, lie: bool) -> Result<(), Clause>
+pub(crate) fn check_indexes(
+    layout: &Layout,
+    passed: bool,
+    lie: bool,
+    ordinary: bool,
+) -> Result<(), Clause>
     requires passed { passed ≡ groups_pass layout.now }
+    requires ordinary { ordinary ≡ are_ordinary layout.now.groups }
     requires lie { lie ≡ is_some (all_ranges_lie (length layout.now.symbols) 0 layout.now.groups) }
     ensures { result ≡ check_indexes layout.now }
 {
@@ -252,7 +259,7 @@ pub(crate) fn check_indexes(layout: &Layout, passed: bool, lie: bool) -> Result<
     fails(9, first_failing(&indexes, layout.merged.as_slice()))?;
     fails(9, unless(layout.identity.part < layout.parts.len()))?;
     fails(9, unless(entry_is_there(layout)))?;
-    fails(9, copied_again(layout, groups))?;
+    fails(9, first_copied_again(layout, ordinary))?;
     fails(9, first_failing(&indexes, layout.symbols.as_slice()))?;
     fails(9, first_out_of_order(layout, lie))
 }

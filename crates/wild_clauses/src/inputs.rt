@@ -2,6 +2,7 @@
 ghost use Rattle.std.specs.Prelude.{◌≡◌, Ok, slice_get};
 ghost use Rattle.wild_clauses.specs.Contents.{length_fits, may_lack_bytes, is_frames_part, frames_part_fits, discarded_is_empty, is_raw, part_is_raw, holds_bytes, merged_is_raw, identity_is_raw, holds_thunks, primary_fits, has_room, allocation_agrees, has_some, bytes_take_room};
 ghost use Rattle.wild_clauses.specs.Passed.{passes_all, parts_fit, groups_pass};
+ghost use Rattle.wild_clauses.specs.Survey.{are_ordinary};
 ghost use Rattle.wild_clauses.specs.ClauseTests.{once_fits, check_sizes, check_shares, check_inputs};
 
 use crate::each_section::failing_group;
@@ -230,15 +231,16 @@ fn parts_fit(layout: &Layout) -> bool
 
 /// It is asked where sizes and shares hold. The tests are asked one by one only where a group or a part fails one of them.
 #[tactic(auto, using(crate::proofs::PassedLemmas::inputs_pass), unfolding(crate::specs::ClauseTests::check_inputs))]
-pub(crate) fn check_inputs(layout: &Layout, passed: bool) -> Result<(), Clause>
+pub(crate) fn check_inputs(layout: &Layout, passed: bool, ordinary: bool) -> Result<(), Clause>
     requires sizes { check_sizes layout.now ≡ Ok tt }
     requires shares { check_shares layout.now ≡ Ok tt }
     requires passed { passed ≡ groups_pass layout.now }
+    requires ordinary { ordinary ≡ are_ordinary layout.now.groups }
     ensures { result ≡ check_inputs layout.now }
 {
     let groups = layout.groups.as_slice();
     fails(8, section_misplaced(layout))?;
-    fails(8, sorted_named_once(layout))?;
+    fails(8, sorted_named_once(layout, ordinary))?;
     fails(
         8,
         first_failing(&NamesSorted { layout }, layout.sorted.as_slice()),

@@ -1,7 +1,10 @@
-//! What each clause asks of one file by itself, of all clauses at once. The clauses ask it one by one only where a group fails.
-ghost use Rattle.std.specs.Prelude.{◌≡◌, true, None};
+//! What each clause asks of one file by itself, of all clauses at once. The clauses ask it one by one only where a group fails. The same walk
+//! tells what else clauses ask of all files.
+ghost use Rattle.std.specs.Prelude.{◌≡◌, ◌-◌, ◌^◌, true, None, min};
 ghost use Rattle.wild_types.specs.Lists.{first_failing};
-ghost use Rattle.wild_clauses.specs.Passed.{relocation_passes, section_passes, file_passes, group_passes, groups_pass};
+ghost use Rattle.wild_clauses.specs.Passed.{relocation_passes, section_passes, groups_pass};
+ghost use Rattle.wild_clauses.specs.Places.{relocation_count};
+ghost use Rattle.wild_clauses.specs.Survey.{is_unsorted, needs_no_more, are_ordinary, section_step, own_passes, file_here, file_step, group_here, group_step, surveyed};
 
 use crate::fields::FieldPasses;
 use crate::fronts::ReversedFits;
@@ -12,7 +15,7 @@ use crate::partial::IsOfKind;
 use crate::shares::HasShareForEachPart;
 use crate::sizes::SizesFit;
 use wild_types::{
-    File, Group, InputRelocation, InputSection, Layout, Test, all_pass, first_failing,
+    File, Group, InputRelocation, InputSection, Layout, Slot, Test, all_pass, first_failing,
 };
 
 /// A relocation of a section passes each test.
@@ -34,7 +37,7 @@ impl Test<InputRelocation> for RelocationPasses<'_> {
     }
 }
 
-/// So does all of an item.
+/// A section passes each, and so do its relocations.
 #[derive(Clone, Copy)]
 struct Passes<'a> {
     layout: &'a Layout,
@@ -58,34 +61,124 @@ impl Test<InputSection> for Passes<'_> {
     }
 }
 
-impl Test<File> for Passes<'_> {
-    ghost test = { λ t. file_passes t.layout.now };
-
-    #[tactic(auto, unfolding(crate::specs::Passed::file_passes))]
-    fn passes(&self, file: &File) -> bool {
-        let layout = self.layout;
-        IndexesFit { layout }.symbols_are_there(file)
-            && NamesFit.library_names_fit(file)
-            && all_pass(self, file.sections.as_slice())
-    }
+/// What is known of groups, and of what stands in them: whether each passes; whether each file is ordinary, which is one without copies, of which
+/// no versions are needed, with no section in a given order; and how many relocations there are, at most 2^64 - 1.
+#[derive(Clone, Copy)]
+pub struct Survey {
+    pub passed: bool,
+    pub ordinary: bool,
+    pub relocations: u64,
 }
 
-impl Test<Group> for Passes<'_> {
-    ghost test = { λ t. group_passes t.layout.now };
-
-    #[tactic(auto, unfolding(crate::specs::Passed::group_passes))]
-    fn passes(&self, group: &Group) -> bool {
-        let count = self.layout.parts.len();
-        HasShareForEachPart { count }.passes(group) && all_pass(self, group.files.as_slice())
-    }
-}
-
-/// Whether each group passes.
-#[tactic(auto, unfolding(crate::specs::Passed::groups_pass))]
-pub(crate) fn groups_pass(layout: &Layout) -> bool
-    ensures { result ≡ groups_pass layout.now }
+fn is_unsorted(section: &InputSection) -> bool
+    ensures { result ≡ is_unsorted section.now }
 {
-    all_pass(&Passes { layout }, layout.groups.as_slice())
+    !matches!(section.slot, Slot::Sorted)
+}
+
+/// What is known behind a section.
+#[tactic(auto, unfolding(crate::specs::Survey::section_step))]
+fn section_step(layout: &Layout, before: Survey, section: &InputSection) -> Survey
+    ensures { result ≡ section_step layout.now before section.now }
+{
+    Survey {
+        passed: before.passed && Passes { layout }.passes(section),
+        ordinary: before.ordinary && is_unsorted(section),
+        relocations: before
+            .relocations
+            .saturating_add(section.relocations.len() as u64),
+    }
+}
+
+/// Whether a file passes what is asked of it ahead of its sections.
+#[tactic(auto, unfolding(crate::specs::Survey::own_passes))]
+fn own_passes(layout: &Layout, file: &File) -> bool
+    ensures { result ≡ own_passes layout.now file.now }
+{
+    IndexesFit { layout }.symbols_are_there(file) && NamesFit.library_names_fit(file)
+}
+
+/// Whether it is ordinary, but for its sections.
+#[tactic(auto, unfolding(crate::specs::Survey::needs_no_more))]
+fn needs_no_more(file: &File) -> bool
+    ensures { result ≡ needs_no_more file.now }
+{
+    file.copies.len() == 0 && file.verneed.is_none()
+}
+
+/// What is known ahead of a file's sections.
+#[tactic(auto, unfolding(crate::specs::Survey::file_here))]
+fn file_here(layout: &Layout, before: Survey, file: &File) -> Survey
+    ensures { result ≡ file_here layout.now before file.now }
+{
+    Survey {
+        passed: before.passed && own_passes(layout, file),
+        ordinary: before.ordinary && needs_no_more(file),
+        relocations: before.relocations,
+    }
+}
+
+/// What is known behind a file.
+#[tactic(auto, unfolding(crate::specs::Survey::along, crate::specs::Survey::file_step))]
+fn file_step(layout: &Layout, before: Survey, file: &File) -> Survey
+    ensures { result ≡ file_step layout.now before file.now }
+{
+    let mut known = file_here(layout, before, file);
+    for section in file.sections.as_slice() {
+        known = section_step(layout, known, section);
+    }
+    known
+}
+
+/// What is known ahead of a group's files.
+#[tactic(auto, unfolding(crate::specs::Survey::group_here))]
+fn group_here(layout: &Layout, before: Survey, group: &Group) -> Survey
+    ensures { result ≡ group_here layout.now before group.now }
+{
+    let count = layout.parts.len();
+    Survey {
+        passed: before.passed && HasShareForEachPart { count }.passes(group),
+        ordinary: before.ordinary,
+        relocations: before.relocations,
+    }
+}
+
+/// What is known behind a group.
+#[tactic(auto, unfolding(crate::specs::Survey::along, crate::specs::Survey::group_step))]
+fn group_step(layout: &Layout, before: Survey, group: &Group) -> Survey
+    ensures { result ≡ group_step layout.now before group.now }
+{
+    let mut known = group_here(layout, before, group);
+    for file in group.files.as_slice() {
+        known = file_step(layout, known, file);
+    }
+    known
+}
+
+/// What is known behind all groups.
+#[tactic(auto, unfolding(crate::specs::Survey::along, crate::specs::Survey::surveyed))]
+fn surveyed(layout: &Layout) -> Survey
+    ensures { result ≡ surveyed layout.now }
+{
+    let mut known = Survey {
+        passed: true,
+        ordinary: true,
+        relocations: 0,
+    };
+    for group in layout.groups.as_slice() {
+        known = group_step(layout, known, group);
+    }
+    known
+}
+
+/// What one walk tells of all groups.
+#[tactic(auto, using(crate::proofs::SurveyLemmas::passed_told, crate::proofs::SurveyLemmas::ordinary_told, crate::proofs::SurveyLemmas::relocations_told))]
+pub(crate) fn survey_groups(layout: &Layout) -> Survey
+    ensures passed { result.passed ≡ groups_pass layout.now }
+    ensures ordinary { result.ordinary ≡ are_ordinary layout.now.groups }
+    ensures relocations { min (2 ^ 64 - 1) result.relocations ≡ min (2 ^ 64 - 1) (relocation_count layout.now) }
+{
+    surveyed(layout)
 }
 
 /// The place of the first group that fails a test, which all pass that passed.

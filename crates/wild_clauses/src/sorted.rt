@@ -2,6 +2,7 @@
 ghost use Rattle.std.specs.Prelude.{◌≡◌};
 ghost use Rattle.wild_types.specs.Lookups.{has_bytes};
 ghost use Rattle.wild_clauses.specs.Ordered.{as_ordered};
+ghost use Rattle.wild_clauses.specs.Survey.{are_ordinary};
 ghost use Rattle.wild_clauses.specs.Contents.{times_named, is_named_once, sections_named_once, files_named_once, sorted_named_once, names_sorted};
 
 use wild_laid::sorted_input;
@@ -66,10 +67,15 @@ fn files_named_once(layout: &Layout, group: usize, files: &[File]) -> bool
     true
 }
 
-/// The first group with a sorted section that is not named once.
-pub(crate) fn sorted_named_once(layout: &Layout) -> Option<usize>
+/// The first group with a sorted section that is not named once. None is looked for where all files are ordinary.
+#[tactic(auto, using(crate::proofs::SurveyLemmas::none_sorted))]
+pub(crate) fn sorted_named_once(layout: &Layout, ordinary: bool) -> Option<usize>
+    requires { ordinary ≡ are_ordinary layout.now.groups }
     ensures { result ≡ sorted_named_once layout.now 0 layout.now.groups }
 {
+    if ordinary {
+        return None;
+    }
     for (i, group) in layout.groups.as_slice().iter().enumerate() {
         if !files_named_once(layout, i, group.files.as_slice()) {
             return Some(i);

@@ -16,7 +16,7 @@ use crate::loaded::Side;
 use crate::names::check_names;
 use crate::order::check_order;
 use crate::partial::check_partial;
-use crate::passed::groups_pass;
+use crate::passed::{Survey, survey_groups};
 use crate::roles::check_roles;
 use crate::sections::check_sections;
 use crate::segments::check_segments;
@@ -27,8 +27,7 @@ use crate::slots::check_slots;
 use crate::starts::check_starts;
 use crate::threads::check_tls;
 use crate::thunks::check_thunks;
-use crate::versions::check_versions;
-use wild_needs::need_count;
+use crate::versions::{check_versions, needed_libraries};
 use wild_types::{Clause, Layout};
 
 /// Clause `clause` fails at that place, where there is one.
@@ -54,18 +53,22 @@ pub(crate) fn unless(ok: bool) -> Option<usize>
 pub fn well_formed(layout: &Layout) -> Result<(), Clause>
     ensures { result ≡ first_clause layout.now }
 {
-    let passed = groups_pass(layout);
+    let Survey {
+        passed,
+        ordinary,
+        relocations,
+    } = survey_groups(layout);
     let lie = all_ranges_lie(layout.symbols.len(), layout.groups.as_slice());
-    let needs = need_count(layout);
+    let needs = needed_libraries(layout, ordinary);
     check_sizes(layout, passed)?;
-    check_counts(layout, lie, needs)?;
+    check_counts(layout, lie, needs, relocations)?;
     check_order(layout)?;
     check_roles(layout)?;
     check_sections(layout)?;
     check_segments(layout)?;
     check_shares(layout, passed)?;
-    check_inputs(layout, passed)?;
-    check_indexes(layout, passed, lie)?;
+    check_inputs(layout, passed, ordinary)?;
+    check_indexes(layout, passed, lie, ordinary)?;
     check_fields(layout, passed)?;
     check_slots(layout)?;
     check_thunks(layout)?;

@@ -4,15 +4,25 @@ ghost use Rattle.std.specs.List.{filter};
 ghost use Rattle.wild_types.specs.Lists.{through, total};
 ghost use Rattle.wild_needs.specs.DynamicPlaces.{need_number};
 ghost use Rattle.wild_needs.specs.Versions.{has_needs, need_count, file_versions, group_versions, versions_needed, most_versions, versions_fit};
+ghost use Rattle.wild_clauses.specs.Survey.{are_ordinary};
 ghost use Rattle.wild_clauses.specs.VersionTables.{parent_is_there, parent_fits, parent_astray, some_definition, definition_astray, mark_step, mark_astray};
 ghost use Rattle.wild_clauses.specs.ClauseTests.{check_counts, check_versions};
 
 use crate::verdict::{fails, unless};
-use wild_needs::needs_of;
+use wild_needs::{need_count, needs_of};
 use wild_types::{Clause, File, Group, Layout, Role, Test, VersionDefinition, is_there};
 
 /// An index of a version has 16 bits (LSB, `vd_ndx`, `vn_cnt`).
 const MOST_VERSIONS: u64 = 65535;
+
+/// Of how many libraries versions are needed, at most 2^64 - 1. They are counted only where some file is not ordinary.
+#[tactic(auto, using(crate::proofs::SurveyLemmas::none_needed))]
+pub(crate) fn needed_libraries(layout: &Layout, ordinary: bool) -> u64
+    requires { ordinary ≡ are_ordinary layout.now.groups }
+    ensures { result ≡ need_number layout.now }
+{
+    if ordinary { 0 } else { need_count(layout) }
+}
 
 /// How many versions are needed of a file.
 fn file_versions(file: &File) -> u64

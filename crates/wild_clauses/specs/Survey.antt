@@ -1,0 +1,76 @@
+-- What one walk over all groups tells ahead of the clauses.
+--   is_ordinary f        no section of the file is in a given order, it has no copies, and no versions are needed of it
+--   are_ordinary gs      so are the files of all groups
+--   section_step l v s   what is known behind a section, and so behind a file and a group
+--   surveyed l           what is known of all groups
+use Rattle.std.specs.Prelude.{ℕ, ◌+◌, ◌-◌, ◌^◌, ◌==◌, Bool, true, not, ◌&&◌, List, [], ◌∷◌, length, is_none, min}
+use Rattle.std.specs.List.{list_all}
+use Rattle.wild_types.specs.declared.input.InputSection.{InputSection}
+use Rattle.wild_types.specs.declared.file.File.{File}
+use Rattle.wild_types.specs.declared.file.Group.{Group}
+use Rattle.wild_types.specs.declared.layout.Layout.{Layout}
+pub use Rattle.wild_clauses.specs.declared.passed.Survey.{Survey}
+use Rattle.wild_clauses.specs.Contents.{has_share_for_each_part, is_sorted}
+use Rattle.wild_clauses.specs.Passed.{section_passes, symbols_are_there, library_names_fit}
+
+-- the section is in no given order
+abbrev pub is_unsorted : InputSection → Bool
+is_unsorted s = not (is_sorted s.slot)
+
+-- ahead of its sections
+unfoldable pub needs_no_more : File → Bool
+needs_no_more f = length f.copies == 0 && is_none f.verneed
+
+abbrev pub is_ordinary : File → Bool
+is_ordinary f = needs_no_more f && list_all is_unsorted f.sections
+
+abbrev pub is_ordinary_group : Group → Bool
+is_ordinary_group g = list_all is_ordinary g.files
+
+unfoldable pub are_ordinary : List Group → Bool
+are_ordinary gs = list_all is_ordinary_group gs
+
+-- ---- one item after another
+
+-- the state behind all items
+unfoldable pub along : {S X : Type 0} → (S → X → S) → S → List X → S
+along step v [] = v
+along step v (x ∷ xs) = along step (step v x) xs
+
+unfoldable pub section_step : Layout → Survey → InputSection → Survey
+section_step l v s = record {
+  passed = v.passed && section_passes l s;
+  ordinary = v.ordinary && is_unsorted s;
+  relocations = min (2 ^ 64 - 1) (v.relocations + length s.relocations);
+}
+
+-- what is asked of a file ahead of its sections
+unfoldable pub own_passes : Layout → File → Bool
+own_passes l f = symbols_are_there l f && library_names_fit f
+
+unfoldable pub file_here : Layout → Survey → File → Survey
+file_here l v f = record {
+  passed = v.passed && own_passes l f;
+  ordinary = v.ordinary && needs_no_more f;
+  relocations = v.relocations;
+}
+
+unfoldable pub file_step : Layout → Survey → File → Survey
+file_step l v f = along (section_step l) (file_here l v f) f.sections
+
+-- ahead of its files
+unfoldable pub group_here : Layout → Survey → Group → Survey
+group_here l v g = record {
+  passed = v.passed && has_share_for_each_part (length l.parts) g;
+  ordinary = v.ordinary;
+  relocations = v.relocations;
+}
+
+unfoldable pub group_step : Layout → Survey → Group → Survey
+group_step l v g = along (file_step l) (group_here l v g) g.files
+
+abbrev pub nothing_seen : Survey
+nothing_seen = record { passed = true; ordinary = true; relocations = 0 }
+
+unfoldable pub surveyed : Layout → Survey
+surveyed l = along (group_step l) nothing_seen l.groups
