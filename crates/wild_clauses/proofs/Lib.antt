@@ -12,6 +12,7 @@ pub mod OrderedLemmas
 pub mod PartialLemmas
 pub mod PassedLemmas
 pub mod PlacelessLemmas
+pub mod RoleLemmas
 pub mod RoomLemmas
 pub mod SlotPlaceLemmas
 pub mod StartLemmas

@@ -13,6 +13,7 @@ pub mod Ordered
 pub mod Passed
 pub mod Places
 pub mod Positions
+pub mod Roles
 pub mod Segments
 pub mod SlotFlags
 pub mod SlotPlaces

@@ -9,7 +9,7 @@ ghost use Rattle.wild_clauses.specs.LoadedTables.{begins_behind, entries_follow}
 ghost use Rattle.wild_clauses.specs.ClauseTests.{check_roles};
 
 use crate::verdict::fails;
-use wild_needs::{is_bare_inside, total_share_of};
+use wild_needs::total_share_of;
 use wild_records::FileHeader;
 use wild_types::{
     Clause, Layout, OutputKind, Part, Role, Test, first_failing, has_role, is_there, part_with,
@@ -157,12 +157,13 @@ impl Test<Part> for EntriesFollow<'_> {
     }
 }
 
+/// It is told whether the output is bare inside.
 #[tactic(auto, unfolding(crate::specs::ClauseTests::check_roles))]
-pub(crate) fn check_roles(layout: &Layout) -> Result<(), Clause>
+pub(crate) fn check_roles(layout: &Layout, inside: bool) -> Result<(), Clause>
+    requires { inside ≡ is_bare_inside layout.now }
     ensures { result ≡ check_roles layout.now }
 {
     let parts = layout.parts.as_slice();
-    let inside = is_bare_inside(layout);
     fails(4, role_again(parts))?;
     fails(4, role_not_at(Role::FileHeader, 0, parts))?;
     fails(4, role_missing(Role::SectionHeaders, parts))?;

@@ -2,6 +2,8 @@
 ghost use Rattle.std.specs.Prelude.{◌≡◌, true};
 ghost use Rattle.wild_types.specs.Lists.{total};
 ghost use Rattle.wild_types.specs.FilePlaces.{given, file_placed, later_placed, files_placed, file_misplaced};
+ghost use Rattle.wild_needs.specs.Needs.{is_bare_inside};
+ghost use Rattle.wild_clauses.specs.Roles.{ends_misplaced};
 ghost use Rattle.wild_clauses.specs.Contents.{share_mismatch, has_share_for_each_part};
 ghost use Rattle.wild_clauses.specs.ClauseTests.{check_shares};
 ghost use Rattle.wild_clauses.specs.Passed.{groups_pass};
@@ -84,14 +86,40 @@ fn file_misplaced(groups: &[Group]) -> Option<usize>
     None
 }
 
+/// The same of the first group and the last alone, where the last has that place.
+fn ends_misplaced(first: &Group, last: &Group, place: usize) -> Option<usize>
+    ensures { result ≡ ends_misplaced first.now last.now place }
+{
+    if !files_placed(true, false, first.files.as_slice()) {
+        Some(0)
+    } else if !files_placed(false, true, last.files.as_slice()) {
+        Some(place)
+    } else {
+        None
+    }
+}
+
+/// The first group with a file out of its place. Where the output is bare inside, the files between are neither the first nor the last.
+fn first_misplaced(layout: &Layout, inside: bool) -> Option<usize>
+    requires { inside ≡ is_bare_inside layout.now }
+    ensures { result ≡ file_misplaced true 0 layout.now.groups }
+{
+    let groups = layout.groups.as_slice();
+    match groups {
+        [first, .., last] if inside => ends_misplaced(first, last, groups.len() - 1),
+        _ => file_misplaced(groups),
+    }
+}
+
 #[tactic(auto, using(crate::proofs::PassedLemmas::shares_pass), unfolding(crate::specs::ClauseTests::check_shares))]
-pub(crate) fn check_shares(layout: &Layout, passed: bool) -> Result<(), Clause>
+pub(crate) fn check_shares(layout: &Layout, passed: bool, inside: bool) -> Result<(), Clause>
     requires passed { passed ≡ groups_pass layout.now }
+    requires inside { inside ≡ is_bare_inside layout.now }
     ensures { result ≡ check_shares layout.now }
 {
     let groups = layout.groups.as_slice();
     let count = layout.parts.len();
     fails(7, share_mismatch(groups, layout.parts.as_slice()))?;
     fails(7, failing(passed, &HasShareForEachPart { count }, groups))?;
-    fails(7, file_misplaced(groups))
+    fails(7, first_misplaced(layout, inside))
 }

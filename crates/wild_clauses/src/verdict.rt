@@ -28,6 +28,7 @@ use crate::starts::check_starts;
 use crate::threads::check_tls;
 use crate::thunks::check_thunks;
 use crate::versions::{check_versions, needed_libraries};
+use wild_needs::is_bare_inside;
 use wild_types::{Clause, Layout};
 
 /// Clause `clause` fails at that place, where there is one.
@@ -60,13 +61,14 @@ pub fn well_formed(layout: &Layout) -> Result<(), Clause>
     } = survey_groups(layout);
     let lie = all_ranges_lie(layout.symbols.len(), layout.groups.as_slice());
     let needs = needed_libraries(layout, ordinary);
+    let inside = is_bare_inside(layout);
     check_sizes(layout, passed)?;
     check_counts(layout, lie, needs, relocations)?;
     check_order(layout)?;
-    check_roles(layout)?;
+    check_roles(layout, inside)?;
     check_sections(layout)?;
     check_segments(layout)?;
-    check_shares(layout, passed)?;
+    check_shares(layout, passed, inside)?;
     check_inputs(layout, passed, ordinary)?;
     check_indexes(layout, passed, lie, ordinary)?;
     check_fields(layout, passed)?;
