@@ -14,6 +14,7 @@ pub mod PassedLemmas
 pub mod PlacelessLemmas
 pub mod RoleLemmas
 pub mod RoomLemmas
+pub mod SimpleLemmas
 pub mod SlotPlaceLemmas
 pub mod StartLemmas
 pub mod SurveyLemmas

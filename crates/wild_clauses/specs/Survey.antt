@@ -3,15 +3,20 @@
 --   are_ordinary gs      so are the files of all groups
 --   section_step l v s   what is known behind a section, and so behind a file and a group
 --   surveyed l           what is known of all groups
+--   is_simple s          the symbol is plain, and carries no index of the dynamic symbol table
+--   are_simple ss        so are all symbols
 use Rattle.std.specs.Prelude.{ℕ, ◌+◌, ◌-◌, ◌^◌, ◌==◌, Bool, true, not, ◌&&◌, List, [], ◌∷◌, length, is_none, min}
 use Rattle.std.specs.List.{list_all}
 use Rattle.wild_types.specs.declared.input.InputSection.{InputSection}
 use Rattle.wild_types.specs.declared.file.File.{File}
 use Rattle.wild_types.specs.declared.file.Group.{Group}
 use Rattle.wild_types.specs.declared.layout.Layout.{Layout}
+use Rattle.wild_types.specs.declared.symbol.Symbol.{Symbol}
 pub use Rattle.wild_clauses.specs.declared.passed.Survey.{Survey}
 use Rattle.wild_clauses.specs.Contents.{has_share_for_each_part, is_sorted}
 use Rattle.wild_clauses.specs.Passed.{section_passes, symbols_are_there, library_names_fit}
+use Rattle.wild_clauses.specs.Positions.{is_unlisted}
+use Rattle.wild_clauses.specs.SlotFlags.{is_plain}
 
 -- the section is in no given order
 abbrev pub is_unsorted : InputSection → Bool
@@ -74,3 +79,11 @@ nothing_seen = record { passed = true; ordinary = true; relocations = 0 }
 
 unfoldable pub surveyed : Layout → Survey
 surveyed l = along (group_step l) nothing_seen l.groups
+
+-- ---- symbols
+
+abbrev pub is_simple : Symbol → Bool
+is_simple s = is_plain s && is_unlisted s
+
+unfoldable pub are_simple : List Symbol → Bool
+are_simple ss = list_all is_simple ss

@@ -1,11 +1,13 @@
 //! Clause 13: positions in the dynamic symbol table. Since the files' ranges of symbols ascend, undefined entries are counted
 //! in one walk over files and symbols.
 ghost use Rattle.std.specs.Prelude.{◌≡◌, ◌+◌, ◌-◌, ◌^◌, ◌<◌, ◌≤◌, length, slice_get, Ok};
+ghost use Rattle.std.specs.List.{list_all};
 ghost use Rattle.std.specs.Result.{IfOk};
 ghost use Rattle.wild_needs.specs.DynamicSymbols.{is_undefined_entry, dynsym_of, undefined_entries, dynamic_symbols, misplaced};
 ghost use Rattle.wild_types.specs.Lookups.{files_of};
 ghost use Rattle.wild_clauses.specs.Positions.{lists, is_at, fits_at, run_walk, file_walk, files_walk, groups_walk, whole_walk, is_unlisted};
 ghost use Rattle.wild_needs.specs.UndefinedCounts.{undefined_count};
+ghost use Rattle.wild_clauses.specs.Survey.{are_simple};
 ghost use Rattle.wild_clauses.specs.ClauseTests.{check_indexes, check_dynsyms};
 
 use crate::listed::misfit;
@@ -186,13 +188,27 @@ impl Test<Symbol> for IsUnlisted {
     }
 }
 
+/// Whether no symbol carries one, which is known where all are simple.
+#[tactic(auto, using(crate::proofs::SimpleLemmas::simple_unlisted))]
+fn are_unlisted(layout: &Layout, simple: bool) -> bool
+    requires { simple ≡ are_simple layout.now.symbols }
+    ensures { result ≡ list_all is_unlisted layout.now.symbols }
+{
+    if simple {
+        true
+    } else {
+        all_pass(&IsUnlisted, layout.symbols.as_slice())
+    }
+}
+
 /// It is asked where the indexes hold. Entries are counted only where a symbol is listed or carries an index.
 #[tactic(auto, using(crate::proofs::UnlistedLemmas::unlisted_fit), unfolding(crate::specs::ClauseTests::check_dynsyms))]
-pub(crate) fn check_dynsyms(layout: &Layout) -> Result<(), Clause>
+pub(crate) fn check_dynsyms(layout: &Layout, simple: bool) -> Result<(), Clause>
     requires indexes { check_indexes layout.now ≡ Ok tt }
+    requires simple { simple ≡ are_simple layout.now.symbols }
     ensures { result ≡ check_dynsyms layout.now }
 {
-    if layout.dynsyms.len() == 0 && all_pass(&IsUnlisted, layout.symbols.as_slice()) {
+    if layout.dynsyms.len() == 0 && are_unlisted(layout, simple) {
         return Ok(());
     }
     let undefined = exact_count(layout);

@@ -181,14 +181,14 @@ pub(crate) fn survey_groups(layout: &Layout) -> Survey
     surveyed(layout)
 }
 
-/// The place of the first group that fails a test, which all pass that passed.
-pub(crate) fn failing<C: Test<Group>>(passed: bool, test: &C, groups: &[Group]) -> Option<usize>
-    requires { passed ≡ true → first_failing (C.test test.now) 0 groups.now ≡ None }
-    ensures { result ≡ first_failing (C.test test.now) 0 groups.now }
+/// The place of the first item that fails a test, which all pass where `passed` says so.
+pub(crate) fn failing<T, C: Test<T>>(passed: bool, test: &C, items: &[T]) -> Option<usize>
+    requires { passed ≡ true → first_failing (C.test test.now) 0 items.now ≡ None }
+    ensures { result ≡ first_failing (C.test test.now) 0 items.now }
 {
     if passed {
         None
     } else {
-        first_failing(test, groups)
+        first_failing(test, items)
     }
 }

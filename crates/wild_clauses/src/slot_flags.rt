@@ -2,12 +2,14 @@
 ghost use Rattle.std.specs.Prelude.{◌≡◌};
 ghost use Rattle.wild_types.specs.SymbolSlots.{got_of, plt_of, has_dynamic_symbol, has_thread_slot};
 ghost use Rattle.wild_clauses.specs.SlotFlags.{is_asked, first_asked_failing, dynamic_is_interposable, is_value, stub_is_value, stub_has_slot, one_slot_for_address, thread_slot_alone, resolver_is_own, slot_agrees, resolver_moves, takes_block_word, second_slot_fits, is_plain, agrees_in_all};
+ghost use Rattle.wild_clauses.specs.Survey.{is_simple, are_simple};
 ghost use Rattle.wild_clauses.specs.ClauseTests.{check_slot_flags};
 
 use crate::verdict::fails;
+use wild_needs::dynsym_of;
 use wild_types::{
-    Clause, Layout, Resolution, Symbol, SymbolIndex, Test, ValueFlags, got_of, has_dynamic_symbol,
-    has_thread_slot, plt_of,
+    Clause, Layout, Resolution, Symbol, SymbolIndex, Test, ValueFlags, all_pass, got_of,
+    has_dynamic_symbol, has_thread_slot, plt_of,
 };
 
 /// A symbol that a loader looks up may be replaced.
@@ -208,11 +210,34 @@ fn first_asked_failing<C: Test<Symbol>>(layout: &Layout, test: &C) -> Option<usi
     None
 }
 
-/// The tests are asked one by one only where a symbol fails one of them.
-#[tactic(auto, using(crate::proofs::FlagLemmas::flags_agree), unfolding(crate::specs::ClauseTests::check_slot_flags))]
-pub(crate) fn check_slot_flags(layout: &Layout) -> Result<(), Clause>
+/// A plain symbol carries no index of the dynamic symbol table.
+struct IsSimple;
+
+impl Test<Symbol> for IsSimple {
+    ghost test = { λ t. is_simple };
+
+    fn passes(&self, symbol: &Symbol) -> bool {
+        is_plain(symbol) && dynsym_of(symbol).is_none()
+    }
+}
+
+/// Whether all symbols are such.
+#[tactic(auto, unfolding(crate::specs::Survey::are_simple))]
+pub(crate) fn are_simple(layout: &Layout) -> bool
+    ensures { result ≡ are_simple layout.now.symbols }
+{
+    all_pass(&IsSimple, layout.symbols.as_slice())
+}
+
+/// The tests are asked one by one only where a symbol fails one of them, and none is where all are simple.
+#[tactic(auto, using(crate::proofs::FlagLemmas::flags_agree, crate::proofs::SimpleLemmas::simple_agree), unfolding(crate::specs::ClauseTests::check_slot_flags))]
+pub(crate) fn check_slot_flags(layout: &Layout, simple: bool) -> Result<(), Clause>
+    requires { simple ≡ are_simple layout.now.symbols }
     ensures { result ≡ check_slot_flags layout.now }
 {
+    if simple {
+        return Ok(());
+    }
     if first_asked_failing(layout, &AgreesInAll { layout }).is_none() {
         return Ok(());
     }

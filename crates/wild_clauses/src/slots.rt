@@ -4,8 +4,10 @@ ghost use Rattle.wild_types.specs.Lists.{first_failing};
 ghost use Rattle.wild_clauses.specs.SlotPlaces.{start_of, IsBounded, first_free, stands_at, stands_next, behind, walk, symbol_step, passed_without, slot_before, file_step, group_step, slots_astray, has_no_places};
 ghost use Rattle.wild_slot.specs.SlotParts.{begins_block};
 ghost use Rattle.wild_types.specs.SymbolSlots.{is_without};
+ghost use Rattle.wild_clauses.specs.Survey.{are_simple};
 ghost use Rattle.wild_clauses.specs.ClauseTests.{check_indexes, check_slots};
 
+use crate::passed::failing;
 use crate::slot_parts::{BlockHasBase, BlockIsAsked, SlotIsEven};
 use crate::verdict::{fails, unless};
 use wild_needs::pair_words;
@@ -219,11 +221,15 @@ impl Test<Symbol> for HasNoPlaces {
 
 /// The first symbol that does not stand next, or has a slot that no file writes. Files are gone through only where a symbol has a
 /// slot or a stub.
-#[tactic(auto, using(crate::proofs::PlacelessLemmas::none_astray))]
-fn slots_astray(layout: &Layout) -> Option<usize>
+#[tactic(auto, using(crate::proofs::PlacelessLemmas::none_astray, crate::proofs::SimpleLemmas::simple_astray))]
+fn slots_astray(layout: &Layout, simple: bool) -> Option<usize>
     requires indexes { check_indexes layout.now ≡ Ok tt }
+    requires simple { simple ≡ are_simple layout.now.symbols }
     ensures { result ≡ slots_astray layout.now }
 {
+    if simple {
+        return None;
+    }
     if all_pass(&HasNoPlaces, layout.symbols.as_slice()) {
         return None;
     }
@@ -233,17 +239,18 @@ fn slots_astray(layout: &Layout) -> Option<usize>
     }
 }
 
-/// It is asked where the indexes hold.
-#[tactic(auto, unfolding(crate::specs::ClauseTests::check_slots))]
-pub(crate) fn check_slots(layout: &Layout) -> Result<(), Clause>
+/// It is asked where the indexes hold. Symbols are not asked where all are simple.
+#[tactic(auto, using(crate::proofs::SimpleLemmas::simple_even), unfolding(crate::specs::ClauseTests::check_slots))]
+pub(crate) fn check_slots(layout: &Layout, simple: bool) -> Result<(), Clause>
     requires indexes { check_indexes layout.now ≡ Ok tt }
+    requires simple { simple ≡ are_simple layout.now.symbols }
     ensures { result ≡ check_slots layout.now }
 {
     let symbols = layout.symbols.as_slice();
     let parts = layout.parts.as_slice();
     let reserved = behind_words(start_of(layout, Role::Got), layout.got_header);
-    fails(11, slots_astray(layout))?;
-    fails(11, first_failing(&SlotIsEven, symbols))?;
+    fails(11, slots_astray(layout, simple))?;
+    fails(11, failing(simple, &SlotIsEven, symbols))?;
     fails(11, first_failing(&BlockIsAsked { layout }, parts))?;
     fails(11, unless(stands_at(reserved, layout.tlsld)))?;
     fails(11, first_failing(&BlockHasBase, parts))
