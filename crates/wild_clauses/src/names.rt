@@ -12,12 +12,15 @@ use wild_types::{
 };
 use wild_words::Bytes;
 
-/// Whether a name has no zero byte (gABI, "String Table").
+/// Whether a name has no zero byte (gABI, "String Table"). Most names of sections and of libraries are empty.
 #[tactic(auto, using(wild_types::proofs::ListLemmas::not_any))]
 fn name_fits(name: &[u8]) -> bool
     ensures { result ≡ name_fits name.now }
 {
-    !name.contains(&0)
+    match name {
+        [] => true,
+        _ => !name.contains(&0),
+    }
 }
 
 /// The same for a name that may be there.
