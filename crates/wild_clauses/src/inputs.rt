@@ -2,6 +2,7 @@
 ghost use Rattle.std.specs.Prelude.{◌≡◌, Ok, slice_get};
 ghost use Rattle.wild_clauses.specs.Contents.{length_fits, may_lack_bytes, is_frames_part, frames_part_fits, discarded_is_empty, is_raw, part_is_raw, holds_bytes, merged_is_raw, identity_is_raw, holds_thunks, primary_fits, has_room, allocation_agrees, has_some, bytes_take_room};
 ghost use Rattle.wild_clauses.specs.Passed.{passes_all, parts_fit, groups_pass};
+ghost use Rattle.wild_types.specs.Lookups.{section_of};
 ghost use Rattle.wild_clauses.specs.Survey.{are_ordinary};
 ghost use Rattle.wild_clauses.specs.ClauseTests.{once_fits, check_sizes, check_shares, check_inputs};
 
@@ -13,8 +14,8 @@ use crate::sorted::{NamesSorted, sorted_named_once};
 use crate::thunks::has_thunks;
 use crate::verdict::{fails, unless};
 use wild_types::{
-    Clause, InputSection, Layout, Merged, Role, Slot, Test, all_pass, first_failing, has_role,
-    is_allocated,
+    Clause, InputSection, Layout, Merged, Role, SectionIndex, Slot, Test, all_pass, first_failing,
+    has_role, is_allocated,
 };
 
 /// Whether a section of that slot may have no bytes: merged strings stand elsewhere, and a table of relocations is made.
@@ -161,7 +162,17 @@ fn has_room(slot: Slot) -> bool
     matches!(slot, Slot::Loaded | Slot::Sorted | Slot::Frame)
 }
 
-/// A section that is written is allocated exactly where its part's section is; a relocatable object has no addresses.
+/// Whether a section that is written is allocated exactly where its part's section is, which has that index; a relocatable object has no addresses.
+fn allocation_agrees(layout: &Layout, home: SectionIndex, section: &InputSection) -> bool
+    requires { home ≡ section_of layout.now section.now.part }
+    ensures { result ≡ allocation_agrees layout.now section.now }
+{
+    layout.kind.is_partial_link()
+        || !has_room(section.slot)
+        || is_allocated(section.flags) == layout.is_allocated_section(home)
+}
+
+/// An input section is allocated where it has to be.
 #[derive(Clone, Copy)]
 struct AllocationAgrees<'a> {
     layout: &'a Layout,
@@ -171,9 +182,8 @@ impl Test<InputSection> for AllocationAgrees<'_> {
     ghost test = { λ t. allocation_agrees t.layout.now };
 
     fn passes(&self, section: &InputSection) -> bool {
-        self.layout.kind.is_partial_link()
-            || !has_room(section.slot)
-            || is_allocated(section.flags) == self.layout.is_allocated_part(section.part)
+        let layout = self.layout;
+        allocation_agrees(layout, layout.section_of(section.part), section)
     }
 }
 
@@ -182,6 +192,14 @@ fn has_some(section: &InputSection) -> bool
     ensures { result ≡ has_some section.now }
 {
     section.bytes.len() != 0 || matches!(section.slot, Slot::Rela) && section.size != 0
+}
+
+/// Whether bytes of the section, where it has some, stand in a section with data; its part's section has that index.
+fn bytes_take_room(layout: &Layout, home: SectionIndex, section: &InputSection) -> bool
+    requires { home ≡ section_of layout.now section.now.part }
+    ensures { result ≡ bytes_take_room layout.now section.now }
+{
+    !has_some(section) || layout.has_data(home)
 }
 
 /// Bytes stand in no section without data.
@@ -195,7 +213,7 @@ impl Test<InputSection> for BytesTakeRoom<'_> {
 
     fn passes(&self, section: &InputSection) -> bool {
         let layout = self.layout;
-        !has_some(section) || layout.has_data(layout.section_of(section.part))
+        bytes_take_room(layout, layout.section_of(section.part), section)
     }
 }
 
@@ -210,12 +228,13 @@ impl Test<InputSection> for PassesAll<'_> {
 
     fn passes(&self, section: &InputSection) -> bool {
         let layout = self.layout;
+        let home = layout.section_of(section.part);
         LengthFits.passes(section)
             && FramesPartFits { layout }.passes(section)
             && DiscardedIsEmpty.passes(section)
             && PartIsRaw { layout }.passes(section)
-            && AllocationAgrees { layout }.passes(section)
-            && BytesTakeRoom { layout }.passes(section)
+            && allocation_agrees(layout, home, section)
+            && bytes_take_room(layout, home, section)
     }
 }
 
