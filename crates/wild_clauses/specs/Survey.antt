@@ -5,7 +5,7 @@
 --   surveyed l           what is known of all groups
 --   is_simple s          the symbol is plain, and carries no index of the dynamic symbol table
 --   are_simple ss        so are all symbols
-use Rattle.std.specs.Prelude.{ℕ, ◌+◌, ◌-◌, ◌^◌, ◌==◌, Bool, true, not, ◌&&◌, List, [], ◌∷◌, length, is_none, min}
+use Rattle.std.specs.Prelude.{◌+◌, ◌-◌, ◌^◌, ◌==◌, Bool, true, not, ◌&&◌, List, [], ◌∷◌, length, is_none, min}
 use Rattle.std.specs.List.{list_all}
 use Rattle.wild_types.specs.declared.input.InputSection.{InputSection}
 use Rattle.wild_types.specs.declared.file.File.{File}
