@@ -1,17 +1,31 @@
 //! Clause 10: fields.
 ghost use Rattle.std.specs.Prelude.{◌≡◌, ◌&&◌};
 ghost use Rattle.wild_clauses.specs.Contents.{field_lies, fields_lie, is_read_well, relocations_are_read};
+ghost use Rattle.wild_types.specs.Rows.{field_bytes};
 ghost use Rattle.wild_clauses.specs.Passed.{groups_pass};
 ghost use Rattle.wild_clauses.specs.ClauseTests.{check_fields};
 
 use crate::each_section::failing_group;
 use crate::verdict::fails;
+use wild_records::abi::relocation::R_X86_64_PC32;
 use wild_types::{
     Clause, InputRelocation, InputSection, Layout, Machine, Test, all_pass, field_bytes, wide_sum,
 };
 
 /// No field has more bytes.
 const WIDEST: u64 = 8;
+
+/// How many bytes the field of a relocation of that type has. The type of most relocations of x86-64 code is asked for first.
+#[inline(always)]
+#[tactic(auto, using(crate::proofs::FieldLemmas::common_field))]
+fn field_size(machine: Machine, number: u32) -> u64
+    ensures { result ≡ field_bytes machine number }
+{
+    match machine {
+        Machine::X86_64 if number == R_X86_64_PC32 => 4,
+        _ => field_bytes(machine, number) as u64,
+    }
+}
 
 /// The field of a relocation lies in its section.
 #[derive(Clone, Copy)]
@@ -29,7 +43,7 @@ impl Test<InputRelocation> for FieldLies<'_> {
         if relocation.offset < size.saturating_sub(WIDEST - 1) {
             return true;
         }
-        let bytes = field_bytes(self.machine, relocation.number) as u64;
+        let bytes = field_size(self.machine, relocation.number);
         bytes == 0 || wide_sum(relocation.offset, bytes) <= u128::from(size)
     }
 }
