@@ -1,4 +1,5 @@
 pub mod PaddingLemmas
+pub mod FullLemmas
 pub mod ChangedLemmas
 pub mod CountLemmas
 pub mod TableLemmas

@@ -1,5 +1,6 @@
 pub mod Append
 pub mod Padding
+pub mod Full
 pub mod Batches
 pub mod Jobs
 pub mod Pieces

@@ -5,6 +5,7 @@ mod append;
 mod batch;
 mod buffer;
 mod cut;
+mod full;
 mod job;
 mod known;
 mod marks;

@@ -1,0 +1,126 @@
+//! Whether nothing is to be filled: input sections stand one behind the other in their parts, and parts do so in their sections, up to
+//! the last byte.
+ghost use Rattle.std.specs.Prelude.{◌≡◌, ℕ, true, replicate, IfOk};
+ghost use Rattle.std.specs.List.{list_any};
+ghost use Rattle.wild_types.specs.declared.part.Part.{Part};
+ghost use Rattle.wild_types.specs.declared.section.Section.{Section};
+ghost use Rattle.wild_types.specs.Lookups.{image_size};
+ghost use Rattle.wild_layout.specs.Image.{has_offset, part_owns, section_owns, is_owned, padding};
+ghost use Rattle.wild_image.specs.Full.{Covers, Joins, OwnFronts};
+
+use std::alloc::{AllocError, Global};
+use wild_types::{InputSection, Layout, Part, Role, SectionIndex, has_role};
+
+/// How many bytes are covered from a start on, where `front` are, and `size` at that distance from the start.
+#[tactic(auto, using(crate::proofs::FullLemmas::joins, crate::proofs::FullLemmas::joins_nothing))]
+fn join(front: u64, distance: u64, size: u64) -> u64
+    ensures { Joins front distance size result }
+{
+    if distance == front {
+        front.saturating_add(size)
+    } else {
+        front
+    }
+}
+
+/// Adds an input section to what its part has in front, where it begins behind that.
+fn add_section(layout: &Layout, section: &InputSection, fronts: &mut [u64])
+    requires owned { (k : ℕ) → section_owns layout.now k section.now ≡ true → is_owned layout.now k ≡ true }
+    requires fronts { OwnFronts layout.now (λ (p : Part). p.offset) layout.now.parts fronts.old }
+    ensures { OwnFronts layout.now (λ (p : Part). p.offset) layout.now.parts fronts.new }
+{
+    let i = section.part;
+    if let Some(part) = layout.parts.as_slice().get(i)
+        && section.owns_bytes(layout)
+    {
+        let distance = section.address.saturating_sub(part.address);
+        fronts[i] = join(fronts[i], distance, section.size);
+    }
+}
+
+/// How many bytes of each part, from its front on, input sections own.
+#[tactic(auto, using(crate::proofs::FullLemmas::fronts_none))]
+fn fronts_of_parts(alloc: Global, layout: &Layout) -> Result<Vec<u64>, AllocError>
+    ensures { IfOk result (λ v. OwnFronts layout.now (λ (p : Part). p.offset) layout.now.parts v.items) }
+{
+    let mut fronts = vec![in alloc; 0u64; layout.parts.len()]?;
+    for group in layout.groups.as_slice() {
+        for file in group.files.as_slice() {
+            for section in file.sections.as_slice() {
+                add_section(layout, section, &mut fronts);
+            }
+        }
+    }
+    Ok(fronts)
+}
+
+/// Whether all bytes of a part have owners: its own, or input sections own so many in front.
+fn is_whole(layout: &Layout, part: &Part, front: u64) -> bool
+    requires owned { (k : ℕ) → part_owns layout.now k part.now ≡ true → is_owned layout.now k ≡ true }
+    requires front { Covers (is_owned layout.now) part.now.offset front }
+    ensures { result ≡ true → Covers (is_owned layout.now) part.now.offset part.now.size }
+{
+    part.size <= front || !has_role(Role::Raw, part) && layout.takes_file_bytes(part.section)
+}
+
+/// Adds a range that has owners to what a section has in front, where it begins behind that.
+fn add_range(layout: &Layout, index: SectionIndex, offset: u64, size: u64, fronts: &mut [u64])
+    requires range { Covers (is_owned layout.now) offset size }
+    requires fronts { OwnFronts layout.now (λ (s : Section). s.offset) layout.now.sections fronts.old }
+    ensures { OwnFronts layout.now (λ (s : Section). s.offset) layout.now.sections fronts.new }
+{
+    let i = index.0;
+    if let Some(section) = layout.sections.as_slice().get(i)
+        && section.offset <= offset
+    {
+        fronts[i] = join(fronts[i], offset - section.offset, size);
+    }
+}
+
+/// Adds a part to what its section has in front, where it is whole and begins behind that.
+fn add_part(layout: &Layout, part: &Part, front: u64, fronts: &mut [u64])
+    requires owned { (k : ℕ) → part_owns layout.now k part.now ≡ true → is_owned layout.now k ≡ true }
+    requires front { Covers (is_owned layout.now) part.now.offset front }
+    requires fronts { OwnFronts layout.now (λ (s : Section). s.offset) layout.now.sections fronts.old }
+    ensures { OwnFronts layout.now (λ (s : Section). s.offset) layout.now.sections fronts.new }
+{
+    if is_whole(layout, part, front) {
+        add_range(layout, part.section, part.offset, part.size, fronts);
+    }
+}
+
+/// How many bytes of each section, from its front on, have owners, since whole parts stand there.
+#[tactic(auto, using(crate::proofs::FullLemmas::fronts_none))]
+fn fronts_of_sections(alloc: Global, layout: &Layout, parts: &[u64]) -> Result<Vec<u64>, AllocError>
+    requires { OwnFronts layout.now (λ (p : Part). p.offset) layout.now.parts parts.now }
+    ensures { IfOk result (λ v. OwnFronts layout.now (λ (s : Section). s.offset) layout.now.sections v.items) }
+{
+    let mut fronts = vec![in alloc; 0u64; layout.sections.len()]?;
+    for (i, part) in layout.parts.as_slice().iter().enumerate() {
+        add_part(layout, part, parts[i], &mut fronts);
+    }
+    Ok(fronts)
+}
+
+/// Whether all bytes of each section have owners.
+fn are_whole(layout: &Layout, fronts: &[u64]) -> bool
+    requires { OwnFronts layout.now (λ (s : Section). s.offset) layout.now.sections fronts.now }
+    ensures { result ≡ true → (k : ℕ) → list_any (has_offset layout.now k) layout.now.sections ≡ true → is_owned layout.now k ≡ true }
+{
+    for (i, section) in layout.sections.as_slice().iter().enumerate() {
+        if layout.fills_file(section) && fronts[i] < section.size {
+            return false;
+        }
+    }
+    true
+}
+
+/// Whether nothing is to be filled, as far as that is seen at once. Where a section has a gap, the answer is no.
+#[tactic(auto, using(crate::proofs::FullLemmas::no_gaps))]
+pub(crate) fn has_no_gaps(alloc: Global, layout: &Layout) -> Result<bool, AllocError>
+    ensures { IfOk result (λ b. b ≡ true → padding layout.now ≡ replicate (image_size layout.now) 0) }
+{
+    let parts = fronts_of_parts(alloc, layout)?;
+    let sections = fronts_of_sections(alloc, layout, &parts)?;
+    Ok(are_whole(layout, &sections))
+}
