@@ -17,7 +17,7 @@ use Rattle.wild_types.specs.declared.layout.Layout.{Layout}
 use Rattle.wild_types.specs.FileThunks.{thunks_of}
 use Rattle.wild_types.specs.Lookups.{fills_file, owns_bytes, image_size}
 use Rattle.wild_layout.specs.Image.{offset_in, is_within, has_offset, part_owns, section_owns, thunk_owns, file_owns, group_owns, once_owns, is_owned, padding_byte, padding}
-use Rattle.wild_image.specs.Full.{Covers, Joins, OwnFronts}
+use Rattle.wild_image.specs.Full.{Covers, Joins, OwnFronts, SectionFronts}
 
 or_left : (a b : Bool) → a ≡ true → (a || b) ≡ true
 or_left true b h = refl
@@ -115,7 +115,7 @@ section_covers l s p owned own read k is = owned k (ap (λ (b : Bool). b && is_w
 -- ---- sections without a gap
 
 -- one more section, of which all bytes have owners
-pub sections_next : (l : Layout) (i : ℕ) (s : Section) (fronts : List ℕ) → OwnFronts l (λ (t : Section). t.offset) l.sections fronts → i < length l.sections → s ≡ get_or l.sections i s → ((k : ℕ) → list_any (has_offset l k) (take i l.sections) ≡ true → is_owned l k ≡ true)
+pub sections_next : (l : Layout) (i : ℕ) (s : Section) (fronts : List ℕ) → SectionFronts l fronts → i < length l.sections → s ≡ get_or l.sections i s → ((k : ℕ) → list_any (has_offset l k) (take i l.sections) ≡ true → is_owned l k ≡ true)
     → (fills_file l s ≡ false) ⊎ (s.size ≤ slice_index fronts i) → (k : ℕ) → list_any (has_offset l k) (take (i + 1) l.sections) ≡ true → is_owned l k ≡ true
 sections_next l i s fronts h low read before all k any = by (either (list_any (has_offset l k) (take i l.sections)) (has_offset l k (get_or l.sections i s)) (sym (list_any_more (has_offset l k) l.sections i s low) ∙ any)) all
   where

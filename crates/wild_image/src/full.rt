@@ -2,11 +2,9 @@
 //! the last byte.
 ghost use Rattle.std.specs.Prelude.{◌≡◌, ℕ, true, replicate, IfOk};
 ghost use Rattle.std.specs.List.{list_any};
-ghost use Rattle.wild_types.specs.declared.part.Part.{Part};
-ghost use Rattle.wild_types.specs.declared.section.Section.{Section};
 ghost use Rattle.wild_types.specs.Lookups.{image_size};
 ghost use Rattle.wild_layout.specs.Image.{has_offset, part_owns, section_owns, is_owned, padding};
-ghost use Rattle.wild_image.specs.Full.{Covers, Joins, OwnFronts};
+ghost use Rattle.wild_image.specs.Full.{Covers, Joins, PartFronts, SectionFronts};
 
 use std::alloc::{AllocError, Global};
 use wild_types::{InputSection, Layout, Part, Role, SectionIndex, has_role};
@@ -26,8 +24,8 @@ fn join(front: u64, distance: u64, size: u64) -> u64
 /// Adds an input section to what its part has in front, where it begins behind that.
 fn add_section(layout: &Layout, section: &InputSection, fronts: &mut [u64])
     requires owned { (k : ℕ) → section_owns layout.now k section.now ≡ true → is_owned layout.now k ≡ true }
-    requires fronts { OwnFronts layout.now (λ (p : Part). p.offset) layout.now.parts fronts.old }
-    ensures { OwnFronts layout.now (λ (p : Part). p.offset) layout.now.parts fronts.new }
+    requires fronts { PartFronts layout.now fronts.old }
+    ensures { PartFronts layout.now fronts.new }
 {
     let i = section.part;
     if let Some(part) = layout.parts.as_slice().get(i)
@@ -41,7 +39,7 @@ fn add_section(layout: &Layout, section: &InputSection, fronts: &mut [u64])
 /// How many bytes of each part, from its front on, input sections own.
 #[tactic(auto, using(crate::proofs::FullLemmas::fronts_none))]
 fn fronts_of_parts(alloc: Global, layout: &Layout) -> Result<Vec<u64>, AllocError>
-    ensures { IfOk result (λ v. OwnFronts layout.now (λ (p : Part). p.offset) layout.now.parts v.items) }
+    ensures { IfOk result (λ v. PartFronts layout.now v.items) }
 {
     let mut fronts = vec![in alloc; 0u64; layout.parts.len()]?;
     for group in layout.groups.as_slice() {
@@ -66,8 +64,8 @@ fn is_whole(layout: &Layout, part: &Part, front: u64) -> bool
 /// Adds a range that has owners to what a section has in front, where it begins behind that.
 fn add_range(layout: &Layout, index: SectionIndex, offset: u64, size: u64, fronts: &mut [u64])
     requires range { Covers (is_owned layout.now) offset size }
-    requires fronts { OwnFronts layout.now (λ (s : Section). s.offset) layout.now.sections fronts.old }
-    ensures { OwnFronts layout.now (λ (s : Section). s.offset) layout.now.sections fronts.new }
+    requires fronts { SectionFronts layout.now fronts.old }
+    ensures { SectionFronts layout.now fronts.new }
 {
     let i = index.0;
     if let Some(section) = layout.sections.as_slice().get(i)
@@ -81,8 +79,8 @@ fn add_range(layout: &Layout, index: SectionIndex, offset: u64, size: u64, front
 fn add_part(layout: &Layout, part: &Part, front: u64, fronts: &mut [u64])
     requires owned { (k : ℕ) → part_owns layout.now k part.now ≡ true → is_owned layout.now k ≡ true }
     requires front { Covers (is_owned layout.now) part.now.offset front }
-    requires fronts { OwnFronts layout.now (λ (s : Section). s.offset) layout.now.sections fronts.old }
-    ensures { OwnFronts layout.now (λ (s : Section). s.offset) layout.now.sections fronts.new }
+    requires fronts { SectionFronts layout.now fronts.old }
+    ensures { SectionFronts layout.now fronts.new }
 {
     if is_whole(layout, part, front) {
         add_range(layout, part.section, part.offset, part.size, fronts);
@@ -92,8 +90,8 @@ fn add_part(layout: &Layout, part: &Part, front: u64, fronts: &mut [u64])
 /// How many bytes of each section, from its front on, have owners, since whole parts stand there.
 #[tactic(auto, using(crate::proofs::FullLemmas::fronts_none))]
 fn fronts_of_sections(alloc: Global, layout: &Layout, parts: &[u64]) -> Result<Vec<u64>, AllocError>
-    requires { OwnFronts layout.now (λ (p : Part). p.offset) layout.now.parts parts.now }
-    ensures { IfOk result (λ v. OwnFronts layout.now (λ (s : Section). s.offset) layout.now.sections v.items) }
+    requires { PartFronts layout.now parts.now }
+    ensures { IfOk result (λ v. SectionFronts layout.now v.items) }
 {
     let mut fronts = vec![in alloc; 0u64; layout.sections.len()]?;
     for (i, part) in layout.parts.as_slice().iter().enumerate() {
@@ -104,7 +102,7 @@ fn fronts_of_sections(alloc: Global, layout: &Layout, parts: &[u64]) -> Result<V
 
 /// Whether all bytes of each section have owners.
 fn are_whole(layout: &Layout, fronts: &[u64]) -> bool
-    requires { OwnFronts layout.now (λ (s : Section). s.offset) layout.now.sections fronts.now }
+    requires { SectionFronts layout.now fronts.now }
     ensures { result ≡ true → (k : ℕ) → list_any (has_offset layout.now k) layout.now.sections ≡ true → is_owned layout.now k ≡ true }
 {
     for (i, section) in layout.sections.as_slice().iter().enumerate() {
