@@ -18,7 +18,7 @@ use Rattle.wild_needs.proofs.StringLemmas.{length_needed}
 use Rattle.wild_clauses.specs.Contents.{has_share_for_each_part, is_sorted, sections_named_once, files_named_once, sorted_named_once}
 use Rattle.wild_clauses.specs.Places.{relocations_in, relocations_of, relocation_count}
 use Rattle.wild_clauses.specs.Passed.{section_passes, symbols_are_there, library_names_fit, file_passes, group_passes, groups_pass}
-use Rattle.wild_clauses.specs.Survey.{Survey, is_unsorted, needs_no_more, is_ordinary, is_ordinary_group, are_ordinary, along, section_step, own_passes, file_here, file_step, group_here, group_step, nothing_seen, surveyed}
+use Rattle.wild_clauses.specs.Survey.{Survey, is_unsorted, needs_no_more, is_ordinary, is_ordinary_group, are_ordinary, is_unmerged, are_unmerged, along, section_step, own_passes, file_here, file_step, group_here, group_step, nothing_seen, surveyed}
 
 and_true : (a : Bool) → (a && true) ≡ a
 and_true true = refl
@@ -86,6 +86,22 @@ unfolding surveyed are_ordinary
 ordinary_told l v is =
     ap (λ (u : Survey). u.ordinary) is
     ∙ along_all (group_step l) (λ (u : Survey). u.ordinary) is_ordinary_group (group_ordinary l) nothing_seen l.groups
+
+-- ---- whether no section is one of merged strings
+
+file_unmerged : (l : Layout) (v : Survey) (f : File) → (file_step l v f).unmerged ≡ (v.unmerged && list_all is_unmerged f.sections)
+unfolding section_step file_here file_step
+file_unmerged l v f = along_all (section_step l) (λ (u : Survey). u.unmerged) is_unmerged (λ u s. refl) (file_here l v f) f.sections
+
+group_unmerged : (l : Layout) (v : Survey) (g : Group) → (group_step l v g).unmerged ≡ (v.unmerged && list_all (λ (f : File). list_all is_unmerged f.sections) g.files)
+unfolding group_here group_step
+group_unmerged l v g = along_all (file_step l) (λ (u : Survey). u.unmerged) (λ (f : File). list_all is_unmerged f.sections) (file_unmerged l) (group_here l v g) g.files
+
+pub unmerged_told : (l : Layout) (v : Survey) → v ≡ surveyed l → v.unmerged ≡ are_unmerged l
+unfolding surveyed
+unmerged_told l v is =
+    ap (λ (u : Survey). u.unmerged) is
+    ∙ along_all (group_step l) (λ (u : Survey). u.unmerged) (λ (g : Group). list_all (λ (f : File). list_all is_unmerged f.sections) g.files) (group_unmerged l) nothing_seen l.groups
 
 -- ---- how many relocations there are
 

@@ -14,6 +14,7 @@ pub mod Passed
 pub mod Places
 pub mod Positions
 pub mod Roles
+pub mod Seen
 pub mod Segments
 pub mod SlotFlags
 pub mod SlotPlaces

@@ -1,12 +1,15 @@
 -- What one walk over all groups tells ahead of the clauses.
 --   is_ordinary f        no section of the file is in a given order, it has no copies, and no versions are needed of it
 --   are_ordinary gs      so are the files of all groups
+--   are_unmerged l       no section is one of merged strings
 --   section_step l v s   what is known behind a section, and so behind a file and a group
 --   surveyed l           what is known of all groups
 --   is_simple s          the symbol is plain, and carries no index of the dynamic symbol table
 --   are_simple ss        so are all symbols
-use Rattle.std.specs.Prelude.{◌+◌, ◌-◌, ◌^◌, ◌==◌, Bool, true, not, ◌&&◌, List, [], ◌∷◌, length, is_none, min}
+use Rattle.std.specs.Prelude.{◌+◌, ◌-◌, ◌^◌, ◌==◌, Bool, true, false, not, ◌&&◌, List, [], ◌∷◌, length, is_none, min}
 use Rattle.std.specs.List.{list_all}
+use Rattle.wild_types.specs.declared.input.Slot.{Slot}
+use Rattle.wild_types.specs.declared.input.Slot.TheVariants as slot
 use Rattle.wild_types.specs.declared.input.InputSection.{InputSection}
 use Rattle.wild_types.specs.declared.file.File.{File}
 use Rattle.wild_types.specs.declared.file.Group.{Group}
@@ -35,6 +38,18 @@ is_ordinary_group g = list_all is_ordinary g.files
 unfoldable pub are_ordinary : List Group → Bool
 are_ordinary gs = list_all is_ordinary_group gs
 
+abbrev pub is_other_slot : Slot → Bool
+is_other_slot slot.Merge = false
+is_other_slot other = true
+
+-- the section is none of merged strings
+abbrev pub is_unmerged : InputSection → Bool
+is_unmerged s = is_other_slot s.slot
+
+-- no section is
+abbrev pub are_unmerged : Layout → Bool
+are_unmerged l = list_all (λ (g : Group). list_all (λ (f : File). list_all is_unmerged f.sections) g.files) l.groups
+
 -- ---- one item after another
 
 -- the state behind all items
@@ -46,6 +61,7 @@ unfoldable pub section_step : Layout → Survey → InputSection → Survey
 section_step l v s = record {
   passed = v.passed && section_passes l s;
   ordinary = v.ordinary && is_unsorted s;
+  unmerged = v.unmerged && is_unmerged s;
   relocations = min (2 ^ 64 - 1) (v.relocations + length s.relocations);
 }
 
@@ -57,6 +73,7 @@ unfoldable pub file_here : Layout → Survey → File → Survey
 file_here l v f = record {
   passed = v.passed && own_passes l f;
   ordinary = v.ordinary && needs_no_more f;
+  unmerged = v.unmerged;
   relocations = v.relocations;
 }
 
@@ -68,6 +85,7 @@ unfoldable pub group_here : Layout → Survey → Group → Survey
 group_here l v g = record {
   passed = v.passed && has_share_for_each_part (length l.parts) g;
   ordinary = v.ordinary;
+  unmerged = v.unmerged;
   relocations = v.relocations;
 }
 
@@ -75,7 +93,7 @@ unfoldable pub group_step : Layout → Survey → Group → Survey
 group_step l v g = along (file_step l) (group_here l v g) g.files
 
 abbrev pub nothing_seen : Survey
-nothing_seen = record { passed = true; ordinary = true; relocations = 0 }
+nothing_seen = record { passed = true; ordinary = true; unmerged = true; relocations = 0 }
 
 unfoldable pub surveyed : Layout → Survey
 surveyed l = along (group_step l) nothing_seen l.groups

@@ -22,6 +22,7 @@ mod passed;
 mod places;
 mod roles;
 mod sections;
+mod seen;
 mod segments;
 mod shares;
 mod sizes;
@@ -36,4 +37,5 @@ mod verdict;
 mod versions;
 
 pub use loaded::Side;
-pub use verdict::well_formed;
+pub use seen::Seen;
+pub use verdict::{well_formed, well_formed_seen};

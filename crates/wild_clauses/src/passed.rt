@@ -4,7 +4,7 @@ ghost use Rattle.std.specs.Prelude.{◌≡◌, ◌-◌, ◌^◌, true, None, min
 ghost use Rattle.wild_types.specs.Lists.{first_failing};
 ghost use Rattle.wild_clauses.specs.Passed.{relocation_passes, section_passes, groups_pass};
 ghost use Rattle.wild_clauses.specs.Places.{relocation_count};
-ghost use Rattle.wild_clauses.specs.Survey.{is_unsorted, needs_no_more, are_ordinary, section_step, own_passes, file_here, file_step, group_here, group_step, surveyed};
+ghost use Rattle.wild_clauses.specs.Survey.{is_unsorted, needs_no_more, are_ordinary, is_unmerged, are_unmerged, section_step, own_passes, file_here, file_step, group_here, group_step, surveyed};
 
 use crate::fields::FieldPasses;
 use crate::fronts::ReversedFits;
@@ -62,11 +62,13 @@ impl Test<InputSection> for Passes<'_> {
 }
 
 /// What is known of groups, and of what stands in them: whether each passes; whether each file is ordinary, which is one without copies, of which
-/// no versions are needed, with no section in a given order; and how many relocations there are, at most 2^64 - 1.
+/// no versions are needed, with no section in a given order; whether no section is one of merged strings; and how many relocations there are,
+/// at most 2^64 - 1.
 #[derive(Clone, Copy)]
 pub struct Survey {
     pub passed: bool,
     pub ordinary: bool,
+    pub unmerged: bool,
     pub relocations: u64,
 }
 
@@ -74,6 +76,12 @@ fn is_unsorted(section: &InputSection) -> bool
     ensures { result ≡ is_unsorted section.now }
 {
     !matches!(section.slot, Slot::Sorted)
+}
+
+fn is_unmerged(section: &InputSection) -> bool
+    ensures { result ≡ is_unmerged section.now }
+{
+    !matches!(section.slot, Slot::Merge)
 }
 
 /// What is known behind a section.
@@ -84,6 +92,7 @@ fn section_step(layout: &Layout, before: Survey, section: &InputSection) -> Surv
     Survey {
         passed: before.passed && Passes { layout }.passes(section),
         ordinary: before.ordinary && is_unsorted(section),
+        unmerged: before.unmerged && is_unmerged(section),
         relocations: before
             .relocations
             .saturating_add(section.relocations.len() as u64),
@@ -114,6 +123,7 @@ fn file_here(layout: &Layout, before: Survey, file: &File) -> Survey
     Survey {
         passed: before.passed && own_passes(layout, file),
         ordinary: before.ordinary && needs_no_more(file),
+        unmerged: before.unmerged,
         relocations: before.relocations,
     }
 }
@@ -139,6 +149,7 @@ fn group_here(layout: &Layout, before: Survey, group: &Group) -> Survey
     Survey {
         passed: before.passed && HasShareForEachPart { count }.passes(group),
         ordinary: before.ordinary,
+        unmerged: before.unmerged,
         relocations: before.relocations,
     }
 }
@@ -163,6 +174,7 @@ fn surveyed(layout: &Layout) -> Survey
     let mut known = Survey {
         passed: true,
         ordinary: true,
+        unmerged: true,
         relocations: 0,
     };
     for group in layout.groups.as_slice() {
@@ -172,10 +184,11 @@ fn surveyed(layout: &Layout) -> Survey
 }
 
 /// What one walk tells of all groups.
-#[tactic(auto, using(crate::proofs::SurveyLemmas::passed_told, crate::proofs::SurveyLemmas::ordinary_told, crate::proofs::SurveyLemmas::relocations_told))]
+#[tactic(auto, using(crate::proofs::SurveyLemmas::passed_told, crate::proofs::SurveyLemmas::ordinary_told, crate::proofs::SurveyLemmas::unmerged_told, crate::proofs::SurveyLemmas::relocations_told))]
 pub(crate) fn survey_groups(layout: &Layout) -> Survey
     ensures passed { result.passed ≡ groups_pass layout.now }
     ensures ordinary { result.ordinary ≡ are_ordinary layout.now.groups }
+    ensures unmerged { result.unmerged ≡ are_unmerged layout.now }
     ensures relocations { min (2 ^ 64 - 1) result.relocations ≡ min (2 ^ 64 - 1) (relocation_count layout.now) }
 {
     surveyed(layout)

@@ -3,6 +3,7 @@ ghost use Rattle.std.specs.Prelude.{◌≡◌};
 ghost use Rattle.wild_types.specs.Lists.{unless};
 ghost use Rattle.wild_clauses.specs.ClauseTests.{fails};
 ghost use Rattle.wild_clauses.specs.WellFormed.{first_clause};
+ghost use Rattle.wild_clauses.specs.Seen.{IsSeen};
 
 use crate::astray::all_ranges_lie;
 use crate::counts::check_counts;
@@ -16,9 +17,9 @@ use crate::loaded::Side;
 use crate::names::check_names;
 use crate::order::check_order;
 use crate::partial::check_partial;
-use crate::passed::{Survey, survey_groups};
 use crate::roles::check_roles;
 use crate::sections::check_sections;
+use crate::seen::Seen;
 use crate::segments::check_segments;
 use crate::shares::check_shares;
 use crate::sizes::check_sizes;
@@ -28,7 +29,6 @@ use crate::starts::check_starts;
 use crate::threads::check_tls;
 use crate::thunks::check_thunks;
 use crate::versions::{check_versions, needed_libraries};
-use wild_needs::is_bare_inside;
 use wild_types::{Clause, Layout};
 
 /// Clause `clause` fails at that place, where there is one.
@@ -50,18 +50,27 @@ pub(crate) fn unless(ok: bool) -> Option<usize>
 
 /// Whether the layout is well formed: if not, its first clause that fails, with the place of the first item that
 /// fails it. It takes no memory.
-#[tactic(auto, unfolding(crate::specs::WellFormed::first_clause))]
 pub fn well_formed(layout: &Layout) -> Result<(), Clause>
     ensures { result ≡ first_clause layout.now }
 {
-    let Survey {
+    well_formed_seen(layout, Seen::of(layout))
+}
+
+/// The same of a layout of which that is seen.
+#[tactic(auto, unfolding(crate::specs::WellFormed::first_clause))]
+pub fn well_formed_seen(layout: &Layout, seen: Seen) -> Result<(), Clause>
+    requires { IsSeen layout.now seen }
+    ensures { result ≡ first_clause layout.now }
+{
+    let Seen {
+        inside,
         passed,
         ordinary,
         relocations,
-    } = survey_groups(layout);
+        ..
+    } = seen;
     let lie = all_ranges_lie(layout.symbols.len(), layout.groups.as_slice());
     let needs = needed_libraries(layout, ordinary);
-    let inside = is_bare_inside(layout);
     let simple = are_simple(layout);
     check_sizes(layout, passed)?;
     check_counts(layout, lie, needs, relocations)?;
