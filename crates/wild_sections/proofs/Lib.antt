@@ -12,3 +12,4 @@ pub mod HomeLemmas
 pub mod StringLemmas
 pub mod OwnerLemmas
 pub mod TargetLemmas
+pub mod FourLemmas

@@ -1,12 +1,9 @@
 -- Strings that were merged, as the writer looks for them.
 --   offsets_ascend reach ss   each string begins where the one in front of it does, or behind
 --   later last s x            string s where it begins at byte x or before it, else the one in front of it
---   are_unmerged l            no section of the layout is one of merged strings
 --   all_ascend l              the strings of each section are in the order of their offsets
 use Rattle.std.specs.Prelude.{ℕ, Bool, true, false, ◌&&◌, nat_le, if◌then◌else◌, List, [], ◌∷◌, Option, Some}
 use Rattle.std.specs.List.{list_all}
-use Rattle.wild_types.specs.declared.input.Slot.{Slot}
-use Rattle.wild_types.specs.declared.input.Slot.TheVariants as slot
 use Rattle.wild_types.specs.declared.input.InputSection.{InputSection}
 use Rattle.wild_types.specs.declared.input.MergedString.{MergedString}
 use Rattle.wild_types.specs.declared.file.File.{File}
@@ -20,18 +17,6 @@ offsets_ascend reach (s ∷ ss) = nat_le reach s.offset && offsets_ascend s.offs
 
 abbrev pub section_ascends : InputSection → Bool
 section_ascends s = offsets_ascend 0 s.strings
-
-abbrev pub is_other_slot : Slot → Bool
-is_other_slot slot.Merge = false
-is_other_slot other = true
-
--- the section is none of merged strings
-abbrev pub is_unmerged : InputSection → Bool
-is_unmerged s = is_other_slot s.slot
-
--- no section is
-abbrev pub are_unmerged : Layout → Bool
-are_unmerged l = list_all (λ (g : Group). list_all (λ (f : File). list_all is_unmerged f.sections) g.files) l.groups
 
 -- the strings of each section are in order
 abbrev pub all_ascend : Layout → Bool

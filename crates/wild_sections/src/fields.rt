@@ -99,12 +99,13 @@ fn template_behind(
 
 /// The four low bytes of a value, into the room.
 #[inline(always)]
-#[tactic(auto, using(wild_words::proofs::WordLemmas::low_word_4))]
+#[tactic(auto, using(crate::proofs::FourLemmas::low_four))]
 fn put_four(value: u64, room: &mut [u8], at: usize)
     requires { at + 4 ≤ length room.old }
     ensures { room.new ≡ place at (word 4 value) room.old }
 {
-    put(room, at, &value.to_le_bytes()[..4]);
+    let low = (value % (1 << 32)) as u32;
+    put(room, at, &low.to_le_bytes());
 }
 
 /// Writes a field of four bytes, where it begins at `reach` or behind: where it ends then; none where it begins before.

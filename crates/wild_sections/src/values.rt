@@ -15,7 +15,8 @@ ghost use Rattle.wild_slot.specs.Treatment.{flags_at};
 ghost use Rattle.wild_layout.specs.Merged.{is_plain_own, merged_strings, names_merged, string_place};
 ghost use Rattle.wild_types.specs.declared.input.MergedString.{MergedString};
 ghost use Rattle.wild_types.specs.declared.input.InputSection.{InputSection};
-ghost use Rattle.wild_sections.specs.Strings.{are_unmerged, all_ascend, section_ascends};
+ghost use Rattle.wild_sections.specs.Strings.{all_ascend, section_ascends};
+ghost use Rattle.wild_clauses.specs.Survey.{are_unmerged};
 ghost use Rattle.wild_sections.specs.Owners.{HasOwners, owner_among, asks_owners};
 ghost use Rattle.wild_sections.specs.Targets.{HasTargets};
 ghost use Rattle.wild_sections.specs.Indexes.{HasIndexes};
@@ -177,8 +178,17 @@ impl<'a, A: Arch> Resolved<'a, A> {
         requires fits { FieldsFit layout.now }
         ensures { IfOk result (λ r. r.layout.now ≡ layout.now) }
     {
+        Self::asking(alloc, layout, asks_owners(layout))
+    }
+
+    /// The same, where it is known whether the files of symbols are looked for.
+    pub fn asking(alloc: Global, layout: &'a Layout, asks: bool) -> Result<Self, AllocError>
+        requires machine { layout.now.machine ≡ A.machine }
+        requires fits { FieldsFit layout.now }
+        requires asks { asks ≡ asks_owners layout.now }
+        ensures { IfOk result (λ r. r.layout.now ≡ layout.now) }
+    {
         let values = values_of(alloc, layout)?;
-        let asks = asks_owners(layout);
         let targets = targets_of(alloc, layout, &values, asks)?;
         let homes = homes_of(alloc, layout)?;
         let owners = owners_of(alloc, layout, asks)?;
