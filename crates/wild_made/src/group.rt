@@ -1,5 +1,5 @@
 //! One group of a made plan.
-ghost use Rattle.std.specs.Prelude.{◌≡◌, ◌<◌, map, IfOk};
+ghost use Rattle.std.specs.Prelude.{◌≡◌, ◌<◌, [], ◌∷◌, map, IfOk};
 ghost use Rattle.std.specs.List.{range_with_len};
 ghost use Rattle.wild_types.specs.declared.file.FileRole.TheVariants as file_role;
 ghost use Rattle.wild_made.specs.Made.{made_symbol, made_relocation, made_section, file_with, plain_file, made_object, made_files, made_sizes, made_group, code};
@@ -97,13 +97,22 @@ fn code(alloc: Global) -> Result<Bytes, AllocError>
     Ok(Bytes::from_vec(Vec::from_slice(alloc, &CODE)?))
 }
 
+/// The code of a group, with these bytes and relocations.
 #[inline(always)]
 #[tactic(auto, unfolding(crate::specs::Made::made_section))]
-fn section(alloc: Global, groups: u32, group: u32) -> Result<InputSection, AllocError>
-    requires { (0 < groups) × (group < 65536) }
-    ensures { IfOk result (λ s. s ≡ made_section groups group) }
+fn section(
+    alloc: Global,
+    groups: u32,
+    group: u32,
+    bytes: Bytes,
+    relocations: Items<InputRelocation>,
+) -> InputSection
+    requires range { (0 < groups) × (group < 65536) }
+    requires bytes { bytes ≡ code }
+    requires relocations { relocations ≡ map (made_relocation groups group) (range_with_len 0 8) }
+    ensures { result ≡ made_section groups group }
 {
-    Ok(InputSection {
+    InputSection {
         slot: Slot::Loaded,
         name: Bytes::new(alloc),
         part: 2,
@@ -115,10 +124,10 @@ fn section(alloc: Global, groups: u32, group: u32) -> Result<InputSection, Alloc
         singleton: None,
         target: 0,
         members: Items::new(alloc),
-        bytes: code(alloc)?,
+        bytes,
         strings: Items::new(alloc),
-        relocations: relocations(alloc, groups, group)?,
-    })
+        relocations,
+    }
 }
 
 /// A file with these symbols and sections.
@@ -146,12 +155,14 @@ fn file(
 }
 
 #[inline(always)]
-fn object(alloc: Global, groups: u32, group: u32) -> Result<File, AllocError>
+fn sections(alloc: Global, groups: u32, group: u32) -> Result<Items<InputSection>, AllocError>
     requires { (0 < groups) × (group < 65536) }
-    ensures { IfOk result (λ f. f ≡ made_object groups group) }
+    ensures { IfOk result (λ v. v ≡ made_section groups group ∷ []) }
 {
-    let sections = vec![in alloc; section(alloc, groups, group)?]?;
-    Ok(file(FileRole::Object, group, 1, Items::from_vec(sections), alloc))
+    let bytes = code(alloc)?;
+    let relocations = relocations(alloc, groups, group)?;
+    let all = vec![in alloc; section(alloc, groups, group, bytes, relocations)]?;
+    Ok(Items::from_vec(all))
 }
 
 /// A file without symbols or sections.
@@ -189,7 +200,8 @@ fn files(alloc: Global, groups: u32, group: u32) -> Result<Items<File>, AllocErr
     requires { (0 < groups) × (group < 65536) }
     ensures { IfOk result (λ v. v ≡ made_files groups group) }
 {
-    let object = object(alloc, groups, group)?;
+    let sections = sections(alloc, groups, group)?;
+    let object = file(FileRole::Object, group, 1, sections, alloc);
     if group == 0 || group + 1 == groups {
         return files_at_an_end(alloc, groups, group, object);
     }
