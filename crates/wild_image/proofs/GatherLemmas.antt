@@ -1,5 +1,5 @@
 -- Laws of what the groups count, gathered.
-use Rattle.std.proofs.Common.{◌≡◌, ℕ, suc, ◌+◌, ◌^◌, ◌<◌, ◌==◌, not, ◌&&◌, Bool, true, false, if◌then◌else◌, List, [], ◌∷◌, ◌++◌, length, get_or, refl, sym, ◌∙◌, arith, All}
+use Rattle.std.proofs.Common.{◌≡◌, ℕ, suc, ◌+◌, ◌^◌, ◌<◌, ◌==◌, not, ◌&&◌, Bool, true, false, if◌then◌else◌, List, [], ◌∷◌, length, get_or, refl, sym, ◌∙◌, arith, All}
 use Rattle.std.specs.Prelude.{Option, Some, None, slice_get}
 use Rattle.std.specs.List.{flat_map}
 use Rattle.std.proofs.lemmas.List.Elements.{All-nil}
@@ -24,6 +24,7 @@ use Rattle.wild_image.specs.Batches.{AreBatches, batch_pairs, pairs_of, pairs_at
 use Rattle.wild_image.specs.declared.batch.Batch.{Batch}
 use Rattle.wild_image.proofs.BatchLemmas.{cut_of, total_joined}
 use Rattle.wild_image.proofs.CountLemmas.{group_counted-le, total_le}
+use Rattle.wild_image.proofs.PairLemmas.{IsBelow, counted-append, pairs_counted, pairs_below_of}
 
 -- ---- the sections of the pairs
 
@@ -37,9 +38,6 @@ section_below l h part = by l h (slice_get l.parts part) part refl
 -- the relocations of a section are counted
 abbrev is_told : Layout → InputSection → Bool
 is_told l s = is_counted s && not (is_dropped l s)
-
-abbrev IsBelow : ℕ → ℕ × ℕ → Type 0
-IsBelow n p = p.0 < n
 
 files_below : (l : Layout) → IsLaidOut l → (g : Group) → All (IsBelow (length l.sections)) (flat_map (file_pairs l) g.files)
 files_below l h g =
@@ -61,13 +59,11 @@ pairs_below l h bs i = by l h (slice_get bs i)
   where
     by : (l : Layout) → IsLaidOut l → (o : Option Batch) → All (IsBelow (length l.sections)) (pairs_of l o)
     by l h None = All-nil (IsBelow (length l.sections))
-    by l h (Some b) = All-flat_map (IsBelow (length l.sections)) (group_pairs l) b.groups.now (λ j d m. group_below l h (get_or b.groups.now j d))
+    by l h (Some b) =
+        pairs_below_of (length l.sections) true [] (flat_map (group_pairs l) b.groups.now) (All-nil (IsBelow (length l.sections)))
+        (All-flat_map (IsBelow (length l.sections)) (group_pairs l) b.groups.now (λ j d m. group_below l h (get_or b.groups.now j d)))
 
 -- ---- their sums
-
-counted-append : (k : ℕ) (xs ys : List (ℕ × ℕ)) → counted_in k (xs ++ ys) ≡ counted_in k xs + counted_in k ys
-counted-append k [] ys = omega arith
-counted-append k (x ∷ xs) ys = let e = counted-append k xs ys in omega (arith, e)
 
 counted-flat_map : {X : Type 0} (k : ℕ) (f : X → List (ℕ × ℕ)) (t : X → ℕ) → ((x : X) → counted_in k (f x) ≡ t x) → (xs : List X) → counted_in k (flat_map f xs) ≡ total t xs
 counted-flat_map k f t h [] = refl
@@ -120,7 +116,10 @@ abbrev batch_counted : Layout → ℕ → Batch → ℕ
 batch_counted l k b = total (group_counted l k) b.groups.now
 
 batch_sum : (l : Layout) (k : ℕ) (b : Batch) → counted_in k (batch_pairs l b) ≡ batch_counted l k b
-batch_sum l k b = counted-flat_map k (group_pairs l) (group_counted l k) (group_sum l k) b.groups.now
+batch_sum l k b =
+    let joined = pairs_counted k true [] (flat_map (group_pairs l) b.groups.now) in
+    let each = counted-flat_map k (group_pairs l) (group_counted l k) (group_sum l k) b.groups.now in
+    omega (arith, joined, each)
 
 sum_is : (l : Layout) (bs : List Batch) (k : ℕ) → AreBatches l.groups bs → sum_of (pairs_at l bs) (length bs) k ≡ count_of l k
 unfolding pairs_at

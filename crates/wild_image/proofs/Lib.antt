@@ -2,6 +2,7 @@ pub mod PaddingLemmas
 pub mod FullLemmas
 pub mod ChangedLemmas
 pub mod CountLemmas
+pub mod PairLemmas
 pub mod TableLemmas
 pub mod OutputLemmas
 pub mod OwnedLemmas

@@ -1,19 +1,25 @@
 -- Groups that need nothing but their input sections.
-use Rattle.std.proofs.Common.{◌≡◌, ℕ, suc, ◌+◌, ◌<◌, inl, inr, Bool, true, false, List, [], ◌∷◌, length, get_or, refl, sym, ap, ◌∙◌, arith, subst}
-use Rattle.std.specs.Prelude.{min, ◌-◌, ◌^◌, Some, slice_get}
-use Rattle.std.proofs.lemmas.Bool.{cases_order, eqb-true, le-ltb}
-use Rattle.std.proofs.lemmas.Option.{get_or_from_slice_get}
+use Rattle.std.proofs.Common.{◌≡◌, ℕ, zero, suc, ◌+◌, ◌<◌, ◌≤◌, inl, inr, Bool, true, false, List, [], ◌∷◌, length, get_or, refl, sym, ap, ◌∙◌, arith, subst}
+use Rattle.std.specs.Prelude.{min, ◌-◌, ◌^◌, ◌&&◌, take, Ok, Some, slice_get}
+use Rattle.std.specs.List.{list_all}
+use Rattle.std.proofs.lemmas.Bool.{cases_Bool, cases_order, eqb-true, le-ltb, and_parts}
+use Rattle.std.proofs.lemmas.Option.{get_or_from_slice_get, slice_get_within}
 use Rattle.wild_types.specs.declared.file.Group.{Group}
 use Rattle.wild_types.specs.declared.layout.Layout.{Layout}
 use Rattle.wild_types.specs.declared.part.Part.{Part}
 use Rattle.wild_types.specs.declared.part.Role.{Role}
 use Rattle.wild_types.specs.declared.part.Role.TheVariants as role
 use Rattle.wild_types.specs.FilePlaces.{given}
+use Rattle.wild_types.specs.Lists.{total}
 use Rattle.wild_types.specs.Parts.{has_role}
+use Rattle.wild_clauses.specs.WellFormed.{first_clause}
+use Rattle.wild_geometry.proofs.ClauseLemmas.{NoneFails-from_first_clause, SharesHold-from_check}
+use Rattle.wild_geometry.proofs.ShareLemmas.{size_from_shares}
 use Rattle.wild_geometry.proofs.TableLemmas.{role_place-0}
-use Rattle.wild_needs.specs.Needs.{group_share, needs_of, needs}
+use Rattle.wild_needs.specs.Needs.{group_share, needs_of, needs, is_bare, is_bare_group, inner, is_bare_inside}
+use Rattle.wild_needs.proofs.BareLemmas.{bare_needs}
 use Rattle.wild_layout.specs.Faults.{flat_map_from, has_spare, share_errors}
-use Rattle.wild_image.specs.Steps.{share_faults, part_faults}
+use Rattle.wild_image.specs.Steps.{share_faults, part_faults, has_all, OthersHaveNone}
 
 -- ---- what they need
 
@@ -49,6 +55,64 @@ unfolding share_faults
 share_raw l i j p g part group raw =
     ap (share_errors (has_spare p g) i j (given i g)) (raw_needed l i j p g part group (role_place-0 p.role (eqb-true _ _ raw))) ∙ same_none (has_spare p g) i j (given i g)
 
+-- in an output that is bare inside the groups between the first and the last need nothing
+front_at : {X : Type 0} (test : X → Bool) (xs : List X) (n i : ℕ) (x : X) → list_all test (take n xs) ≡ true → slice_get xs i ≡ Some x → i < n → test x ≡ true
+front_at test [] n i x h e low = cc
+front_at test (y ∷ ys) zero i x h e low = absurd (omega (arith, low))
+front_at test (y ∷ ys) (suc n) zero x h e low = (let same : y ≡ x = cc in ap test (sym same) ∙ (and_parts (test y) (list_all test (take n ys)) h).0)
+front_at test (y ∷ ys) (suc n) (suc i) x h e low = front_at test ys n i x (and_parts (test y) (list_all test (take n ys)) h).1 e (omega (arith, low))
+
+inner_at : (gs : List Group) (j : ℕ) (g : Group) → list_all is_bare_group (inner gs) ≡ true → slice_get gs j ≡ Some g → 1 ≤ j → j < length gs - 1 → is_bare_group g ≡ true
+inner_at [] j g h e behind before = cc
+inner_at (x ∷ ys) zero g h e behind before = absurd (omega (arith, behind))
+inner_at (x ∷ ys) (suc j) g h e behind before = front_at is_bare_group ys (length (x ∷ ys) - 1 - 1) j g h e (omega (arith, before))
+
+pub inner_plain : (l : Layout) (j : ℕ) (g : Group) → is_bare_inside l ≡ true → slice_get l.groups j ≡ Some g → 1 ≤ j → j < length l.groups - 1 → (r : Role) → group_share l r g ≡ 0
+inner_plain l j g h e behind before =
+    let p = and_parts (is_bare l) (list_all is_bare_group (inner l.groups)) h in
+    bare_needs l g true (sym (inner_at l.groups j g p.1 e behind before)) p.0 refl
+
+-- where the first group is given all, the others are given nothing
+none_of_none : {X : Type 0} (f : X → ℕ) (xs : List X) (j : ℕ) (x : X) → slice_get xs j ≡ Some x → total f xs ≡ 0 → f x ≡ 0
+none_of_none f [] j x e none = cc
+none_of_none f (y ∷ ys) zero x e none = (let same : y ≡ x = cc in let a = ap f same in omega (arith, a, none))
+none_of_none f (y ∷ ys) (suc j) x e none = none_of_none f ys j x e (omega (arith, none))
+
+none_behind_all : {X : Type 0} (f : X → ℕ) (xs : List X) (j size : ℕ) (first x : X) → slice_get xs 0 ≡ Some first → slice_get xs j ≡ Some x → 1 ≤ j → f first ≡ size → total f xs ≡ size → f x ≡ 0
+none_behind_all f [] j size first x is e behind all sum = cc
+none_behind_all f (y ∷ ys) zero size first x is e behind all sum = absurd (omega (arith, behind))
+none_behind_all f (y ∷ ys) (suc j) size first x is e behind all sum = none_of_none f ys j x e (let same : y ≡ first = cc in let a = ap f same in omega (arith, a, all, sum))
+
+sums_hold : (l : Layout) → first_clause l ≡ Ok tt → (i : ℕ) (p : Part) → slice_get l.parts i ≡ Some p → total (given i) l.groups ≡ p.size
+sums_hold l h i p at =
+    let sums = (SharesHold-from_check l (NoneFails-from_first_clause l h).shares).sums in
+    size_from_shares l.groups 0 l.parts sums i i p (omega arith) (slice_get_within l.parts i p at) ∙ ap (λ (q : Part). q.size) (get_or_from_slice_get l.parts i p p at)
+
+pub others_have_none : (l : Layout) (first : Group) → first_clause l ≡ Ok tt → slice_get l.groups 0 ≡ Some first → ((i : ℕ) (p : Part) → slice_get l.parts i ≡ Some p → has_all i p first ≡ true) → OthersHaveNone l
+others_have_none l first h is all = λ i j p g part group behind raw.
+    (let size : given i first ≡ p.size = eqb-true _ _ (rw raw at (all i p part)) in
+    none_behind_all (given i) l.groups j p.size first g is group behind size (sums_hold l h i p part))
+
+-- one more part
+part_more : (F : ℕ → Part → Type 0) (l : Layout) (items : List Part) (i : ℕ) (d : Part) → items ≡ l.parts → i < length items → ((k : ℕ) (p : Part) → k < i → slice_get l.parts k ≡ Some p → F k p) → F i (get_or items i d) → (k : ℕ) (p : Part) → k < i + 1 → slice_get l.parts k ≡ Some p → F k p
+part_more F l items i d same inside before here k p low at = elim (cases_order k i) [
+  | inl e ↦
+      (let there : get_or items k d ≡ p = ap (λ (ps : List Part). get_or ps k d) same ∙ get_or_from_slice_get l.parts k p d at in
+      subst (λ (q : Part). F k q) there (subst (λ (n : ℕ). F n (get_or items n d)) (sym e) here))
+  | inr (inl b) ↦ before k p b at
+  | inr (inr c) ↦ absurd (omega (arith, c, low))
+]
+
+pub all_more : (l : Layout) (first : Group) (items : List Part) (i : ℕ) (d : Part) → items ≡ l.parts → i < length items → ((k : ℕ) (p : Part) → k < i → slice_get l.parts k ≡ Some p → has_all k p first ≡ true) → has_all i (get_or items i d) first ≡ true → (k : ℕ) (p : Part) → k < i + 1 → slice_get l.parts k ≡ Some p → has_all k p first ≡ true
+all_more l first = part_more (λ k p. has_all k p first ≡ true) l
+
+-- no part of a group behind the first that needs nothing has a fault
+pub others_plain : (l : Layout) (i j : ℕ) (p : Part) (g : Group) → slice_get l.parts i ≡ Some p → slice_get l.groups j ≡ Some g → OthersHaveNone l → 1 ≤ j → ((q : Role) → group_share l q g ≡ 0) → share_faults l i p j g ≡ []
+others_plain l i j p g part group others behind none = elim (cases_Bool (has_role role.Raw p)) [
+  | inl raw ↦ share_raw l i j p g part group raw
+  | inr other ↦ share_plain l i j p g part group (others i j p g part group behind other) none
+]
+
 -- ---- no share has a fault
 
 none_each : {X Y : Type 0} (f : ℕ → X → List Y) (n : ℕ) (xs : List X) → ((k m : ℕ) (x : X) → m ≡ n + k → slice_get xs k ≡ Some x → f m x ≡ []) → flat_map_from f n xs ≡ []
@@ -65,13 +129,5 @@ shares_none l h =
     none_each (share_faults l m p) 0 l.groups (λ j n g d found.
     (let x : m ≡ i = omega arith in let y : n ≡ j = omega arith in rw (x, y) (h j g found i p at))))
 
--- one more part
 pub share_more : (l : Layout) (j : ℕ) (g : Group) (items : List Part) (i : ℕ) (d : Part) → items ≡ l.parts → i < length items → ((k : ℕ) (p : Part) → k < i → slice_get l.parts k ≡ Some p → share_faults l k p j g ≡ []) → share_faults l i (get_or items i d) j g ≡ [] → (k : ℕ) (p : Part) → k < i + 1 → slice_get l.parts k ≡ Some p → share_faults l k p j g ≡ []
-share_more l j g items i d same inside before here k p low at = elim (cases_order k i) [
-  | inl e ↦
-      (let there : get_or items k d ≡ p = ap (λ (ps : List Part). get_or ps k d) same ∙ get_or_from_slice_get l.parts k p d at in
-      let F : ℕ → Type 0 = λ n. share_faults l n (get_or items n d) j g ≡ [] in
-      subst (λ (q : Part). share_faults l k q j g ≡ []) there (subst F (sym e) here))
-  | inr (inl b) ↦ before k p b at
-  | inr (inr c) ↦ absurd (omega (arith, c, low))
-]
+share_more l j g = part_more (λ k p. share_faults l k p j g ≡ []) l

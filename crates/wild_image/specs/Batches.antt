@@ -4,7 +4,7 @@
 --   batch_errors l b       the faults of its groups; batch_pieces, batch_tables, batch_files and batch_pairs likewise
 --   GivesBatch l bs i r    r is all bytes of batch i, or its first fault
 --   pairs_at l bs i        what batch i counts
-use Rattle.std.specs.Prelude.{◌≡◌, ℕ, ◌+◌, List, [], ◌∷◌, map, length, Option, Some, None, slice_get, Result, IfOk}
+use Rattle.std.specs.Prelude.{◌≡◌, ℕ, ◌+◌, true, List, [], ◌∷◌, map, length, Option, Some, None, slice_get, Result, IfOk}
 use Rattle.std.specs.List.{flat_map}
 use Rattle.wild_words.specs.Overlay.{Piece}
 use Rattle.wild_types.specs.declared.fault.Error.{Error}
@@ -14,6 +14,7 @@ use Rattle.wild_types.specs.Faults.{Answers}
 use Rattle.wild_layout.specs.Faults.{flat_map_from, group_errors}
 use Rattle.wild_layout.specs.Image.{group_pieces}
 use Rattle.wild_image.specs.Pieces.{group_tables, group_files, group_pairs}
+use Rattle.wild_image.specs.Pairs.{with_pairs}
 use Rattle.wild_image.specs.declared.batch.Batch.{Batch}
 use Rattle.wild_image.specs.declared.buffer.GroupBytes.{GroupBytes}
 
@@ -48,8 +49,9 @@ pub record HasBatch (l : Layout) (b : Batch) (bytes : GroupBytes) : Type 0 where
   pub tables : bytes.tables ≡ batch_tables l b
   pub files : bytes.files ≡ batch_files l b
 
+-- what its groups count, of one section one behind the other as one pair
 abbrev pub batch_pairs : Layout → Batch → List (ℕ × ℕ)
-batch_pairs l b = flat_map (group_pairs l) b.groups.now
+batch_pairs l b = with_pairs true [] (flat_map (group_pairs l) b.groups.now)
 
 -- all bytes of batch i, or its first fault
 abbrev pub GivesBatch : Layout → List Batch → ℕ → Result GroupBytes Error → Type 0

@@ -1,7 +1,8 @@
 -- What is asked once of a layout, or of some groups.
---   IsKnown l k            whether the output is bare, and where its part of frames begins
+--   IsKnown l k            whether the output is bare, and inside; whether groups but the first are given nothing of tables; and where
+--                          its part of frames begins
 --   GiveNothing l gs       groups write nothing of any table
-use Rattle.std.specs.Prelude.{◌≡◌, ℕ, List, Some, slice_get}
+use Rattle.std.specs.Prelude.{◌≡◌, ℕ, true, List, Some, slice_get}
 use Rattle.wild_types.specs.declared.file.Group.{Group}
 use Rattle.wild_types.specs.declared.layout.Layout.{Layout}
 use Rattle.wild_types.specs.declared.part.Part.{Part}
@@ -10,13 +11,16 @@ use Rattle.wild_types.specs.FilePlaces.{given}
 use Rattle.wild_types.specs.Lists.{total}
 use Rattle.wild_types.specs.Parts.{part_with}
 use Rattle.wild_laid.specs.Laid.{part_address}
-use Rattle.wild_needs.specs.Needs.{is_bare}
+use Rattle.wild_needs.specs.Needs.{is_bare, is_bare_inside}
 use Rattle.wild_image.specs.Pieces.{written}
+use Rattle.wild_image.specs.Steps.{OthersHaveNone}
 use Rattle.wild_image.specs.declared.known.Known.{Known}
 
--- whether the output is bare, and where its part of frames begins
+-- whether the output is bare, and inside; whether groups but the first are given nothing of tables; and where its part of frames begins
 pub record IsKnown (l : Layout) (k : Known) : Type 0 where
   pub bare : k.bare ≡ is_bare l
+  pub inside : k.inside ≡ true → is_bare_inside l ≡ true
+  pub none : k.none ≡ true → OthersHaveNone l
   pub frames : k.frames ≡ part_address (part_with role.EhFrame l.parts)
 
 -- groups write nothing of any table

@@ -3,6 +3,7 @@ pub mod Padding
 pub mod Full
 pub mod Batches
 pub mod Jobs
+pub mod Pairs
 pub mod Pieces
 pub mod Steps
 pub mod Stood

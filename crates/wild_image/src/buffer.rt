@@ -24,7 +24,7 @@ ghost use Rattle.wild_image.specs.Append.{GivesItsShares, HasRolesOnce, IsTurned
 ghost use Rattle.wild_image.specs.Known.{IsKnown, GiveNothing};
 ghost use Rattle.wild_image.specs.Pieces.{table_given, written, section_owned, sorted_owned, all_sorted, once_bytes, file_bytes, group_files, group_tables};
 ghost use Rattle.wild_image.specs.Stood.{kept_faults, stood_faults, StoodApart, HasOrigins, IsMadeOf, IsWhole, zeros_of, stands_so, so_errors, so_bytes, errors_behind, bytes_behind, is_plain_object};
-ghost use Rattle.wild_image.specs.Batches.{HasBatch, batch_errors};
+ghost use Rattle.wild_image.specs.Batches.{HasBatch, IsWithin, batch_errors};
 
 use crate::append::written_size;
 use crate::batch::Batch;
@@ -682,13 +682,18 @@ fn total_written(layout: &Layout, i: usize, part: &Part, groups: &[Group]) -> u6
     }
 }
 
-/// How many bytes some groups write of tables, so that their buffer is taken at once.
-fn room_of_tables(layout: &Layout, groups: &[Group]) -> u64
-    ensures { result ≡ 0 → GiveNothing layout.now groups.now }
+/// How many bytes a batch writes of tables, so that their buffer is taken at once.
+fn room_of_tables(layout: &Layout, known: Known, batch: &Batch) -> u64
+    requires known { IsKnown layout.now known }
+    requires within { IsWithin layout.now.groups batch.now }
+    ensures { result ≡ 0 → GiveNothing layout.now batch.now.groups.now }
 {
+    if known.none && batch.first != 0 {
+        return 0;
+    }
     let mut room: u64 = 0;
     for (i, part) in layout.parts.as_slice().iter().enumerate() {
-        room = room.saturating_add(total_written(layout, i, part, groups));
+        room = room.saturating_add(total_written(layout, i, part, batch.groups));
     }
     room
 }
@@ -781,10 +786,11 @@ pub(crate) fn bytes_of_batch<A: ShardedArch, R: Threads + Sync>(
     requires once { HasRolesOnce resolved.now.layout.now }
     requires table { IsSearchTable resolved.now.layout.now table.now }
     requires small { batch.now.first + length batch.now.groups.now < 2 ^ 64 }
+    requires within { IsWithin resolved.now.layout.now.groups batch.now }
     ensures faults { Answers result (batch_errors resolved.now.layout.now batch.now) }
     ensures bytes { IfOk result (HasBatch resolved.now.layout.now batch.now) }
 {
-    let tables = room_of_tables(resolved.layout, batch.groups);
+    let tables = room_of_tables(resolved.layout, known, batch);
     let files = room_of_files(resolved.layout, batch.groups);
     let mut bytes = GroupBytes::with_room(by.alloc, tables as usize, files as usize)?;
     for (i, group) in batch.groups.iter().enumerate() {

@@ -3,6 +3,8 @@ ghost use Rattle.std.specs.Prelude.{◌≡◌, ◌<◌, ◌≤◌, ◌^◌, ℕ,
 ghost use Rattle.wild_types.specs.Faults.{Answers};
 ghost use Rattle.wild_clauses.specs.Places.{relocation_count};
 ghost use Rattle.wild_clauses.specs.WellFormed.{first_clause};
+ghost use Rattle.wild_clauses.specs.Seen.{IsSeen};
+ghost use Rattle.wild_sections.specs.Owners.{asks_owners};
 ghost use Rattle.wild_layout.specs.Image.{padding, bytes, counts};
 ghost use Rattle.wild_layout.specs.Warnings.{warnings};
 ghost use Rattle.wild_layout.specs.Faults.{clause_errors, flat_map_from, part_errors, group_errors, errors};
@@ -16,15 +18,15 @@ use crate::batch::{Batch, batch_size, batches_of};
 use crate::job::{GroupJob, Outcome};
 use crate::known::Known;
 use crate::padding::padded_image;
-use crate::shares::check_shares_in;
+use crate::shares::{check_shares_in, first_has_all};
 use std::alloc::{AllocError, Global};
 use std::thread::Threads;
-use wild_clauses::well_formed;
+use wild_clauses::{Seen, well_formed_seen};
 use wild_contents::make_search_table;
 use wild_crew::{Gate, OpenGate, gather};
 use wild_debug::{ShardedArch, Workers};
 use wild_geometry::layouts_are_laid_out;
-use wild_needs::{elf_entry_address, is_bare};
+use wild_needs::elf_entry_address;
 use wild_relax::{Arch, ElfAArch64, ElfX86_64};
 use wild_sections::Resolved;
 use wild_types::{At, EntryWarning, Error, Fault, Layout, Machine};
@@ -39,10 +41,11 @@ pub struct SizedOutput {
 }
 
 /// Refuses a layout of which a clause fails.
-fn check_clauses(layout: &Layout) -> Result<(), Error>
+fn check_clauses(layout: &Layout, seen: Seen) -> Result<(), Error>
+    requires { IsSeen layout.now seen }
     ensures { Answers result (clause_errors (first_clause layout.now)) }
 {
-    match well_formed(layout) {
+    match well_formed_seen(layout, seen) {
         Ok(()) => Ok(()),
         Err(clause) => Err(Error {
             fault: Fault::MalformedLayout {
@@ -86,18 +89,21 @@ fn write_bytes<A: Arch>(
     append_all(layout, batches, outcomes, starts, out)
 }
 
-/// The image of a layout whose clauses hold and whose shares are what is needed, or its first fault.
+/// The image of a layout whose clauses hold and whose shares are what is needed, or its first fault. It is told what is known, and whether
+/// the files of symbols are looked for.
 fn write_laid_out<A: ShardedArch + Sync, G: Gate + Sync, R: Threads + Sync>(
     rt: &R,
     alloc: Global,
     layout: &Layout,
     known: Known,
+    asks: bool,
     workers: u8,
     gate: &G,
 ) -> Result<SizedOutput, Error>
 where
     A::Relaxation: Sync,
     requires known { IsKnown layout.now known }
+    requires asks { asks ≡ asks_owners layout.now }
     requires machine { layout.now.machine ≡ A.machine }
     requires workers { (1 ≤ workers) × (workers ≤ 64) }
     requires clauses { first_clause layout.now ≡ Ok tt }
@@ -109,7 +115,7 @@ where
     ensures warnings { IfOk result (λ o. o.warnings ≡ warnings layout.now) }
     ensures counts { IfOk result (λ o. o.counts ≡ counts layout.now) }
 {
-    let resolved = Resolved::<A>::new(alloc, layout)?;
+    let resolved = Resolved::<A>::asking(alloc, layout, asks)?;
     let table = make_search_table(rt, alloc, &resolved)?;
     let groups = layout.groups.as_slice();
     let cut = batches_of(alloc, groups, batch_size(groups.len()))?;
@@ -158,12 +164,13 @@ where
     ensures warnings { IfOk result (λ o. o.warnings ≡ warnings layout.now) }
     ensures counts { IfOk result (λ o. o.counts ≡ counts layout.now) }
 {
-    check_clauses(layout)?;
-    let bare = is_bare(layout);
-    check_shares_in(layout, bare)?;
+    let seen = Seen::of(layout);
+    check_clauses(layout, seen)?;
+    let known = Known::of(layout, seen.inside, first_has_all(layout));
+    check_shares_in(layout, known)?;
     layouts_are_laid_out();
-    let known = Known::of(layout, bare);
-    write_laid_out::<A, _, _>(rt, alloc, layout, known, workers, gate)
+    let asks = layout.kind.is_partial_link() || !seen.unmerged;
+    write_laid_out::<A, _, _>(rt, alloc, layout, known, asks, workers, gate)
 }
 
 /// The image of a layout, or its first fault, by so many workers.

@@ -26,7 +26,6 @@ use std::thread::Threads;
 use wild_contents::{PartBytes, SearchTable, make_search_table};
 use wild_debug::{ShardedArch, Workers};
 use wild_geometry::layouts_are_laid_out;
-use wild_needs::is_bare;
 use wild_relax::Arch;
 use wild_sections::Resolved;
 use wild_types::{Error, Group, Layout};
@@ -120,6 +119,6 @@ pub fn write_group<A: ShardedArch>(
         alloc,
         count: 1,
     };
-    let known = Known::of(layout, is_bare(layout));
+    let known = Known::of(layout, false, false);
     piece_of(&by, &resolved, group, found, known, &table)
 }

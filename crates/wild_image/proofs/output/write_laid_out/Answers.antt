@@ -15,8 +15,8 @@ use Rattle.wild_image.proofs.JobLemmas.{few_groups}
 use Rattle.wild_image.proofs.StoodLemmas.{made}
 use Rattle.wild_image.proofs.output.write_laid_out.Goals as goal
 
-pub new-requires-clause-fits : goal.new-requires-clause-fits
-new-requires-clause-fits g c = FieldsFit-IsLaidOut c.args.layout.now c.requires.laid_out
+pub asking-requires-clause-fits : goal.asking-requires-clause-fits
+asking-requires-clause-fits g c = FieldsFit-IsLaidOut c.args.layout.now c.requires.laid_out
 
 pub invariant_of-job-clause-shares : goal.invariant_of-job-clause-shares
 invariant_of-job-clause-shares g c = subst (λ (l : Layout). flat_map_from (part_errors l) 0 l.parts ≡ []) (sym c.in_ok-resolved.ensures) c.requires.shares

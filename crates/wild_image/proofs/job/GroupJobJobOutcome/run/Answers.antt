@@ -1,7 +1,6 @@
 use Rattle.std.proofs.Common.{◌≡◌, get_or, refl, arith}
-use Rattle.std.specs.Prelude.{slice_get, Some, All}
+use Rattle.std.specs.Prelude.{slice_get, Some}
 use Rattle.std.proofs.lemmas.Option.{slice_get-get_or}
-use Rattle.wild_types.specs.declared.file.Group.{Group}
 use Rattle.wild_contents.specs.Given.{NeedsFit}
 use Rattle.wild_image.specs.Append.{GivesItsShares, GroupStands}
 use Rattle.wild_contents.proofs.VersionLemmas.{needs_fit}
@@ -51,6 +50,14 @@ bytes_of_batch-bytes-requires-clause-small g c κs within =
     let ends = batches_end l.groups 0 bs c.args.group found (cut_of l.groups bs c.args.self.now.batches_are) at in
     let few = few_groups l c.args.self.now.clauses in
     omega (arith, ends, few)
+
+pub bytes_of_batch-bytes-requires-clause-within : goal.bytes_of_batch-bytes-requires-clause-within
+bytes_of_batch-bytes-requires-clause-within g c κs within =
+    let l = c.args.self.now.resolved.layout.now in
+    let bs = c.args.self.now.batches.now in
+    let found = get_or bs c.args.group c.index-self-group.result in
+    let at : slice_get bs c.args.group ≡ Some found = slice_get-get_or bs c.args.group c.index-self-group.result c.requires.group in
+    batches_within l.groups l.groups 0 bs c.args.group found refl (cut_of l.groups bs c.args.self.now.batches_are) at
 
 pub returns : goal.returns
 returns g c =
