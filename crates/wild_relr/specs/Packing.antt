@@ -1,4 +1,4 @@
--- How places are encoded in words.
+-- How places are encoded.
 --   slot start place   the number of the bit for the place in the window from start on
 --   choice run place   the word that the place goes into: three cases
 --   after state place  the words and the run after one more place
