@@ -306,7 +306,7 @@ fn condition_code(word: u32) -> Option<Code>
     None
 }
 
-/// The instruction of a word; `None` if it has none of the known forms.
+/// The instruction of a word; `None` if no known form matches.
 #[tactic(auto, unfolding(crate::specs::Code::read))]
 pub fn code_of(word: u32) -> Option<Code>
     ensures { result ≡ read word }
