@@ -1,4 +1,4 @@
--- The instruction of a word, by the first form that stands.
+-- The instruction of a word: that of the first form that matches.
 --   read w   the instruction
 use Rattle.std.specs.Prelude.{ℕ, if◌then◌else◌, List, [], ◌∷◌, Option, Some, None}
 use Rattle.wild_aarch64.specs.declared.code.Code.{Code}
@@ -6,7 +6,7 @@ use Rattle.wild_aarch64.specs.Immediate.{immediate}
 use Rattle.wild_aarch64.specs.Slice.{Form, stands}
 use Rattle.wild_aarch64.specs.Forms.{addresses, accesses, vector_accesses, literals, transfers, conditions}
 
--- the instruction of a word, by the first form that stands
+-- the instruction of a word: that of the first form that matches
 abbrev pub read_by : List Form → ℕ → Option Code
 read_by [] w = None
 read_by (f ∷ fs) w = if stands f.fixed w then Some (f.code w (immediate f.field w)) else read_by fs w

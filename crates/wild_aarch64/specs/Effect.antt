@@ -1,8 +1,8 @@
--- What code comes to, and what code of the input asks for.
---   Reader              what operands read as
---   effect reader a ws  what the words at an address do, with what their operand reads as
---   demand v a ws       what they do where their fields are filled so that the operand reads as v
---   words_of bytes      the words of code that stand in bytes
+-- The effect of code, and the effect that the input's code demands.
+--   Reader              the numbers that operands evaluate to
+--   effect reader a ws  the effect of the words at an address, with the number that its operand evaluates to
+--   demand v a ws       the effect that the words have if their fields are filled so that the operand evaluates to v
+--   words_of bytes      the words of code in bytes
 use Rattle.std.specs.Prelude.{◌≡◌, ℕ, List, [], ◌∷◌, map, Option, Some, option_map, option_and_then}
 use Rattle.wild_words.specs.Words.{number}
 use Rattle.wild_aarch64.specs.declared.operand.Operand.{Operand}
@@ -14,7 +14,7 @@ use Rattle.wild_aarch64.specs.declared.code.Code.TheVariants.{Adr, Adrp, Movz, M
 use Rattle.wild_aarch64.specs.Code.{read}
 use Rattle.wild_aarch64.specs.Machine.{run, meaning}
 
--- what operands read as
+-- the numbers that operands evaluate to; some have none
 abbrev pub Reader : Type 0
 Reader = Operand → Option ℕ
 
@@ -29,11 +29,11 @@ comes_to deed v = record { deed = deed; value = v }
 abbrev pub performed : Reader → Action → Option Effect
 performed reader act = option_map (comes_to act.deed) (reader act.operand)
 
--- what the words at an address do, with what their operand reads as
+-- the effect of the words at an address, with the number that its operand evaluates to
 abbrev pub effect : Reader → ℕ → List ℕ → Option Effect
 effect reader a ws = option_and_then (performed reader) (meaning a ws)
 
--- the instruction with its field cleared
+-- the instruction with its immediate set to 0
 abbrev pub cleared : Code → Code
 cleared (Adr r j) = Adr r 0
 cleared (Adrp r j) = Adrp r 0
@@ -51,23 +51,23 @@ cleared (Br q) = Br q
 cleared (Blr q) = Blr q
 cleared Hint = Hint
 
--- whatever it is, the operand reads as v
+-- every operand evaluates to v
 abbrev pub as_value : ℕ → Reader
 as_value v operand = Some v
 
--- words whose fields relocations fill: what a field had plays no part
+-- the words without their immediates: relocations fill these, so their old contents do not matter
 abbrev pub shapes : List ℕ → List (Option Code)
 shapes ws = map (λ w. option_map cleared (read w)) ws
 
--- what the words of the input at an address ask for, where their fields are to stand for v
+-- the effect that the words of the input at an address demand if their fields are to mean v
 abbrev pub demand : ℕ → ℕ → List ℕ → Option Effect
 demand v a ws = option_and_then (performed (as_value v)) (run (shapes ws) a [])
 
--- numbers read as themselves
+-- a number evaluates to itself
 abbrev pub ReadsNumbers : Reader → Type 0
 ReadsNumbers reader = (x : ℕ) → reader (Number x) ≡ Some x
 
--- the words of four bytes each, the lowest byte first, whatever the order of data (Arm Architecture Reference Manual, B2.6.2,
+-- the words of four bytes each, the lowest byte first; the endianness of data does not matter (Arm Architecture Reference Manual, B2.6.2,
 -- "Instruction endianness")
 abbrev pub words_of : List ℕ → List ℕ
 words_of (a ∷ b ∷ c ∷ e ∷ bytes) = number (a ∷ b ∷ c ∷ e ∷ []) ∷ words_of bytes

@@ -1,6 +1,6 @@
--- Which forms relocation types fill ("ELF for the Arm 64-bit Architecture", "Static AArch64 relocations").
+-- Which instruction forms relocation types fill ("ELF for the Arm 64-bit Architecture", "Static AArch64 relocations").
 --   filled_forms      relocation types, each with the forms of the words that it fills
---   forms_filled n    those of one type; none where it fills no instruction
+--   forms_filled n    the forms of one type; empty if it fills no instruction
 use Rattle.std.specs.Prelude.{ℕ, ◌==◌, if◌then◌else◌, List, [], ◌∷◌}
 use Rattle.wild_records.specs.Abi.Relocation as abi
 use Rattle.wild_aarch64.specs.Slice.{Form}

@@ -1,5 +1,5 @@
--- The forms of AArch64's instructions, each with the bits that make it (Arm Architecture Reference Manual, C4.1, and the instruction's page in
--- C6.2 or C7.2). Bits 26 to 28 tell the classes.
+-- The forms of AArch64's instructions, each with its fixed bits (Arm Architecture Reference Manual, C4.1, and the instruction's page in
+-- C6.2 or C7.2). Bits 26 to 28 select the class.
 --   d w, n w, hw w   the registers of a word, and the shift of a wide move
 --   adrp, adr, ..    the forms, by their mnemonics
 --   forms            the table
@@ -27,7 +27,7 @@ shift_of i = if i == 0 then By0 else (if i == 1 then By16 else (if i == 2 then B
 abbrev pub hw : ℕ → Shift
 hw w = shift_of (bits 21 2 w)
 
--- ---- "Data Processing -- Immediate": `adrp`, `adr`, `add`, `add` of a number shifted by 12, `movz`, `movk`, `movn`, each of 64 bits
+-- ---- "Data Processing -- Immediate": `adrp`, `adr`, `add`, `add` with its immediate shifted by 12, `movz`, `movk`, `movn`; each of 64 bits
 
 abbrev pub adrp : Form
 adrp = form (is 26 3 4 ∷ is 24 5 16 ∷ is 31 1 1 ∷ []) Imm21 (λ w i. Adrp (d w) (signed 33 (i * 4096)))
@@ -53,7 +53,7 @@ movn = form (is 26 3 4 ∷ is 24 5 18 ∷ is 23 9 0x125 ∷ []) Imm16 (λ w i. M
 abbrev pub addresses : List Form
 addresses = adrp ∷ adr ∷ add ∷ add_shifted ∷ movz ∷ movk ∷ movn ∷ []
 
--- ---- "Load/store register (unsigned immediate)" of general registers: `ldr` of 64 bits; 8, 16 and 32 bits, `ldrsw`, `str` of 64 bits, `prfm`
+-- ---- "Load/store register (unsigned immediate)", general registers: `ldr` of 64 bits; 8, 16 and 32 bits, `ldrsw`, `str` of 64 bits, `prfm`
 
 abbrev pub ldr : Form
 ldr = form (is 26 3 6 ∷ is 24 2 1 ∷ is 29 3 7 ∷ is 22 2 1 ∷ []) Imm12 (λ w i. Ldr (d w) (n w) (i * 8))
@@ -79,7 +79,7 @@ prfm = form (is 26 3 6 ∷ is 24 2 1 ∷ is 29 3 7 ∷ is 22 2 2 ∷ []) Imm12 (
 abbrev pub accesses : List Form
 accesses = ldr ∷ byte_access ∷ half_access ∷ word_access ∷ ldrsw ∷ str ∷ prfm ∷ []
 
--- ---- the same of vector registers: 8, 128, 16, 32 and 64 bits
+-- ---- "Load/store register (unsigned immediate)", vector registers: 8, 128, 16, 32 and 64 bits
 
 abbrev pub vector_8 : Form
 vector_8 = form (is 26 3 7 ∷ is 24 2 1 ∷ is 29 3 1 ∷ is 23 1 0 ∷ []) Imm12 (λ w i. Access (kept Imm12 w) i)
@@ -99,7 +99,7 @@ vector_64 = form (is 26 3 7 ∷ is 24 2 1 ∷ is 29 3 7 ∷ is 23 1 0 ∷ []) Im
 abbrev pub vector_accesses : List Form
 vector_accesses = vector_8 ∷ vector_128 ∷ vector_16 ∷ vector_32 ∷ vector_64 ∷ []
 
--- ---- "Load register (literal)" of general registers, and of vector registers of 32 and 64, and of 128 bits
+-- ---- "Load register (literal)": general registers, vector registers of 32 and 64 bits, and of 128 bits
 
 abbrev pub literal : Form
 literal = form (is 26 3 6 ∷ is 24 2 0 ∷ is 29 1 0 ∷ []) Imm19 (λ w i. Literal (kept Imm19 w) (signed 21 (i * 4)))
@@ -136,7 +136,7 @@ call = form (is 26 3 5 ∷ is 26 6 37 ∷ []) Imm26 (λ w i. Bl (signed 28 (i * 
 abbrev pub transfers : List Form
 transfers = br ∷ blr ∷ nop ∷ bti ∷ branch ∷ call ∷ []
 
--- ---- the same: `b.cond`, `cbz` and `cbnz` of 32 and 64 bits, `tbz` and `tbnz` of a low and a high bit
+-- ---- "Branches, Exception Generating and System instructions": `b.cond`, `cbz` and `cbnz` of 32 and 64 bits, `tbz` and `tbnz` of a low and a high bit
 
 abbrev pub b_cond : Form
 b_cond = form (is 26 3 5 ∷ is 26 6 21 ∷ is 24 2 0 ∷ is 4 1 0 ∷ []) Imm19 (λ w i. BranchIf (kept Imm19 w) (signed 21 (i * 4)))

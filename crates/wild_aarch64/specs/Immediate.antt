@@ -1,13 +1,13 @@
 -- Immediates of AArch64 instructions (Arm Architecture Reference Manual, C4.1, "A64 instruction set encoding").
---   Field                            where an instruction has its immediate
---   insert_bits low width bits word  the word with so many low bits of bits from bit low on
---   inserted field bits word         the instruction word with the immediate
+--   Field                            the position of an instruction's immediate
+--   insert_bits low width bits word  the word with the lowest width bits of bits, from bit low on
+--   inserted field bits word         the instruction word with its immediate replaced
 --   immediate field word             the immediate of the instruction word
---   cut field x                      so many low bits of a number as the field has
---   kept field word                  what the word has beside its immediate
+--   cut field x                      the low bits of a number, as many as the field has
+--   kept field word                  the bits of the word outside its immediate
 use Rattle.std.specs.Prelude.{ℕ, ◌+◌, ◌*◌, ◌/◌, ◌%◌, ◌^◌}
 
--- 12 bits from 10 on (`add`, loads, stores); 14, 16 or 19 from 5 on (`tbz`; `movz`, `movk`, `movn`; loads of a place, conditional
+-- 12 bits from 10 on (`add`, loads, stores); 14, 16 or 19 from 5 on (`tbz`; `movz`, `movk`, `movn`; PC-relative loads, conditional
 -- branches); two bits at 29 and 30 and 19 from 5 on (`adr`, `adrp`); 26 from 0 on (`b`, `bl`); or no immediate
 pub data Field : Type 0 where
   Imm12 : Field
@@ -18,11 +18,11 @@ pub data Field : Type 0 where
   Imm26 : Field
   Nowhere : Field
 
--- the word with width low bits of bits from bit low on
+-- the word with the lowest width bits of bits, from bit low on
 unfoldable pub insert_bits : ℕ → ℕ → ℕ → ℕ → ℕ
 insert_bits low width bits word = word / 2 ^ (low + width) * 2 ^ (low + width) + bits % 2 ^ width * 2 ^ low + word % 2 ^ low
 
--- the instruction word with the immediate
+-- the instruction word with its immediate replaced
 abbrev pub inserted : Field → ℕ → ℕ → ℕ
 inserted Imm12 bits word = insert_bits 10 12 bits word
 inserted Imm14 bits word = insert_bits 5 14 bits word
@@ -42,7 +42,7 @@ immediate Imm21 w = w / 2 ^ 29 % 2 ^ 2 + w / 2 ^ 5 % 2 ^ 19 * 4
 immediate Imm26 w = w % 2 ^ 26
 immediate Nowhere w = 0
 
--- so many low bits of a number as the field has
+-- the low bits of a number, as many as the field has
 abbrev pub cut : Field → ℕ → ℕ
 cut Imm12 x = x % 2 ^ 12
 cut Imm14 x = x % 2 ^ 14
@@ -52,7 +52,7 @@ cut Imm21 x = x % 2 ^ 21
 cut Imm26 x = x % 2 ^ 26
 cut Nowhere x = 0
 
--- what the word has beside its immediate
+-- the bits of the word outside its immediate
 abbrev pub kept : Field → ℕ → ℕ
 kept Imm12 w = w % 2 ^ 10 + w / 2 ^ 22 * 2 ^ 10
 kept Imm14 w = w % 2 ^ 5 + w / 2 ^ 19 * 2 ^ 5

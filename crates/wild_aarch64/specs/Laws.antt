@@ -1,10 +1,10 @@
 -- Laws of AArch64 code.
---   FormsAreRead, FieldsAreWritten   words of a form are read as it; a number in their field is its immediate
---   HintsAreSkipped, HintsAreLost    words that do nothing, in front of a run and behind it
---   JumpsAreFollowed                 words that jump do so also with others behind them
+--   FormsAreRead, FieldsAreWritten   a word of a form is decoded as that form; writing its field changes its immediate
+--   HintsAreSkipped, HintsAreLost    `nop` and `bti c` before a run, and after it, do not change its effect
+--   JumpsAreFollowed                 words that end in a jump jump whatever words come after
 --   TemplatesDescend                 the longest template is the first
---   RowsKeep, BranchesKeep           what is written does what the words of the input demand
---   RowsAreSteps                     and is one step
+--   RowsKeep, BranchesKeep           the written words do what the words of the input demand
+--   RowsAreSteps                     the written words are one step
 use Rattle.std.specs.Prelude.{◌≡◌, ℕ, ◌+◌, ◌<◌, ◌≤◌, true, List, [], ◌∷◌, ◌++◌, length, map, Option, Some, option_map, Contains}
 use Rattle.wild_aarch64.specs.declared.code.Code.{Code}
 use Rattle.wild_aarch64.specs.declared.code.Code.TheVariants.{Hint}
@@ -22,11 +22,11 @@ use Rattle.wild_aarch64.specs.Row.{Row, rows, written, Comes, branches, branch_b
 
 -- ---- forms
 
--- the order of the table plays no part
+-- the order of the table does not matter
 abbrev pub FormsAreRead : Type 0
 FormsAreRead = (f : Form) → Contains forms f → (w : ℕ) → stands f.fixed w ≡ true → read w ≡ Some (f.code w (immediate f.field w))
 
--- with a number in its field a word is the same instruction, with the same registers and that number's low bits
+-- if a number is written to its field, a word is the same instruction with the same registers and the number's low bits
 abbrev pub FieldIsWritten : Form → Type 0
 FieldIsWritten f = (w x : ℕ) → stands f.fixed w ≡ true → read (inserted f.field x w) ≡ Some (f.code w (cut f.field x))
 
@@ -49,11 +49,11 @@ TemplatesDescend = descends 4 (map size_of templates) ≡ true
 
 -- ---- rewrites
 
--- these instructions
+-- the instructions, as decoded
 abbrev pub some_codes : List Code → List (Option Code)
 some_codes cs = map (λ c. Some c) cs
 
--- what a row writes does what the words demand that it stands for, where its fields come from what they stand for
+-- if the fields are computed as the row's target says, the words that it writes do what the words that it replaces demand
 abbrev pub RowKeeps : Row → Type 0
 RowKeeps row = (r : ℕ) (ws : List ℕ) (reader : Reader) → ReadsNumbers reader → (base a x v : ℕ) → row.first ≤ r → r < 31 → shapes ws ≡ some_codes (row.old r)
     → Comes row.target reader base a x v → effect reader (base + a) (written row.new r a x) ≡ demand v (base + a) ws
@@ -61,7 +61,7 @@ RowKeeps row = (r : ℕ) (ws : List ℕ) (reader : Reader) → ReadsNumbers read
 abbrev pub RowsKeep : Type 0
 RowsKeep = (row : Row) → Contains rows row → RowKeeps row
 
--- what a row writes is one step, whatever stands behind it
+-- the words that a row writes are one step, whatever words come after
 abbrev pub RowIsStep : Row → Type 0
 RowIsStep row = (r b a x : ℕ) (rest : List ℕ) → row.first ≤ r → r < 31 → step_of b (written row.new r a x ++ rest) ≡ option_map (taking (length row.new)) (meaning b (written row.new r a x))
 

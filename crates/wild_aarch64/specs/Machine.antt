@@ -1,9 +1,9 @@
--- What a run of instructions does: the registers that it sets are followed, as far as addresses go.
---   Operand, Deed, Action   what a register or a target is; what is done with it; both
---   Known, known r ks       what the registers that were set have
+-- The effect of a run of instructions: the registers that it sets are followed, as far as addresses need them.
+--   Operand, Deed, Action   the value of a register or a target; what is done with it; both
+--   Known, known r ks       the values of the registers that were set
 --   acts a ks c             what the instruction at an address does
---   run cs a ks             what instructions do, one behind the other
---   meaning a ws            what the words at an address do
+--   run cs a ks             the effect of consecutive instructions
+--   meaning a ws            the effect of the words at an address
 use Rattle.std.specs.Prelude.{ℕ, ◌+◌, ◌*◌, ◌/◌, ◌%◌, ◌^◌, ◌==◌, Bool, true, false, ◌&&◌, ◌||◌, if◌then◌else◌, List, [], ◌∷◌, map, Option, Some, None}
 use Rattle.wild_aarch64.specs.declared.operand.Operand.{Operand}
 use Rattle.wild_aarch64.specs.declared.operand.Deed.{Deed}
@@ -19,7 +19,7 @@ use Rattle.wild_aarch64.specs.Code.{read}
 abbrev pub does : Deed → Operand → Action
 does deed operand = record { deed = deed; operand = operand }
 
--- the code at an address is gone to, or that whose address stands there
+-- a jump to the address; a jump to the address in the word at the address
 abbrev pub jump_to : ℕ → Action
 jump_to a = does Jumps (Number a)
 
@@ -30,33 +30,33 @@ jump_through a = does Jumps (Word a)
 abbrev pub sum_64 : ℕ → ℕ → ℕ
 sum_64 x y = (x + y) % 2 ^ 64
 
--- the first byte of the page of 4096 bytes that an address is in
+-- the first byte of the page of 4096 bytes that contains an address
 abbrev pub page : ℕ → ℕ
 page a = a / 4096 * 4096
 
 -- ---- registers
 
--- what the registers that were set have, the last one first
+-- the values of the registers that were set, the last one first
 abbrev pub Known : Type 0
 Known = List (ℕ × Operand)
 
--- what a register has; one that was not set has what it had before
+-- the value of a register; one that was not set has its value before the run
 abbrev pub known : ℕ → Known → Operand
 known r [] = Register r 0
 known r (k ∷ ks) = if k.0 == r then k.1 else known r ks
 
--- no register was set but these two
+-- no register other than these two was set
 abbrev pub only : ℕ → ℕ → Known → Bool
 only p q [] = true
 only p q (k ∷ ks) = (k.0 == p || k.0 == q) && only p q ks
 
--- a number more
+-- the operand plus a number
 abbrev pub plus : ℕ → Operand → Option Operand
 plus j (Number x) = Some (Number (sum_64 x j))
 plus j (Register r k) = Some (Register r (sum_64 k j))
 plus j other = None
 
--- the word there
+-- the word at an address
 abbrev pub loaded : Option Operand → Option Operand
 loaded (Some (Number x)) = Some (Word x)
 loaded (Some (Register r k)) = Some (WordOf r k)
@@ -69,7 +69,7 @@ shifted By16 i = i * 2 ^ 16
 shifted By32 i = i * 2 ^ 32
 shifted By48 i = i * 2 ^ 48
 
--- x with the number in place of 16 of its bits
+-- x with 16 of its bits replaced by the number
 abbrev pub with_bits : Shift → ℕ → ℕ → ℕ
 with_bits By0 i x = x / 2 ^ 16 * 2 ^ 16 + i
 with_bits By16 i x = x / 2 ^ 32 * 2 ^ 32 + i * 2 ^ 16 + x % 2 ^ 16
@@ -82,13 +82,13 @@ changed s i other = None
 
 -- ---- one instruction
 
--- the run goes on with these registers, ends, or is not told
+-- the run continues with these registers, ends in a branch, or has an unknown effect
 pub data Next : Type 0 where
   On : Known → Next
   End : Action → Next
   Stuck : Next
 
--- register 31 is none: what is set there is lost, or it is the stack pointer (C1.2.5, "Register names")
+-- setting register 31 is unknown: it is lost, or sets the stack pointer (C1.2.5, "Register names")
 abbrev pub set : ℕ → Known → Operand → Next
 set r ks x = if r == 31 then Stuck else On ((r, x) ∷ ks)
 
@@ -96,28 +96,28 @@ abbrev pub sets : ℕ → Known → Option Operand → Next
 sets r ks None = Stuck
 sets r ks (Some x) = set r ks x
 
--- code that goes elsewhere may have used the two registers that calls leave to linkers (aapcs64, "General-purpose Registers": IP0, IP1)
+-- a jump or call may have set the two registers that calls leave to linkers (aapcs64, "General-purpose Registers": IP0, IP1)
 abbrev pub leaves : Known → Deed → Operand → Next
 leaves ks deed x = if only 16 17 ks then End (does deed x) else Stuck
 
--- a condition may ask for any register: none was set
+-- the condition may depend on any register, so none may have been set
 abbrev pub leaves_if : ℕ → Known → Operand → Next
 leaves_if key [] x = End (does (MayJump key) x)
 leaves_if key (k ∷ ks) x = Stuck
 
--- a target in a register is told where it is a number or a word in memory
+-- a target in a register is known if it is a number or a word in memory
 abbrev pub goes : Known → Operand → Next
 goes ks (Number x) = leaves ks Jumps (Number x)
 goes ks (Word x) = leaves ks Jumps (Word x)
 goes ks other = Stuck
 
--- the function of a descriptor, whose address is in register 0, leaves the offset there; the register of its own address is free ("ELF
--- for the Arm 64-bit Architecture", "Thread Local Storage", "TLS descriptors")
+-- a descriptor's call: x0 has the descriptor's address before it and the offset after it; the function's address may be in any register
+-- ("ELF for the Arm 64-bit Architecture", "Thread Local Storage", "TLS descriptors")
 abbrev pub described : ℕ → Known → Operand → Operand → Next
 described r ks (Word g) (Number h) = if g == h && only 0 r ks then On ((0, Offset g) ∷ []) else Stuck
 described r ks x y = Stuck
 
--- what the instruction at an address does (C6.2); of `movn`, other loads and stores, and loads of a place nothing is told
+-- what the instruction at an address does (C6.2); unknown for `movn`, other loads and stores, and PC-relative loads
 abbrev pub acts : ℕ → Known → Code → Next
 acts a ks (Adr r j) = set r ks (Number (sum_64 a j))
 acts a ks (Adrp r j) = set r ks (Number (sum_64 (page a) j))
@@ -135,14 +135,14 @@ acts a ks (Br q) = goes ks (known q ks)
 acts a ks (Blr q) = described q ks (known q ks) (known 0 ks)
 acts a ks Hint = On ks
 
--- the same of a word, which may be no instruction of the table
+-- what a word does; unknown if it is no known instruction
 abbrev pub step : ℕ → Known → Option Code → Next
 step a ks None = Stuck
 step a ks (Some c) = acts a ks c
 
 -- ---- a run
 
--- what is left behind: nothing, or one register that was set
+-- the effect of a run that does not branch: nothing, or one register that was set
 abbrev pub outcome : Known → Option Action
 outcome [] = Some (does Nothing (Number 0))
 outcome (k ∷ ks) = if only k.0 k.0 ks then Some (does (Sets k.0) k.1) else None
@@ -151,7 +151,7 @@ abbrev pub is_hint : Option Code → Bool
 is_hint (Some Hint) = true
 is_hint other = false
 
--- nothing is done
+-- all are `nop` or `bti c`
 abbrev pub all_hints : List (Option Code) → Bool
 all_hints [] = true
 all_hints (c ∷ cs) = is_hint c && all_hints cs
@@ -161,11 +161,11 @@ goes_on (On ks) rest ends = rest ks
 goes_on (End act) rest ends = if ends then Some act else None
 goes_on Stuck rest ends = None
 
--- instructions of 4 bytes, one behind the other; behind one that goes elsewhere there is nothing but hints
+-- consecutive instructions of 4 bytes; after a branch only `nop` and `bti c` may come
 abbrev pub run : List (Option Code) → ℕ → Known → Option Action
 run [] a ks = outcome ks
 run (c ∷ cs) a ks = goes_on (step a ks c) (λ next. run cs (a + 4) next) (all_hints cs)
 
--- what the words at an address do
+-- the effect of the words at an address
 abbrev pub meaning : ℕ → List ℕ → Option Action
 meaning a ws = run (map read ws) a []

@@ -1,7 +1,7 @@
 -- The registers that were set, as a list.
 --   entries_of registers      the list
---   next_of, next_count       how a run goes on, and how many registers are set then
---   follow_words ws a ks      what the first of the words at an address does that goes elsewhere
+--   next_of, next_count       the state of a run, and the number of registers set in it
+--   follow_words ws a ks      the first jump, call or conditional branch of the words at an address
 use Rattle.std.specs.Prelude.{ℕ, ◌+◌, List, [], ◌∷◌, length, Option, Some, None}
 use Rattle.wild_aarch64.specs.declared.operand.Action.{Action}
 use Rattle.wild_aarch64.specs.declared.operand.Operand.{Operand}
@@ -16,7 +16,7 @@ use Rattle.wild_aarch64.specs.Machine.{Known, Next, On, End, Stuck, step}
 abbrev pub entry : Entry → ℕ × Operand
 entry e = (e.register, e.operand)
 
--- what the registers have, the last one first
+-- the values of the registers that were set, the last one first
 abbrev pub entries_of : Registers → Known
 entries_of Empty = []
 entries_of (One a) = entry a ∷ []
@@ -24,7 +24,7 @@ entries_of (Two a b) = entry a ∷ entry b ∷ []
 entries_of (Three a b c) = entry a ∷ entry b ∷ entry c ∷ []
 entries_of (Four a b c d) = entry a ∷ entry b ∷ entry c ∷ entry d ∷ []
 
--- how many were set
+-- the number of registers that were set
 abbrev pub count : Registers → ℕ
 count r = length (entries_of r)
 
@@ -33,7 +33,7 @@ next_of (steps.On r) = On (entries_of r)
 next_of (steps.End act) = End act
 next_of steps.Stuck = Stuck
 
--- how many are set where it goes on
+-- the number of registers that are set if the run continues
 abbrev pub next_count : NextStep → ℕ
 next_count (steps.On r) = count r
 next_count other = 0
@@ -43,7 +43,7 @@ told (On ks) rest = rest ks
 told (End act) rest = Some act
 told Stuck rest = None
 
--- what the first of the words at an address does that goes elsewhere
+-- the first jump, call or conditional branch of the words at an address
 abbrev pub follow_words : List ℕ → ℕ → Known → Option Action
 follow_words [] a ks = None
 follow_words (w ∷ ws) a ks = told (step a ks (read w)) (λ next. follow_words ws (a + 4) next)

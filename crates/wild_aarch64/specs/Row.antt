@@ -1,10 +1,10 @@
--- Rewrites of code as data: the instructions that are read, and the words that are written, with what relocations put into them ("ELF for
+-- Rewrites of code as data: the instructions that are replaced, and the words that are written, with their relocated fields ("ELF for
 -- the Arm 64-bit Architecture", "Relocation").
---   Part, filled          what a relocation puts into a word
---   Piece, written        the words at an address, for a register and what their fields come from
---   Target, Comes         what the fields come from, and what it stands for in the loaded image
+--   Part, filled          the value that a relocation writes to a word's field
+--   Piece, written        the words at an address, for a register and a value
+--   Target, Comes         how the fields are computed, and what they mean in the loaded image
 --   Row, rows             the table
---   branches, IsReached   branches, whose words stay but for their field
+--   branches, IsReached   branches, of which only the field is written
 use Rattle.std.specs.Prelude.{◌≡◌, ℕ, ◌+◌, ◌-◌, ◌*◌, ◌/◌, ◌%◌, ◌^◌, ◌<◌, ◌≤◌, ◌⊎◌, Bool, true, false, if◌then◌else◌, List, [], ◌∷◌, Some}
 use Rattle.wild_aarch64.specs.declared.code.Code.{Code}
 use Rattle.wild_aarch64.specs.declared.operand.Operand.TheVariants.{Word}
@@ -20,9 +20,9 @@ use Rattle.wild_aarch64.specs.Immediate.{Field, Imm12, Imm14, Imm16, Imm19, Imm2
 abbrev pub distance : ℕ → ℕ → ℕ
 distance p s = (s + (2 ^ 64 - p)) % 2 ^ 64
 
--- ---- what is written
+-- ---- the written words
 
--- what a relocation puts into a word: nothing; bits 16 to 31 or 0 to 15 of an offset; the distance of a slot's page, or the low bits of
+-- the value of a word's field: unchanged; bits 16 to 31 or 0 to 15 of an offset; the page distance of a GOT entry, or the low bits of
 -- its address; or a distance
 pub data Part : Type 0 where
   Kept : Part
@@ -41,7 +41,7 @@ filled SlotPage a x w = inserted Imm21 (distance (page a) (page x) % 2 ^ 33 / 2 
 filled SlotLow a x w = inserted Imm12 (x % 2 ^ 12 / 2 ^ 3) w
 filled Distance a x w = inserted Imm21 (distance a x % 2 ^ 21) w
 
--- a word to be written: its bits, whether the register's number is added to them, and its field
+-- a word to be written: its bits, whether the register's number is added to them, and the value of its field
 pub record Piece : Type 0 where
   pub word : ℕ
   pub named : Bool
@@ -58,35 +58,35 @@ abbrev pub written : List Piece → ℕ → ℕ → ℕ → List ℕ
 written [] r a x = []
 written (p ∷ ps) r a x = filled p.part a x (word_of p r) ∷ written ps r (a + 4) x
 
--- ---- what it stands for
+-- ---- the meaning of the fields
 
--- what the fields come from: an offset from the thread pointer, the slot of one, or an address that is named k bytes behind the code's start
+-- what the fields are computed from: an offset from the thread pointer, the GOT entry of one, or an address, used k bytes after the code's start
 pub data Target : Type 0 where
   ThreadOffset : Target
   OffsetSlot : Target
   Address : ℕ → Target
 
--- from p to s it is less than half, or half backwards
+-- the distance from p to s is at least -half and less than half
 pub record Within (half p s : ℕ) : Type 0 where
   pub above : p ≤ s + half
   pub below : s < p + half
 
--- the same of addresses, which are counted modulo 2^64
+-- the same for addresses, which are modulo 2^64
 pub record IsNear (half p s : ℕ) : Type 0 where
   pub origin : p ≤ 2 ^ 64
   pub near : (distance p s < half) ⊎ (2 ^ 64 ≤ distance p s + half)
 
--- v is where the linked address x stands in an image that is loaded base above its addresses
+-- v is the loaded address of the linked address x, with the image at load base base
 abbrev pub IsPlaced : ℕ → ℕ → ℕ → Type 0
 IsPlaced base x v = v ≡ (base + x) % 2 ^ 64
 
--- a slot reads as v there; the image moves by whole pages
+-- the reader gives v for the GOT entry at x; the load base is a multiple of the page size
 pub record IsRead (reader : Reader) (base x v : ℕ) : Type 0 where
   pub aligned : x % 8 ≡ 0
   pub pages : base % 4096 ≡ 0
   pub slot : reader (Word ((base + x) % 2 ^ 64)) ≡ Some v
 
--- v is what the target stands for; x is what the fields of code at a are made of
+-- v is the meaning of the target; the fields of code at a are computed from x
 abbrev pub Comes : Target → Reader → ℕ → ℕ → ℕ → ℕ → Type 0
 Comes ThreadOffset reader base a x v = (x < 2 ^ 32) × (v ≡ x)
 Comes OffsetSlot reader base a x v = IsRead reader base x v × IsNear (2 ^ 32) (page (a + 8)) (page x)
@@ -94,7 +94,7 @@ Comes (Address k) reader base a x v = IsPlaced base x v × IsNear (2 ^ 20) (a + 
 
 -- ---- the table
 
--- a row: what is read, for a register from the first on and below 31, with its fields cleared; what is written; what its fields come from
+-- a row: the instructions that are replaced, without immediates, for a register from first to 30; the words that are written; their target
 pub record Row : Type 0 where
   pub old : ℕ → List Code
   pub first : ℕ
@@ -107,19 +107,19 @@ row old first new target = record { old = old; first = first; new = new; target 
 abbrev pub nop : Piece
 nop = piece 0xd503201f false Kept
 
--- a descriptor's call to `movz x0`, `movk x0` of its offset
+-- a rewrite of a descriptor's call to `movz x0`, `movk x0` of its offset
 abbrev pub call_to_offset : Row
 call_to_offset = row (codes_of templates.DescriptorCall) 1 (nop ∷ nop ∷ piece 0xd2a00000 false HighOffset ∷ piece 0xf2800000 false LowOffset ∷ []) ThreadOffset
 
--- a descriptor's call to `adrp x0`, `ldr x0, [x0]` of the slot of its offset
+-- a rewrite of a descriptor's call to `adrp x0`, `ldr x0, [x0]` of the GOT entry of its offset
 abbrev pub call_to_slot : Row
 call_to_slot = row (codes_of templates.DescriptorCall) 1 (nop ∷ nop ∷ piece 0x90000000 false SlotPage ∷ piece 0xf9400000 false SlotLow ∷ []) OffsetSlot
 
--- the slot of an offset to `movz`, `movk` of the offset
+-- a rewrite of a load of an offset's GOT entry to `movz`, `movk` of the offset
 abbrev pub slot_to_offset : Row
 slot_to_offset = row (codes_of templates.SlotPair) 0 (piece 0xd2a00000 true HighOffset ∷ piece 0xf2800000 true LowOffset ∷ []) ThreadOffset
 
--- `adrp`, `add` to `nop`, `adr` of the same address
+-- a rewrite of `adrp`, `add` to `nop`, `adr` of the same address
 abbrev pub address_to_near : Row
 address_to_near = row (codes_of templates.AddressPair) 0 (nop ∷ piece 0x10000000 true Distance ∷ []) (Address 4)
 
@@ -127,9 +127,9 @@ address_to_near = row (codes_of templates.AddressPair) 0 (nop ∷ piece 0x100000
 abbrev pub rows : List Row
 rows = call_to_offset ∷ call_to_slot ∷ slot_to_offset ∷ address_to_near ∷ []
 
--- ---- branches, whose words stay
+-- ---- branches, of which only the field is written
 
--- the relocation types of branches: a distance in words, signed (JUMP26, CALL26; CONDBR19; TSTBR14)
+-- the forms of branches: a signed distance, counted as 4-byte instructions (JUMP26, CALL26; CONDBR19; TSTBR14)
 abbrev pub branches : List Form
 branches = branch ∷ call ∷ conditions
 
@@ -140,11 +140,11 @@ reach_of Imm19 = 2 ^ 20
 reach_of Imm26 = 2 ^ 27
 reach_of other = 0
 
--- the distance as its field has it
+-- the distance, as the bits of its field
 abbrev pub branch_bits : Field → ℕ → ℕ
 branch_bits field j = j % (2 * reach_of field) / 2 ^ 2
 
--- a branch at a to x, both in the image that stands base above where it is linked; v is x there
+-- a branch at a to x, linked addresses in an image at load base base; v is the loaded address of x
 pub record IsReached (field : Field) (base a x v : ℕ) : Type 0 where
   pub placed : IsPlaced base x v
   pub near : IsNear (reach_of field) a x

@@ -1,21 +1,21 @@
 -- Forms of instructions, cut into slices of bits (Arm Architecture Reference Manual, C4.1, "A64 instruction set encoding").
---   bits low count w   so many bits of a word, from bit low on
---   signed n x         a number of n bits read as signed, modulo 2^64
---   Fixed, is          bits that a form has
---   Form, form         the bits that make it, where its immediate is, and what its words are
+--   bits low count w   count bits of a word, from bit low on
+--   signed n x         a number of n bits, sign-extended to 64 bits
+--   Fixed, is          fixed bits of a form
+--   Form, form         its fixed bits, the position of its immediate, and the instruction of its words
 use Rattle.std.specs.Prelude.{ℕ, ◌+◌, ◌-◌, ◌/◌, ◌%◌, ◌^◌, ◌==◌, Bool, true, ◌&&◌, nat_lt, if◌then◌else◌, List, [], ◌∷◌}
 use Rattle.wild_aarch64.specs.declared.code.Code.{Code}
 use Rattle.wild_aarch64.specs.Immediate.{Field}
 
--- so many bits of a word, from bit low on
+-- count bits of a word, from bit low on
 abbrev pub bits : ℕ → ℕ → ℕ → ℕ
 bits low count w = w / 2 ^ low % 2 ^ count
 
--- a number of n bits read as signed, modulo 2^64
+-- a number of n bits, sign-extended to 64 bits
 abbrev pub signed : ℕ → ℕ → ℕ
 signed n x = if nat_lt x (2 ^ (n - 1)) then x else x + (2 ^ 64 - 2 ^ n)
 
--- bits that a form has: from low on, so many, with that value
+-- fixed bits of a form: the count bits from low on have that value
 pub record Fixed : Type 0 where
   pub low : ℕ
   pub count : ℕ
@@ -24,12 +24,12 @@ pub record Fixed : Type 0 where
 abbrev pub is : ℕ → ℕ → ℕ → Fixed
 is low count value = record { low = low; count = count; value = value }
 
--- a word has all these bits
+-- the word has all these fixed bits
 abbrev pub stands : List Fixed → ℕ → Bool
 stands [] w = true
 stands (f ∷ fs) w = (bits f.low f.count w == f.value) && stands fs w
 
--- a form: the bits that make it, where its immediate is, and what its words are with that immediate
+-- a form: its fixed bits, the position of its immediate, and the instruction of a word with its immediate
 pub record Form : Type 0 where
   pub fixed : List Fixed
   pub field : Field

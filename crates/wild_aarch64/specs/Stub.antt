@@ -1,23 +1,23 @@
--- Code between modules and over long distances: the words of stubs and thunks, and where they go.
---   stub p g, marked_stub p g   the stub at p that jumps to the word in the slot at g; the same behind a landing pad
+-- The words of stubs and thunks, and their targets.
+--   stub p g, marked_stub p g   the stub at p that jumps to the address in the GOT entry at g; the same with a landing pad
 --   thunk p t                   the thunk at p that jumps to t
---   StubsJump, ThunksReach      they do, wherever the image stands
---   StubsAreSteps, ..           and each is one step
+--   StubsJump, ThunksReach      they do so at every load base
+--   StubsAreSteps, ..           each is one step
 use Rattle.std.specs.Prelude.{◌≡◌, ℕ, ◌+◌, ◌-◌, ◌/◌, ◌%◌, ◌^◌, ◌<◌, ◌≤◌, List, [], ◌∷◌, ◌++◌, Some}
 use Rattle.wild_aarch64.specs.Immediate.{Imm12, Imm21, inserted}
 use Rattle.wild_aarch64.specs.Machine.{page, meaning, jump_to, jump_through}
 use Rattle.wild_aarch64.specs.Template.{step_of, taking}
 use Rattle.wild_aarch64.specs.Row.{distance, Within}
 
--- `adrp x16; ldr x17, [x16]; br x17`, with a slot k bytes behind the page of the first
+-- `adrp x16; ldr x17, [x16]; br x17`, for a GOT entry k bytes after the start of the first word's page
 abbrev pub jump_to_slot : ℕ → List ℕ
 jump_to_slot k = inserted Imm21 (k / 4096) 0x90000010 ∷ inserted Imm12 (k % 4096 / 8) 0xf9400211 ∷ 0xd61f0220 ∷ []
 
--- the same and `nop`
+-- the same, followed by `nop`
 abbrev pub stub : ℕ → ℕ → List ℕ
 stub p g = jump_to_slot (g - page p) ++ (0xd503201f ∷ [])
 
--- the same behind `bti c`, without `nop`
+-- the same after `bti c`, without `nop`
 abbrev pub marked_stub : ℕ → ℕ → List ℕ
 marked_stub p g = 0xd503245f ∷ jump_to_slot (g - page (p + 4))
 
@@ -25,14 +25,13 @@ marked_stub p g = 0xd503245f ∷ jump_to_slot (g - page (p + 4))
 abbrev pub thunk : ℕ → ℕ → List ℕ
 thunk p t = inserted Imm21 (distance (page p) (page t) / 4096 % 2 ^ 21) 0x90000010 ∷ inserted Imm12 (t % 4096) 0x91000210 ∷ 0xd61f0200 ∷ []
 
--- the slot is a multiple of 8, and less than 2^32 behind the page of the code
+-- the address of the GOT entry is a multiple of 8, and less than 2^32 after the start of the code's page
 pub record HasSlot (p g : ℕ) : Type 0 where
   pub from : page p ≤ g
   pub near : g < page p + 2 ^ 32
   pub aligned : g % 8 ≡ 0
 
--- the image stands base above where it is linked, base a multiple of a page; code of three words at p, or of four, and the address g do
--- not wrap there
+-- the load base is a multiple of the page size; there, three words of code at p end at 2^64 at the latest, and g is below 2^64
 pub record StandsAt (base p g : ℕ) : Type 0 where
   pub pages : base % 4096 ≡ 0
   pub code : base + p + 12 ≤ 2 ^ 64
@@ -44,11 +43,11 @@ StubsJump = (base p g : ℕ) → HasSlot p g → StandsAt base p g → meaning (
 abbrev pub MarkedStubsJump : Type 0
 MarkedStubsJump = (base p g : ℕ) → HasSlot (p + 4) g → StandsAt base p g → meaning (base + p) (marked_stub p g) ≡ Some (jump_through (base + g))
 
--- the pages of a thunk and its target are less than 2^32 apart, or 2^32 backwards; the target is counted modulo 2^64
+-- the distance from a thunk's page to its target's page is at least -2^32 and less than 2^32; the target is modulo 2^64
 abbrev pub ThunksReach : Type 0
 ThunksReach = (base p t : ℕ) → Within (2 ^ 32) (page p) (page t) → base % 4096 ≡ 0 → base + p + 12 ≤ 2 ^ 64 → meaning (base + p) (thunk p t) ≡ Some (jump_to ((base + t) % 2 ^ 64))
 
--- each is one step, whatever stands behind it
+-- each is one step, whatever words come after
 abbrev pub StubsAreSteps : Type 0
 StubsAreSteps = (base p g : ℕ) (rest : List ℕ) → HasSlot p g → StandsAt base p g → step_of (base + p) (stub p g ++ rest) ≡ Some (taking 4 (jump_through (base + g)))
 

@@ -1,8 +1,8 @@
--- Templates: the runs of words that belong together, each by its instructions with their fields cleared.
---   Template            the kinds of run that a linker reads or writes
---   codes_of t r        its instructions, for a register where it may be any
+-- Templates: instruction sequences, without their immediates.
+--   Template            the kinds of sequence that a linker reads or writes
+--   codes_of t r        its instructions, for register r if it may be any
 --   templates           the kinds, the longest first
---   step_of a ws        what the longest template does that stands at the front of the words at an address, with how many words it has
+--   step_of a ws        the effect of the longest template at the front of the words at an address, and its number of words
 use Rattle.std.specs.Prelude.{ℕ, ◌==◌, Bool, true, false, ◌&&◌, nat_le, if◌then◌else◌, List, [], ◌∷◌, length, map, take, Option, Some, None, option_map}
 use Rattle.wild_aarch64.specs.declared.code.Code.{Code}
 use Rattle.wild_aarch64.specs.declared.code.Code.TheVariants.{Adr, Adrp, Movz, Movk, Movn, Add, Ldr, Access, Literal, B, Bl, BranchIf, Br, Blr, Hint}
@@ -19,9 +19,9 @@ use Rattle.wild_aarch64.specs.Effect.{cleared}
 
 -- ---- the table
 
--- `adrp x16; ldr x17, [x16]; br x17; nop`, the same behind `bti c`; `adrp x0; ldr xR, [x0]; add x0, x0; blr xR` ("TLS descriptors"), and
--- what stands in its place for an offset and for the slot of one; `adrp x16; add x16, x16; br x16`; `adrp xR; ldr xR, [xR]` and
--- `adrp xR; add xR, xR`, and what stands in their place
+-- `adrp x16; ldr x17, [x16]; br x17; nop`, the same after `bti c`; `adrp x0; ldr xR, [x0]; add x0, x0; blr xR` ("TLS descriptors"), and
+-- its rewrites to an offset and to the GOT entry of one; `adrp x16; add x16, x16; br x16`; `adrp xR; ldr xR, [xR]`,
+-- `adrp xR; add xR, xR`, and their rewrites
 abbrev pub codes_of : Template → ℕ → List Code
 codes_of kinds.Stub r = Adrp 16 0 ∷ Ldr 17 16 0 ∷ Br 17 ∷ Hint ∷ []
 codes_of kinds.MarkedStub r = Hint ∷ Adrp 16 0 ∷ Ldr 17 16 0 ∷ Br 17 ∷ []
@@ -34,7 +34,7 @@ codes_of kinds.OffsetPair r = Movz r By16 0 ∷ Movk r By0 0 ∷ []
 codes_of kinds.AddressPair r = Adrp r 0 ∷ Add r r 0 ∷ []
 codes_of kinds.NearAddress r = Hint ∷ Adr r 0 ∷ []
 
--- the longest first; behind them each word alone
+-- the longest first; if none matches, the first word is a step of its own
 abbrev pub templates : List Template
 templates =
     kinds.Stub ∷ kinds.MarkedStub ∷ kinds.DescriptorCall ∷ kinds.OffsetForCall ∷ kinds.SlotForCall ∷ kinds.Thunk ∷ kinds.SlotPair ∷ kinds.OffsetPair ∷ kinds.AddressPair
@@ -48,7 +48,7 @@ abbrev pub descends : ℕ → List ℕ → Bool
 descends n [] = true
 descends n (m ∷ ms) = nat_le m n && descends m ms
 
--- ---- what stands
+-- ---- matching
 
 abbrev pub same_shift : Shift → Shift → Bool
 same_shift By0 By0 = true
@@ -80,13 +80,13 @@ abbrev pub fits : Code → Option Code → Bool
 fits t None = false
 fits t (Some c) = same t (cleared c)
 
--- the instructions begin with those of a template, whatever their fields have
+-- the instructions begin with those of a template; immediates are not compared
 abbrev pub begins : List Code → List (Option Code) → Bool
 begins [] cs = true
 begins (t ∷ ts) [] = false
 begins (t ∷ ts) (c ∷ cs) = fits t c && begins ts cs
 
--- where a template may have any register, its second word sets it
+-- if a template may have any register, its second word sets it
 abbrev pub register_in : List ℕ → ℕ
 register_in [] = 0
 register_in (w ∷ []) = 0
@@ -97,11 +97,11 @@ register_in (w ∷ u ∷ ws) = d u
 abbrev pub taking : ℕ → Action → Step
 taking n act = record { words = n; action = act }
 
--- what the words do that a template takes, where it stands
+-- the effect of the template's words, if the words begin with the template
 abbrev pub template_step : Template → ℕ → List ℕ → Option Step
 template_step t a ws = if begins (codes_of t (register_in ws)) (map read ws) then option_map (taking (size_of t)) (meaning a (take (size_of t) ws)) else None
 
--- what the first word does
+-- the effect of the first word
 abbrev pub single_step : ℕ → List ℕ → Option Step
 single_step a [] = None
 single_step a (w ∷ ws) = option_map (taking 1) (meaning a (w ∷ []))
@@ -114,6 +114,6 @@ abbrev pub first_step : List Template → ℕ → List ℕ → Option Step
 first_step [] a ws = single_step a ws
 first_step (t ∷ ts) a ws = step_or (template_step t a ws) (first_step ts a ws)
 
--- what the longest template does that stands at the front of the words at an address and does something
+-- the effect of the longest template at the front of the words at an address that has one
 abbrev pub step_of : ℕ → List ℕ → Option Step
 step_of a ws = first_step templates a ws

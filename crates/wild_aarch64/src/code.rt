@@ -1,11 +1,20 @@
-//! Instructions, read off their words (Arm Architecture Reference Manual, C4.1).
+//! Decodes AArch64 instructions from their words.
+//!
+//! Read the Arm Architecture Reference Manual, C4.1 ("A64 instruction set encoding"), and the page of each instruction in C6.2 (general
+//! registers) or C7.2 (vector registers). Which forms relocations fill is in "ELF for the Arm 64-bit Architecture" (aaelf64), "Static
+//! AArch64 relocations"; only these forms, `br`, `blr`, `nop` and `bti c` are decoded, and everything else is `None`.
+//!
+//! Bits 26 to 28 select the class, and each function below decodes a few forms of one class, as `specs/Forms` has them. What surprises:
+//! `adr` and `adrp` have their immediate in two parts (2 bits at 29, 19 bits at 5). Offsets of loads and stores count in units of the
+//! access size, those of branches in 4-byte instructions. Register 31 is the zero register or the stack pointer, depending on the
+//! instruction. Instructions are little-endian even if data is big-endian (B2.6.2).
 ghost use Rattle.std.specs.Prelude.{◌≡◌, ◌^◌, ◌*◌, ◌<◌, ◌≤◌, ◌==◌};
 ghost use Rattle.wild_aarch64.specs.Slice.{bits, signed};
 ghost use Rattle.wild_aarch64.specs.Forms.{hw};
 ghost use Rattle.wild_aarch64.specs.Code.{read, read_address, read_access, read_vector_access, read_literal, read_transfer, read_condition};
 ghost use Rattle.wild_aarch64.specs.Immediate.{immediate, kept, Imm12, Imm14, Imm16, Imm19, Imm21};
 
-/// By how many bits the number of a wide move is shifted.
+/// The left shift of the immediate of `movz`, `movk` or `movn`, in bits.
 #[derive(Clone, Copy, Debug, PartialEq, Eq, Drop)]
 pub enum Shift {
     By0,
@@ -14,42 +23,42 @@ pub enum Shift {
     By48,
 }
 
-/// What an instruction is: its registers, then its number. A distance is modulo 2^64.
+/// An instruction: its registers, then its immediate. A distance is in bytes, sign-extended, modulo 2^64.
 #[derive(Clone, Copy, Debug, PartialEq, Eq, Drop)]
 pub enum Code {
-    /// `adr`: the register gets the place and the distance.
+    /// `adr`: sets the register to the place plus the distance.
     Adr(u32, u64),
-    /// `adrp`: the register gets the page of the place and the distance.
+    /// `adrp`: sets the register to the page of the place plus the distance.
     Adrp(u32, u64),
-    /// `movz`: the register gets the number, shifted.
+    /// `movz`: sets the register to the shifted immediate.
     Movz(u32, Shift, u16),
-    /// `movk`: the register's 16 bits from there on become the number.
+    /// `movk`: sets the 16 bits from the shift on to the immediate and keeps the others.
     Movk(u32, Shift, u16),
-    /// `movn`: the register gets the complement of the number, shifted.
+    /// `movn`: sets the register to the complement of the shifted immediate.
     Movn(u32, Shift, u16),
-    /// `add`: the first register gets the second and the number.
+    /// `add`: sets the first register to the second plus the immediate.
     Add(u32, u32, u64),
-    /// `ldr` of 64 bits: the first register gets the word at the second and the number.
+    /// `ldr` of 64 bits: loads the first register from the second plus the immediate.
     Ldr(u32, u32, u64),
-    /// Another load or store at a register and the number; the other bits of the word say which.
+    /// Another load or store at a register plus the immediate; the first number is the other bits of the word.
     Access(u32, u64),
-    /// A load of what stands at the distance; the other bits of the word say which.
+    /// A PC-relative load from the distance; the first number is the other bits of the word.
     Literal(u32, u64),
-    /// `b`: the code at the distance is gone to.
+    /// `b`: jumps to the place plus the distance.
     B(u64),
-    /// `bl`: the code at the distance is called.
+    /// `bl`: calls the place plus the distance.
     Bl(u64),
-    /// The code at the distance is gone to on a condition, which the other bits of the word say.
+    /// A conditional branch by the distance; the first number is the other bits of the word, which encode the condition.
     BranchIf(u32, u64),
-    /// `br`: the code at the register's address is gone to.
+    /// `br`: jumps to the address in the register.
     Br(u32),
-    /// `blr`: the code at the register's address is called.
+    /// `blr`: calls the address in the register.
     Blr(u32),
-    /// `nop` or `bti c`: nothing is done.
+    /// `nop` or `bti c`: does nothing.
     Hint,
 }
 
-// So many bits of the word, from bit `low` on.
+// The `count` bits of the word from bit `low` on.
 fn bits_of(word: u32, low: u32, count: u32) -> u32
     requires low { low < 32 }
     requires count { count < 32 }
@@ -58,7 +67,7 @@ fn bits_of(word: u32, low: u32, count: u32) -> u32
     word / (1 << low) % (1 << count)
 }
 
-// The bits from `low` on are the value.
+// Whether the `count` bits from bit `low` on equal the value.
 fn has(word: u32, low: u32, count: u32, value: u32) -> bool
     requires low { low < 32 }
     requires count { count < 32 }
@@ -67,7 +76,7 @@ fn has(word: u32, low: u32, count: u32, value: u32) -> bool
     bits_of(word, low, count) == value
 }
 
-// The number of `count` bits, read as signed, modulo 2^64.
+// Sign-extends a number of `count` bits to 64 bits.
 fn signed_number(count: u32, number: u64) -> u64
     requires some { 1 ≤ count }
     requires below { count < 64 }
@@ -89,14 +98,14 @@ fn immediate_21(word: u32) -> u64
     u64::from(word / 0x2000_0000 % 4) + u64::from(word / 0x20 % 0x8_0000) * 4
 }
 
-// The number of a wide move.
+// The 16-bit immediate of `movz`, `movk` and `movn`.
 fn immediate_16(word: u32) -> u16
     ensures { result ≡ immediate Imm16 word }
 {
     (word / 0x20 % 0x1_0000) as u16
 }
 
-// The distance of 19 bits, in words.
+// The 19-bit distance, from words to bytes.
 fn distance_19(word: u32) -> u64
     ensures { result ≡ signed 21 (immediate Imm19 word * 4) }
 {
@@ -114,7 +123,7 @@ fn shift_of(word: u32) -> Shift
     }
 }
 
-// What the word has beside its 12 bits.
+// The bits of the word outside its 12-bit immediate.
 fn kept_12(word: u32) -> u32
     ensures { result ≡ kept Imm12 word }
 {
@@ -133,7 +142,7 @@ fn kept_19(word: u32) -> u32
     word % 0x20 + word / 0x100_0000 * 0x20
 }
 
-// An address, a sum or a number in a register.
+// `adr`, `adrp`, `add` and the wide moves.
 #[tactic(auto, unfolding(crate::specs::Code::read_address))]
 fn address_code(word: u32) -> Option<Code>
     ensures { result ≡ read_address word }
@@ -165,7 +174,7 @@ fn address_code(word: u32) -> Option<Code>
     None
 }
 
-// A load or store other than `ldr` of 64 bits, whose number counts in units of so many bytes.
+// A load or store other than `ldr` of 64 bits; its immediate counts in units of `unit` bytes.
 fn access(word: u32, unit: u64) -> Code
     requires { unit ≤ 16 }
     ensures { result ≡ Code.Access (kept Imm12 word) (immediate Imm12 word * unit) }
@@ -222,7 +231,7 @@ fn vector_access_code(word: u32) -> Option<Code>
     None
 }
 
-// A load of what stands at a distance.
+// A PC-relative load.
 #[tactic(auto, unfolding(crate::specs::Code::read_literal))]
 fn literal_code(word: u32) -> Option<Code>
     ensures { result ≡ read_literal word }
@@ -240,7 +249,7 @@ fn literal_code(word: u32) -> Option<Code>
     None
 }
 
-// An instruction that goes elsewhere, or does nothing.
+// Branches without a condition, `nop` and `bti c`.
 #[tactic(auto, unfolding(crate::specs::Code::read_transfer))]
 fn transfer_code(word: u32) -> Option<Code>
     ensures { result ≡ read_transfer word }
@@ -268,7 +277,7 @@ fn transfer_code(word: u32) -> Option<Code>
     None
 }
 
-// An instruction that goes elsewhere on a condition.
+// A conditional branch.
 #[tactic(auto, unfolding(crate::specs::Code::read_condition))]
 fn condition_code(word: u32) -> Option<Code>
     ensures { result ≡ read_condition word }
@@ -297,7 +306,7 @@ fn condition_code(word: u32) -> Option<Code>
     None
 }
 
-/// The instruction of a word; none where no form of the table stands.
+/// The instruction of a word; `None` if no known form matches.
 #[tactic(auto, unfolding(crate::specs::Code::read))]
 pub fn code_of(word: u32) -> Option<Code>
     ensures { result ≡ read word }

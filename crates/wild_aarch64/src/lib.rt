@@ -1,4 +1,4 @@
-//! What AArch64 code does.
+//! The meaning of AArch64 code, as far as relocated fields and a linker's rewrites need it.
 #![tactic(auto)]
 
 mod code;

@@ -1,4 +1,13 @@
-//! What instructions do, one behind the other.
+//! Runs a few instructions symbolically and gives their one effect.
+//!
+//! This is not a processor. It follows only the registers that were set, as symbols (see `Operand`). It keeps neither memory nor flags;
+//! `movn`, stores and all loads but `ldr` of 64 bits make it stop. Read the Arm Architecture Reference Manual, C6.2, for each
+//! instruction. For registers that a linker may use see the Procedure Call Standard (aapcs64), "General-purpose Registers": veneers
+//! and stubs may change x16 and x17 (IP0, IP1), so a jump or call may have set these and no others.
+//!
+//! What surprises: `adrp` adds to the page of its own place, so a run means something only at a given address. Setting register 31 is
+//! unknown, because it is either lost or sets the stack pointer. A TLS descriptor's call (aaelf64, "TLS descriptors") is the only
+//! `blr` with a meaning: it sets x0 to the offset that the descriptor gives.
 ghost use Rattle.std.specs.Prelude.{◌≡◌, ◌+◌, ◌*◌, ◌^◌, ◌<◌, ◌≤◌, [], length, map};
 ghost use Rattle.wild_aarch64.specs.Machine.{sum_64, known, plus, loaded, shifted, with_bits, changed, step, sets, leaves, leaves_if, goes, described, all_hints, meaning};
 ghost use Rattle.wild_aarch64.specs.Registers.{entries_of, next_of, count, next_count, follow_words};
@@ -10,18 +19,18 @@ use crate::registers::{Entry, Registers};
 
 const PAGE: u64 = 4096;
 
-/// How a run goes on.
+/// The state of a run after an instruction.
 #[derive(Clone, Copy, Debug, PartialEq, Eq, Drop)]
 pub enum NextStep {
-    /// With these registers.
+    /// It continues with these registers.
     On(Registers),
-    /// It ends.
+    /// It ends in a branch.
     End(Action),
-    /// It is not told.
+    /// The effect is unknown.
     Stuck,
 }
 
-// A number more.
+// The operand plus a number; `None` if the sum cannot be represented.
 fn sum_of(operand: Operand, number: u64) -> Option<Operand>
     ensures { result ≡ plus number operand }
 {
@@ -32,7 +41,7 @@ fn sum_of(operand: Operand, number: u64) -> Option<Operand>
     }
 }
 
-// The word there.
+// The word at the address.
 fn word_at(address: Option<Operand>) -> Option<Operand>
     ensures { result ≡ loaded address }
 {
@@ -55,7 +64,7 @@ fn shifted(shift: Shift, number: u16) -> u64
     }
 }
 
-// The number in place of 16 bits of `x`.
+// `x` with 16 of its bits replaced by the number.
 fn with_bits(shift: Shift, number: u16, x: u64) -> u64
     ensures { result ≡ with_bits shift number x }
 {
@@ -79,7 +88,7 @@ fn changed(shift: Shift, number: u16, operand: Operand) -> Option<Operand>
     }
 }
 
-// Register 31 is none.
+// Setting register 31 is unknown.
 fn set_to(registers: Registers, register: u32, operand: Option<Operand>) -> NextStep
     requires { count registers < 4 }
     ensures is { next_of result ≡ sets register (entries_of registers) operand }
@@ -92,7 +101,7 @@ fn set_to(registers: Registers, register: u32, operand: Option<Operand>) -> Next
     }
 }
 
-// Code that goes elsewhere may have used registers 16 and 17.
+// A jump or call may have set registers 16 and 17 and no others.
 fn leaves(registers: Registers, deed: Deed, operand: Operand) -> NextStep
     ensures is { next_of result ≡ leaves (entries_of registers) deed operand }
     ensures small { next_count result ≡ 0 }
@@ -104,7 +113,7 @@ fn leaves(registers: Registers, deed: Deed, operand: Operand) -> NextStep
     }
 }
 
-// A condition may ask for any register: none was set.
+// The condition may depend on any register, so none may have been set.
 fn leaves_if(key: u32, registers: Registers, operand: Operand) -> NextStep
     ensures is { next_of result ≡ leaves_if key (entries_of registers) operand }
     ensures small { next_count result ≡ 0 }
@@ -155,7 +164,7 @@ fn at_distance(address: u64, distance: u64) -> Operand
     Operand::Number(address.wrapping_add(distance))
 }
 
-/// What an instruction at a place does; a word that is none is not told.
+/// What the instruction at a place does; `Stuck` if the word is no known instruction.
 pub fn step_of(place: u64, registers: Registers, code: Option<Code>) -> NextStep
     requires { count registers < 4 }
     ensures is { next_of result ≡ step place (entries_of registers) code }
@@ -181,7 +190,7 @@ pub fn step_of(place: u64, registers: Registers, code: Option<Code>) -> NextStep
     }
 }
 
-/// What the first of the words at a place does that goes elsewhere.
+/// The first jump, call or conditional branch of the words at a place; `None` if there is none or an earlier effect is unknown.
 pub fn branch_of(words: &[u32], place: u64) -> Option<Action>
     requires few { length words.now ≤ 4 }
     requires top { place + 4 * length words.now ≤ 2 ^ 64 }
@@ -209,7 +218,7 @@ fn do_nothing(words: &[u32]) -> bool
     true
 }
 
-/// What the words at a place do; none where they do more than one thing, or nothing is told of one.
+/// The one effect of the words at a place; `None` if they have several effects or an unknown one.
 pub fn meaning_of(words: &[u32], place: u64) -> Option<Action>
     requires few { length words.now ≤ 4 }
     requires top { place + 4 * length words.now ≤ 2 ^ 64 }

@@ -1,4 +1,4 @@
-//! Registers, as far as addresses go: what was set, the last one first.
+//! The registers that a run has set, as far as addresses need them, with the last one first.
 ghost use Rattle.std.specs.Prelude.{◌≡◌, ◌<◌, if◌then◌else◌, ◌==◌, ◌||◌, ◌∷◌};
 ghost use Rattle.wild_aarch64.specs.Machine.{known, only, outcome, does};
 ghost use Rattle.wild_aarch64.specs.Registers.{entries_of, count};
@@ -11,7 +11,7 @@ use crate::operand::{Action, Deed, Operand};
 pub struct Entry {
     /// Its number.
     pub register: u32,
-    /// What it has.
+    /// Its value.
     pub operand: Operand,
 }
 
@@ -42,7 +42,7 @@ fn is_one_of(entry: Entry, first: u32, second: u32) -> bool
 }
 
 impl Registers {
-    /// What the register has.
+    /// The value of the register.
     pub fn operand_of(self, register: u32) -> Operand
         ensures { result ≡ known register (entries_of self) }
     {
@@ -62,7 +62,7 @@ impl Registers {
         }
     }
 
-    /// The registers with one more that was set.
+    /// The registers after one more is set.
     pub fn with(self, register: u32, operand: Operand) -> Registers
         requires { count self < 4 }
         ensures { entries_of result ≡ (register, operand) ∷ entries_of self }
@@ -77,7 +77,7 @@ impl Registers {
         }
     }
 
-    /// Whether no register was set but these two.
+    /// Whether no register other than these two was set.
     pub fn are_only(self, first: u32, second: u32) -> bool
         ensures { result ≡ only first second (entries_of self) }
     {
@@ -97,7 +97,7 @@ impl Registers {
         }
     }
 
-    /// What a run leaves behind: nothing, or one register that was set.
+    /// The effect of a run that does not branch: nothing, or one register that was set; `None` if several were.
     pub fn outcome(self) -> Option<Action>
         ensures { result ≡ outcome (entries_of self) }
     {

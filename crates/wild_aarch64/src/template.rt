@@ -1,4 +1,11 @@
-//! Runs of words that belong together.
+//! The instruction sequences that a linker reads or writes, and the effect of the longest one at a place.
+//!
+//! A template is a sequence of instructions without their immediates. Stubs and thunks are the linker's own; `adrp` with `ldr` or `add`,
+//! and the descriptor's call, come from compilers and are rewritten in place. Read "ELF for the Arm 64-bit Architecture" (aaelf64),
+//! "Relocation", for the sequences and their rewrites, and "TLS descriptors" for the call of four words.
+//!
+//! What surprises: the longest template must come first, because a thunk begins with the two words of an address pair. The pairs may use
+//! any register R, which is taken from the second word. Rewrites keep the number of words: `nop` replaces those that are not needed.
 ghost use Rattle.std.specs.Prelude.{◌≡◌, ◌+◌, ◌*◌, ◌^◌, ◌<◌, ◌≤◌, IfSome, length, map};
 ghost use Rattle.wild_aarch64.specs.Code.{read};
 ghost use Rattle.wild_aarch64.specs.Effect.{cleared};
@@ -8,7 +15,7 @@ use crate::code::{Code, Shift, code_of};
 use crate::machine::meaning_of;
 use crate::operand::Action;
 
-/// The kinds of run that a linker reads or writes; R is any register.
+/// The kinds of sequence that a linker reads or writes; R is any register.
 #[derive(Clone, Copy, Debug, PartialEq, Eq, Drop)]
 pub enum Template {
     /// `adrp x16; ldr x17, [x16]; br x17; nop`.
@@ -33,7 +40,7 @@ pub enum Template {
     NearAddress,
 }
 
-// The longest first.
+// The longest is first.
 const TEMPLATES: [Template; 10] = [
     Template::Stub,
     Template::MarkedStub,
@@ -47,16 +54,16 @@ const TEMPLATES: [Template; 10] = [
     Template::NearAddress,
 ];
 
-/// What the first words at a place do.
+/// The effect of the first words at a place.
 #[derive(Clone, Copy, Debug, PartialEq, Eq, Drop)]
 pub struct Step {
-    /// How many words that takes.
+    /// The number of these words.
     pub words: usize,
-    /// What they do.
+    /// Their effect.
     pub action: Action,
 }
 
-/// The instruction with its field cleared.
+/// The instruction with its immediate set to 0.
 pub fn cleared(code: Code) -> Code
     ensures { result ≡ cleared code }
 {
@@ -92,7 +99,7 @@ fn is_fit(wanted: Code, code: Option<Code>) -> bool
     }
 }
 
-// Whether the words begin with those instructions, whatever their fields have.
+// Whether the words begin with these instructions; immediates are not compared.
 fn is_begun(wanted: &[Code], words: &[u32]) -> bool
     ensures { result ≡ begins wanted.now (map read words.now) }
 {
@@ -149,7 +156,7 @@ impl Template {
         }
     }
 
-    // What the words do that the template takes, where it stands.
+    // The effect of the template's words; `None` if the words do not begin with the template.
     fn step(self, place: u64, words: &[u32]) -> Option<Step>
         requires { place + 4 * length words.now ≤ 2 ^ 64 }
         ensures is { result ≡ template_step self place words.now }
@@ -190,7 +197,7 @@ fn single_step(place: u64, words: &[u32]) -> Option<Step>
     })
 }
 
-// What the first of the templates does that stands; else the first word alone.
+// The effect of the first template that matches; if none does, that of the first word.
 fn first_step(templates: &[Template], place: u64, words: &[u32]) -> Option<Step>
     requires { place + 4 * length words.now ≤ 2 ^ 64 }
     ensures is { result ≡ first_step templates.now place words.now }
@@ -205,7 +212,7 @@ fn first_step(templates: &[Template], place: u64, words: &[u32]) -> Option<Step>
     }
 }
 
-/// What the longest template does that stands at the front of the words at a place; none where nothing known stands there.
+/// The effect of the longest template at the front of the words at a place; `None` if no known code is there.
 pub fn longest_step(place: u64, words: &[u32]) -> Option<Step>
     requires { place + 4 * length words.now ≤ 2 ^ 64 }
     ensures is { result ≡ step_of place words.now }

@@ -1,4 +1,4 @@
-//! Workers claim groups of work on a shared word, count relocations on others, and their pieces are gathered in
+//! Parallel work: workers claim groups by a shared counter, count relocations in other shared words, and their pieces are collected in
 //! group order.
 #![tactic(auto)]
 

@@ -1,8 +1,8 @@
--- The expression that each kind of relocation stands for, in its parts (x86-64 psABI, "Relocation Types"; aaelf64, "Relocation
+-- The expression of each kind of relocation, in parts (x86-64 psABI, "Relocation Types"; aaelf64, "Relocation
 -- operations").
---   expression_of kind   what A is added to, what is taken from the sum, and what decides how it is treated
---   taken_of kind mask   what is taken where the terms that a mask names are taken as their pages
---   expressed e          the formula's value that an expression says
+--   expression_of kind   the term to which A is added, what is subtracted from the sum, and the class
+--   taken_of kind mask   what is subtracted if a mask replaces terms by their pages
+--   expressed e          the formula's value of an expression
 use Rattle.std.specs.Prelude.{Bool, true, false, Option, Some, None}
 use Rattle.wild_reloc.specs.declared.info.PageMask.{PageMask}
 use Rattle.wild_reloc.specs.declared.info.PageMask.TheVariants as masks
@@ -48,7 +48,7 @@ expression_of kinds.TlsDescGot = expression (term.Slot sorts.Descriptor) taken.N
 expression_of kinds.TlsDescCall = expression term.Nothing taken.Nothing class.Mark
 expression_of kinds.SymbolSize = expression term.Size taken.Nothing class.Extent
 
--- what is taken where a mask has the terms counted by their pages (aaelf64, "Relocation operations": Page)
+-- what is subtracted if a mask replaces terms by their pages (aaelf64, "Relocation operations": Page)
 abbrev pub paged : Option PageMask → Taken → Taken
 paged None less = less
 paged (Some masks.GotBase) less = taken.PageTable
@@ -63,14 +63,14 @@ has_value class.Nothing = false
 has_value class.Mark = false
 has_value other = true
 
--- the field has all of it, and not the bits of an address below its page alone
+-- the field has the whole value, not only the offset of an address in its page
 abbrev pub writes : Class → Bool
 writes class.Nothing = false
 writes class.Mark = false
 writes class.Part = false
 writes other = true
 
--- ---- as the formulas have it
+-- ---- as values of formulas
 
 abbrev pub slot_sort : SlotSort → Slot
 slot_sort sorts.Address = formula.AddressSlot
@@ -79,7 +79,7 @@ slot_sort sorts.OwnPair = formula.OwnModulePair
 slot_sort sorts.Offset = formula.ThreadOffset
 slot_sort sorts.Descriptor = formula.Descriptor
 
--- the formula's value with that term, from which so much is taken
+-- the formula's value of a term and what is subtracted
 abbrev pub expressed : Term → Taken → Value
 expressed term.Symbol taken.Nothing = formula.SymbolAddress
 expressed term.Symbol taken.Place = formula.Distance

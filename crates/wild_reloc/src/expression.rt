@@ -1,96 +1,96 @@
-//! The expression that a kind of relocation stands for, in its parts.
+//! The expression of a kind of relocation, as a term, what is subtracted from it, and a class.
 ghost use Rattle.std.specs.Prelude.{◌≡◌};
 ghost use Rattle.wild_reloc.specs.Expression.{paged, taken_of, expression_of};
 
 use crate::info::{PageMask, RelocationKind, RelocationKindInfo};
 
-/// What a slot of the global offset table has.
+/// The contents of a GOT entry.
 #[derive(Clone, Copy)]
 pub enum SlotSort {
     /// The symbol's address.
     Address,
-    /// The pair of the symbol's module and its offset there.
+    /// The pair of the symbol's module ID and its offset there.
     Pair,
     /// The pair of the output's own module.
     OwnPair,
     /// The symbol's offset from the thread pointer.
     Offset,
-    /// The symbol's descriptor.
+    /// The symbol's TLS descriptor.
     Descriptor,
 }
 
-/// What A is added to.
+/// The term to which A is added.
 #[derive(Clone, Copy)]
 pub enum Term {
-    /// There is no value.
+    /// No value.
     Nothing,
-    /// S, the symbol.
+    /// S, the symbol's address.
     Symbol,
-    /// L, its stub.
+    /// L, the address of its PLT stub.
     Stub,
-    /// G, its slot of a sort.
+    /// G, the address of its GOT entry with these contents.
     Slot(SlotSort),
-    /// GOT, the base of the global offset table.
+    /// GOT, the base of the GOT.
     Table,
     /// Z, the symbol's size.
     Size,
     /// Its offset from the thread pointer.
     PointerOffset,
-    /// Its offset in its module's thread storage.
+    /// Its offset in its module's TLS block.
     ModuleOffset,
 }
 
-/// What is taken from the sum.
+/// What is subtracted from the sum.
 #[derive(Clone, Copy)]
 pub enum Taken {
     /// Nothing.
     Nothing,
     /// P, the place.
     Place,
-    /// GOT.
+    /// GOT, the base of the GOT.
     Table,
     /// Page(P), from the page of the sum.
     PagePlace,
-    /// Page(GOT).
+    /// Page(GOT), from the sum itself.
     PageTable,
 }
 
-/// By what the layout alone says what is done with a relocation.
+/// How a relocation is treated, as far as its expression decides.
 #[derive(Clone, Copy)]
 pub enum Class {
     /// Nothing is written.
     Nothing,
-    /// Nothing is written, and a symbol is needed: the call through a descriptor.
+    /// Nothing is written, but a symbol is required: the call through a TLS descriptor.
     Mark,
-    /// The value is written, and no symbol is asked.
+    /// The value is written; no symbol is needed.
     Free,
-    /// The value is written.
+    /// The value is written; a symbol is required.
     Plain,
     /// The value is an address.
     Address,
-    /// The value is the distance of an address from the place.
+    /// The value is the distance from the place to an address.
     Distance,
     /// The value is an offset from the thread pointer.
     Pointer,
     /// The value is a size.
     Extent,
-    /// The value is an address, of which the field has the bits below its page.
+    /// The value is an address, and the field has only its offset in its page.
     Part,
 }
 
-/// An expression in its parts.
+/// An expression: term + A - taken.
 #[derive(Clone, Copy)]
 pub struct Expression {
-    /// What A is added to.
+    /// The term to which A is added.
     pub term: Term,
-    /// What is taken from the sum.
+    /// What is subtracted from the sum.
     pub taken: Taken,
-    /// What decides how it is treated.
+    /// How it is treated.
     pub class: Class,
 }
 
 impl RelocationKind {
-    /// The parts of the kind's expression.
+    /// The expression of the kind.
     #[inline]
     pub fn expression(self) -> Expression
         ensures { result ≡ expression_of self }
@@ -143,7 +143,7 @@ impl RelocationKind {
     }
 }
 
-/// What is taken where a row has the terms counted by their pages.
+/// What is subtracted if the row replaces terms by their pages.
 #[inline]
 fn paged(mask: Option<PageMask>, taken: Taken) -> Taken
     ensures { result ≡ paged mask taken }
@@ -156,7 +156,7 @@ fn paged(mask: Option<PageMask>, taken: Taken) -> Taken
 }
 
 impl RelocationKindInfo {
-    /// What the row takes from the sum.
+    /// What the row subtracts from the sum.
     #[inline]
     pub fn taken(&self) -> Taken
         ensures { result ≡ taken_of self.now.kind self.now.mask }

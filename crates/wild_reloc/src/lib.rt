@@ -1,4 +1,4 @@
-//! The relocation tables of x86-64 and AArch64, and the writing of fields.
+//! The relocation tables of x86-64 and AArch64, and writing of relocated fields.
 #![tactic(auto)]
 
 pub mod aarch64;

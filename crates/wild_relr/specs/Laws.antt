@@ -1,17 +1,17 @@
 -- What a reader of words finds.
---   LengthsOfWords  words have 8 bytes each
---   WordsAreRead    word k is read at 8 k
+--   LengthsOfWords  each word has 8 bytes
+--   WordsAreRead    word k is read at offset 8 k
 --   WordsFit        the words of a run of places are numbers of 8 bytes
 use Rattle.std.specs.Prelude.{◌≡◌, ℕ, ◌+◌, ◌*◌, ◌^◌, ◌<◌, List, length, All, slice_index_or}
 use Rattle.wild_words.specs.Words.{number_at, Stands}
 use Rattle.wild_relr.specs.Packed.{packed}
 use Rattle.wild_relr.specs.Written.{word_bytes}
 
--- words have 8 bytes each
+-- each word has 8 bytes
 abbrev pub LengthsOfWords : Type 0
 LengthsOfWords = (ws : List ℕ) → length (word_bytes ws) ≡ 8 * length ws
 
--- where words stand, word k is read at 8 k
+-- in the bytes of words, word k is read at offset 8 k
 abbrev pub WordsAreRead : Type 0
 WordsAreRead = (whole ws : List ℕ) (at k d : ℕ) → All (λ w. w < 2 ^ 64) ws → Stands whole at (word_bytes ws) → k < length ws → number_at whole (at + 8 * k) 8 ≡ slice_index_or ws k d
 
@@ -19,6 +19,6 @@ WordsAreRead = (whole ws : List ℕ) (at k d : ℕ) → All (λ w. w < 2 ^ 64) w
 abbrev pub IsWord : ℕ → Type 0
 IsWord x = x < 2 ^ 64
 
--- where each place of a run is one, so is each of the run's words
+-- if each place of a run is a number of 8 bytes, so is each word of the run
 abbrev pub WordsFit : Type 0
 WordsFit = (ps : List ℕ) → All IsWord ps → All IsWord (packed ps)

@@ -2,7 +2,7 @@
 --   packed places      the words of a run of places
 --   block base n       the words of n slots from base on
 --   words_of pieces    the words of runs and blocks, one after another
---   done state piece   the same, place by place
+--   done state piece   the state after a piece is recorded, place by place
 use Rattle.std.specs.Prelude.{◌≡◌, ℕ, zero, suc, ◌+◌, ◌-◌, ◌*◌, ◌/◌, ◌%◌, ◌^◌, ◌<◌, ◌≢◌, ◌==◌, ◌||◌, min, if◌then◌else◌, List, [], ◌∷◌, ◌++◌, length, flat_map, All, AllPairs, Contains, IsPermutation}
 use Rattle.wild_relr.specs.declared.run.Run.{Run}
 use Rattle.wild_relr.specs.declared.run.Run.TheVariants.{Closed}
@@ -15,7 +15,7 @@ abbrev pub by_choice : Choice → (ℕ → List ℕ) → (ℕ → Run → List �
 by_choice (Joins i) more other = more i
 by_choice (Adds w r) more other = other w r
 
--- the words of places, with the word that is not finished yet
+-- the words of places, after part: the last word, which is not finished yet
 unfoldable pub packed_on : Run → List ℕ → List ℕ → List ℕ
 packed_on run part [] = part
 packed_on run part (p ∷ ps) = by_choice (choice run p) (λ i. packed_on run (joined i part) ps) (λ w r. part ++ packed_on r (w ∷ []) ps)
@@ -24,25 +24,25 @@ packed_on run part (p ∷ ps) = by_choice (choice run p) (λ i. packed_on run (j
 unfoldable pub packed : List ℕ → List ℕ
 packed ps = packed_on Closed [] ps
 
--- bitmap words of k slots, all of whose bits are set
+-- bitmap words for k slots, with the bit of each slot set
 unfoldable pub bitmaps : ℕ → ℕ → List ℕ
 bitmaps zero k = []
 bitmaps (suc c) k = (2 * 2 ^ min k 63 - 1) ∷ bitmaps c (k - 63)
 
--- how many bitmap words k slots take
+-- the number of bitmap words for k slots
 abbrev pub bitmap_count : ℕ → ℕ
 bitmap_count k = (k + 62) / 63
 
--- the words of n slots from base on
+-- the words of n slots from base on: an address word and bitmaps
 unfoldable pub block : ℕ → ℕ → List ℕ
 block base n = if base == 0 || n == 0 then [] else base ∷ bitmaps (bitmap_count (n - 1)) (n - 1)
 
--- slots of eight bytes
+-- n consecutive slots of eight bytes
 unfoldable pub slots : ℕ → ℕ → List ℕ
 slots base zero = []
 slots base (suc n) = base ∷ slots (base + 8) n
 
--- what is recorded in one go: a run of places, or a block of slots
+-- what is recorded at once: a run of places, or a block of slots
 pub data Piece : Type 0 where
   Places : List ℕ → Piece
   Block : ℕ → ℕ → Piece
@@ -55,7 +55,7 @@ words_of_piece (Block base n) = block base n
 abbrev pub words_of : List Piece → List ℕ
 words_of pieces = flat_map words_of_piece pieces
 
--- the words as they are, at the end of a run
+-- the same words, with the run ended
 abbrev pub reset : State → State
 reset s = record { run = Closed; words = s.words }
 
@@ -74,19 +74,19 @@ unfoldable pub all_done : State → List Piece → State
 all_done s [] = s
 all_done s (x ∷ xs) = all_done (done s x) xs
 
--- no words, and no run
+-- no words and no run
 abbrev pub nothing : State
 nothing = record { run = Closed; words = [] }
 
--- a run of its own
+-- the state after a run that starts with an address word
 abbrev pub after_run : State → List ℕ → State
 after_run s ps = record { run = Closed; words = s.words ++ packed ps }
 
--- a place in a word of its own
+-- the state after an address word of its own
 abbrev pub after_flat : State → ℕ → State
 after_flat s place = record { run = Closed; words = s.words ++ place ∷ [] }
 
--- how many words a choice adds, and where the run stands after it
+-- the number of words that a choice adds
 abbrev pub new_words : Choice → ℕ
 new_words (Joins i) = 0
 new_words (Adds w r) = 1
@@ -95,34 +95,34 @@ abbrev pub run_after : Choice → Run → Run
 run_after (Joins i) r = r
 run_after (Adds w r) before = r
 
--- how many words places add, by the run alone
+-- the number of words that places add; only the state of the run is needed
 unfoldable pub counted : Run → List ℕ → ℕ
 counted r [] = 0
 counted r (p ∷ ps) = new_words (choice r p) + counted (run_after (choice r p) r) ps
 
--- the words of a run are counted without them
+-- the number of words of a run can be counted without building them
 abbrev pub RunsAreCounted : Type 0
 RunsAreCounted = (ps : List ℕ) → length (packed ps) ≡ counted Closed ps
 
--- place by place the words of the pieces come, so that they are counted beforehand
+-- recording place by place gives the words of the pieces, so they can be counted beforehand
 abbrev pub PiecesArePacked : Type 0
 PiecesArePacked = (pieces : List Piece) → (all_done nothing pieces).words ≡ words_of pieces
 
--- a block adds its slots, behind all places
+-- a block adds its slots after all places before
 abbrev pub BlocksHoldTheirSlots : Type 0
 BlocksHoldTheirSlots = (s : State) (base n : ℕ) → base % 2 ≡ 0 → base ≢ 0 → places (after_block s base n).words ≡ places s.words ++ slots base n
 
--- no word for no slot, or none without a base
+-- a block without slots, or with base 0, has no words
 abbrev pub NoBlockHasNoWords : Type 0
 NoBlockHasNoWords = (base : ℕ) → (block base 0 ≡ []) × (block 0 base ≡ [])
 
--- places that are even, and differ from each other and from all that are decoded
+-- places that are even, and that differ from each other and from all decoded places
 pub record AreNew (ws ps : List ℕ) : Type 0 where
   pub even : All (λ p. p % 2 ≡ 0) ps
   pub new : All (λ p. Contains (places ws) p → ⊥) ps
   pub apart : AllPairs (λ p q. p ≢ q) ps
 
--- over a whole run no place is lost and none comes in
+-- after a run of new places exactly they and the earlier places are decoded
 abbrev pub RunsAreRecorded : Type 0
 RunsAreRecorded = (s : State) (ps : List ℕ) → Follows s → AreNew s.words ps → IsPermutation (ps ++ places s.words) (places (afters s ps).words)
 
@@ -139,15 +139,15 @@ abbrev pub IsEven : Piece → Type 0
 IsEven (Places ps) = All (λ p. p % 2 ≡ 0) ps
 IsEven (Block base n) = base % 2 ≡ 0
 
--- over any list of runs and blocks, of which no place comes twice, no place is lost and none comes in
+-- after any list of runs and blocks without a place that appears twice, exactly their places are decoded
 abbrev pub PiecesAreRecorded : Type 0
 PiecesAreRecorded = (pieces : List Piece) → All IsEven pieces → AllPairs (λ p q. p ≢ q) (places_of_pieces pieces) → IsPermutation (places_of_pieces pieces) (places (words_of pieces))
 
--- a flat entry is a run of one place
+-- a place in an address word of its own is a run of one place
 abbrev pub FlatIsARun : Type 0
 FlatIsARun = (s : State) (place : ℕ) → after_flat s place ≡ after_run s (place ∷ [])
 
--- places that rise, above all that are decoded, are decoded in their order
+-- places that ascend and are all above the decoded places; they are decoded in their order
 pub record Rise (ws ps : List ℕ) : Type 0 where
   pub even : All (λ p. p % 2 ≡ 0) ps
   pub above : All (λ p. All (λ q. q < p) (places ws)) ps

@@ -1,9 +1,9 @@
--- How places become words.
---   slot start place   which bit of the window that starts there the place is
---   choice run place   what the place does: the three cases
---   after state place  the words and the run with one place more
---   Follows state      the run stands as the last words say
---   Records            one place more is decoded
+-- How places are encoded.
+--   slot start place   the number of the bit for the place in the window from start on
+--   choice run place   the word that the place goes into: three cases
+--   after state place  the words and the run after one more place
+--   Follows state      the run agrees with the last words
+--   Records            one more place is decoded
 use Rattle.std.specs.Prelude.{◌≡◌, ℕ, ◌+◌, ◌-◌, ◌*◌, ◌/◌, ◌%◌, ◌^◌, ◌<◌, ◌==◌, ◌&&◌, nat_le, nat_lt, if◌then◌else◌, Option, Some, None, List, [], ◌∷◌, ◌++◌, All, Contains, IsPermutation}
 use Rattle.wild_relr.specs.declared.run.Run.{Run}
 use Rattle.wild_relr.specs.declared.run.Run.TheVariants.{Closed, Address, Bitmap}
@@ -11,15 +11,15 @@ use Rattle.wild_relr.specs.declared.run.Choice.{Choice}
 use Rattle.wild_relr.specs.declared.run.Choice.TheVariants.{Joins, Adds}
 use Rattle.wild_relr.specs.Places.{places, next_of}
 
--- which bit of the window that starts there the place is, where it fits
+-- the number of the bit for the place in the window from start on, if it has one
 unfoldable pub slot : ℕ → ℕ → Option ℕ
 slot start place = if nat_le start place && ((place - start) % 8 == 0 && nat_lt (place - start) 504) then Some ((place - start) / 8) else None
 
--- a bitmap word of one bit
+-- a bitmap word with one bit set
 unfoldable pub bitmap : ℕ → ℕ
 bitmap i = 1 + 2 * 2 ^ i
 
--- the word with that bit
+-- the word with that bit set
 unfoldable pub with_bit : ℕ → ℕ → ℕ
 with_bit i w = if w / (2 * 2 ^ i) % 2 == 0 then w + 2 * 2 ^ i else w
 
@@ -27,7 +27,7 @@ with_bit i w = if w / (2 * 2 ^ i) % 2 == 0 then w + 2 * 2 ^ i else w
 abbrev pub starts : ℕ → Choice
 starts place = Adds place (Address place)
 
--- the window at start, if the place fits it, else what is otherwise
+-- a bitmap whose window begins at start, if the place has a bit there; else the other choice
 abbrev pub opens : ℕ → Option ℕ → Choice → Choice
 opens start (Some i) otherwise = Adds (bitmap i) (Bitmap start)
 opens start None otherwise = otherwise
@@ -36,18 +36,18 @@ abbrev pub joins : Option ℕ → Choice → Choice
 joins (Some i) otherwise = Joins i
 joins None otherwise = otherwise
 
--- the first case that holds: the place joins the window, opens the one behind a word, or is an address word
+-- the first that holds: a bit in the last bitmap, a bit in a new bitmap after the last word, an address word
 unfoldable pub choice : Run → ℕ → Choice
 choice Closed place = starts place
 choice (Address a) place = opens (a + 8) (slot (a + 8) place) (starts place)
 choice (Bitmap s) place = joins (slot s place) (opens (s + 504) (slot (s + 504) place) (starts place))
 
--- words, and where their run stands
+-- words, and the state of their run
 pub record State : Type 0 where
   pub run : Run
   pub words : List ℕ
 
--- the bit in the last word
+-- the words with that bit of the last one set
 unfoldable pub joined : ℕ → List ℕ → List ℕ
 joined i [] = []
 joined i (w ∷ []) = with_bit i w ∷ []
@@ -57,11 +57,11 @@ abbrev pub chosen : Choice → State → State
 chosen (Joins i) s = record { run = s.run; words = joined i s.words }
 chosen (Adds w r) s = record { run = r; words = s.words ++ w ∷ [] }
 
--- one place more
+-- the state after one more place
 abbrev pub after : State → ℕ → State
 after s place = chosen (choice s.run place) s
 
--- the last word is a bitmap, whose window starts there
+-- the last word is a bitmap whose window begins at start
 pub record EndsInBitmap (start : ℕ) (ws : List ℕ) : Type 0 where
   pub front : List ℕ
   pub word : ℕ
@@ -69,7 +69,7 @@ pub record EndsInBitmap (start : ℕ) (ws : List ℕ) : Type 0 where
   pub starts : next_of front ≡ start
   pub odd : word % 2 ≡ 1
 
--- the run stands as the last words say
+-- the run agrees with the last words
 abbrev pub FollowsRun : Run → List ℕ → Type 0
 FollowsRun Closed ws = Unit {0}
 FollowsRun (Address a) ws = next_of ws ≡ a + 8
@@ -78,7 +78,7 @@ FollowsRun (Bitmap s) ws = EndsInBitmap s ws
 abbrev pub Follows : State → Type 0
 Follows s = FollowsRun s.run s.words
 
--- one place more is decoded, behind the others where it is the greatest
+-- one more place is decoded; if it is the greatest, it is the last
 pub record Records (before after : List ℕ) (place : ℕ) : Type 0 where
   pub each : IsPermutation (place ∷ places before) (places after)
   pub last : All (λ q. q < place) (places before) → places after ≡ places before ++ place ∷ []

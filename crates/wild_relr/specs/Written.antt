@@ -1,8 +1,8 @@
--- Words as they stand in bytes.
---   word_bytes words  the bytes of words, one behind the other
+-- Words in bytes.
+--   word_bytes words  the bytes of consecutive words
 --   words_in bytes n  the n words of eight bytes at the front
---   state bytes w     a writer's words, and where its run stands
---   Lies bytes w      the words of a writer lie in the part
+--   state bytes w     a writer's words, and the state of their run
+--   Lies bytes w      the part contains a writer's words
 use Rattle.std.specs.Prelude.{◌≡◌, ℕ, zero, suc, ◌*◌, ◌<◌, ◌≤◌, List, [], ◌∷◌, ◌++◌, length, take}
 use Rattle.std.specs.List.{flat_map}
 use Rattle.wild_words.specs.Words.{word, number_at}
@@ -13,7 +13,7 @@ use Rattle.wild_relr.specs.declared.run.Choice.TheVariants.{Joins, Adds}
 use Rattle.wild_relr.specs.Packing.{State}
 use Rattle.wild_relr.specs.declared.writer.RelrWriter.{RelrWriter}
 
--- the bytes of words, one behind the other (gABI, "Relative Relocation Table", Elf64_Relr)
+-- the bytes of consecutive words (gABI, "Relative Relocation Table", Elf64_Relr)
 abbrev pub word_bytes : List ℕ → List ℕ
 word_bytes ws = flat_map (λ w. word 8 w) ws
 
@@ -22,26 +22,26 @@ unfoldable pub words_in : List ℕ → ℕ → List ℕ
 words_in bytes zero = []
 words_in bytes (suc n) = words_in bytes n ++ number_at bytes (8 * n) 8 ∷ []
 
--- a bit that is set is one of the word's
+-- a bit that is to be set has a number below 63
 abbrev pub IsInWord : Choice → Type 0
 IsInWord (Joins i) = i < 63
 IsInWord (Adds w r) = Unit {0}
 
--- where the run stands over the words of the part
+-- a writer's words, and the state of their run
 abbrev pub state : List ℕ → RelrWriter → State
 state bytes r = record { run = r.run; words = words_in bytes r.count }
 
--- a bitmap is a word
+-- if the run ends in a bitmap, there is a word
 abbrev pub HasLast : Run → ℕ → Type 0
 HasLast Closed n = Unit {0}
 HasLast (Address a) n = Unit {0}
 HasLast (Bitmap s) n = 0 < n
 
--- the first bytes are those of the words that are read there
+-- the first bytes are the encoding of the words read from them
 unfoldable pub IsSpelled : List ℕ → ℕ → Type 0
 IsSpelled bytes n = take (8 * n) bytes ≡ word_bytes (words_in bytes n)
 
--- the words lie in the part
+-- the part contains a writer's words
 pub record Lies (bytes : List ℕ) (r : RelrWriter) : Type 0 where
   pub fits : 8 * r.count ≤ length bytes
   pub last : HasLast r.run r.count

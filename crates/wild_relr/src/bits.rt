@@ -2,7 +2,7 @@
 ghost use Rattle.std.specs.Prelude.{◌≡◌, ◌+◌, ◌-◌, ◌*◌, ◌^◌, ◌<◌, ◌≤◌, min, IfSome};
 ghost use Rattle.wild_relr.specs.Packing.{slot, bitmap, with_bit};
 
-/// Which bit of the window that starts `skip` behind `from` the place is.
+/// The number of the bit for the place, in the bitmap whose window starts `skip` bytes after `from`; `None` if the place has no bit there.
 #[tactic(auto, unfolding(crate::specs::Packing::slot))]
 pub(crate) fn slot_of(from: u64, skip: u64, place: u64) -> Option<u64>
     ensures is { result ≡ slot (from + skip) place }
@@ -25,7 +25,7 @@ pub(crate) fn slot_of(from: u64, skip: u64, place: u64) -> Option<u64>
     Some(distance / 8)
 }
 
-/// A bitmap word of one bit.
+/// A bitmap word with one bit set.
 #[tactic(auto, using(crate::proofs::WriterLemmas::bit_fits), unfolding(crate::specs::Packing::bitmap))]
 pub(crate) fn bitmap_of(slot: u64) -> u64
     requires { slot < 63 }
@@ -34,7 +34,7 @@ pub(crate) fn bitmap_of(slot: u64) -> u64
     1 + (2 << slot)
 }
 
-/// The word with that bit.
+/// The bitmap word with the bit of that number set.
 #[tactic(auto, using(crate::proofs::WriterLemmas::bit_fits, crate::proofs::WriterLemmas::bit_set))]
 pub(crate) fn word_with(word: u64, slot: u64) -> u64
     requires { slot < 63 }
@@ -43,7 +43,7 @@ pub(crate) fn word_with(word: u64, slot: u64) -> u64
     word | (2 << slot)
 }
 
-/// A bitmap word whose first bits are set, at most 63.
+/// A bitmap word with the first `slots` bits set, at most 63.
 #[tactic(auto, using(crate::proofs::WriterLemmas::full_shift))]
 pub(crate) fn full_bitmap(slots: u64) -> u64
     ensures { result ≡ 2 * 2 ^ min slots 63 - 1 }

@@ -1,4 +1,4 @@
-//! What a place does.
+//! The word that a place goes into.
 ghost use Rattle.std.specs.Prelude.{◌≡◌};
 ghost use Rattle.wild_relr.specs.Written.{IsInWord};
 ghost use Rattle.wild_relr.specs.Packing.{choice};
@@ -6,7 +6,7 @@ ghost use Rattle.wild_relr.specs.Packing.{choice};
 use crate::bits::{bitmap_of, slot_of};
 use crate::run::{Choice, Run};
 
-/// The first case that holds: the place joins the window, opens the one behind a word, or is an address word.
+/// The first that holds: the place has a bit in the last bitmap, or in a new bitmap after the last word, or needs an address word.
 #[tactic(auto, unfolding(crate::specs::Packing::choice))]
 pub fn choice(run: Run, place: u64) -> Choice
     ensures is { result ≡ choice run place }

@@ -1,4 +1,4 @@
-//! How many words places take, for shares.
+//! Counts the words of places, to reserve each group's share of the table.
 ghost use Rattle.std.specs.Prelude.{◌≡◌, length};
 ghost use Rattle.wild_relr.specs.Packed.{packed};
 
@@ -6,7 +6,7 @@ use crate::cases::choice;
 use crate::laws::runs_are_counted;
 use crate::run::{Choice, Run};
 
-/// How many words a run of places takes.
+/// The number of words that the places take as one run.
 pub fn count_words(places: &[u64]) -> usize
     ensures { result ≡ length (packed places.now) }
 {

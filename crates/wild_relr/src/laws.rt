@@ -1,58 +1,57 @@
-//! Laws of packed places.
+//! Laws of RELR words: functions that do nothing.
 ghost use Rattle.wild_relr.specs.Laws.{LengthsOfWords, WordsAreRead, WordsFit};
 ghost use Rattle.wild_relr.specs.Places.{PlacesAreEven};
 ghost use Rattle.wild_relr.specs.Packing.{EachPlaceIsRecorded, RunsAreFollowed};
 ghost use Rattle.wild_relr.specs.Packed.{PiecesArePacked, BlocksHoldTheirSlots, NoBlockHasNoWords, RunsAreRecorded, RunsAreCounted, PiecesAreRecorded, FlatIsARun, RisingRunsKeepOrder};
 
-/// A place that was not among the decoded ones is decoded afterwards beside all of them, and behind them
-/// where it is the greatest.
+/// If a new place is recorded, the decoded places are the earlier ones and it. If it is the greatest, it is the last.
 pub fn each_place_is_recorded()
     ensures recorded { EachPlaceIsRecorded }
     ensures followed { RunsAreFollowed }
 {}
 
-/// No words stand for an odd place.
+/// No word decodes to an odd place.
 pub fn places_are_even()
     ensures { PlacesAreEven }
 {}
 
-/// What is written place by place are the words of the runs and blocks.
+/// Recording place by place gives the same words as encoding whole runs and blocks.
 pub fn pieces_are_packed()
     ensures { PiecesArePacked }
 {}
 
-/// A block of slots adds each slot behind the places before, and none without slots or a base.
+/// A block adds its slots after the places before, in order. Without slots, or with base 0, it has no words.
 pub fn blocks_hold_their_slots()
     ensures held { BlocksHoldTheirSlots }
     ensures none { NoBlockHasNoWords }
 {}
 
-/// Over a run of new places each is decoded, and no other comes in.
+/// After a run of new places, all of them are decoded and no other is added.
 pub fn runs_are_recorded()
     ensures { RunsAreRecorded }
 {}
 
-/// The words of a run are counted without being made.
+/// The number of words of a run can be counted without building them.
 pub fn runs_are_counted()
     ensures { RunsAreCounted }
 {}
 
-/// Over runs and blocks of which no place comes twice, each place is decoded, and no other.
+/// After runs and blocks without a place that appears twice, exactly their places are decoded.
 pub fn pieces_are_recorded()
     ensures { PiecesAreRecorded }
 {}
 
-/// A flat entry is a run of one place.
+/// A place in an address word of its own is a run of one place.
 pub fn flat_is_a_run()
     ensures { FlatIsARun }
 {}
 
-/// Places that rise above all that are decoded are decoded in their order.
+/// If places ascend and are all above the places decoded before, they are decoded in their order.
 pub fn rising_runs_keep_order()
     ensures { RisingRunsKeepOrder }
 {}
 
-/// Words have 8 bytes each, and each is read where it stands.
+/// Each word has 8 bytes, and is read back at its offset.
 pub fn words_are_read()
     ensures lengths { LengthsOfWords }
     ensures read { WordsAreRead }

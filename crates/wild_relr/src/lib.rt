@@ -1,4 +1,4 @@
-//! Words of packed relative relocations (RELR): what they mean, and how they are written as the places come.
+//! The words of packed relative relocations (RELR): how they are decoded, and a writer that encodes one place at a time.
 #![tactic(auto)]
 
 mod bits;

@@ -1,4 +1,4 @@
-//! Words of eight bytes that stand one behind the other.
+//! Consecutive words of eight bytes.
 ghost use Rattle.std.specs.Prelude.{◌≡◌, ℕ, ◌+◌, ◌-◌, ◌*◌, ◌<◌, ◌≤◌, [], ◌∷◌, ◌++◌, length, slice_index};
 ghost use Rattle.wild_relr.specs.Packing.{joined};
 ghost use Rattle.wild_relr.specs.Packed.{bitmaps, bitmap_count, block};
@@ -7,7 +7,7 @@ ghost use Rattle.wild_relr.specs.Written.{words_in, IsSpelled};
 use crate::bits::{full_bitmap, word_with};
 use wild_words::{put_u64, read_u64};
 
-/// `word` behind the `count` words.
+/// Writes `word` after the first `count` words.
 #[tactic(auto, using(crate::proofs::WriterLemmas::words_in_more, crate::proofs::SpellLemmas::spelled_more, crate::proofs::WriterLemmas::word_above))]
 pub(crate) fn add_word(out: &mut [u8], count: usize, word: u64)
     requires { 8 * count + 8 ≤ length out.old }
@@ -18,7 +18,7 @@ pub(crate) fn add_word(out: &mut [u8], count: usize, word: u64)
     put_u64(out, 8 * count, word);
 }
 
-/// One bit more in the last of the `count` words.
+/// Sets one more bit in the last of the first `count` words.
 #[tactic(auto, using(crate::proofs::WriterLemmas::words_in_joined, crate::proofs::SpellLemmas::spelled_last, crate::proofs::WriterLemmas::word_above))]
 pub(crate) fn join_last(out: &mut [u8], count: usize, slot: u64)
     requires counted { 0 < count }
@@ -33,7 +33,7 @@ pub(crate) fn join_last(out: &mut [u8], count: usize, slot: u64)
     put_u64(out, at, word_with(word, slot));
 }
 
-/// `words` bitmap words of `slots` slots behind the `count` words.
+/// Writes `words` bitmap words, with `slots` bits set in all, after the first `count` words.
 pub(crate) fn add_bitmaps(out: &mut [u8], count: usize, words: usize, slots: u64)
     requires { 8 * (count + words) ≤ length out.old }
     ensures rest { (k : ℕ) → 8 * (count + words) ≤ k → slice_index out.new k ≡ slice_index out.old k }
@@ -47,7 +47,7 @@ pub(crate) fn add_bitmaps(out: &mut [u8], count: usize, words: usize, slots: u64
     }
 }
 
-/// How many words a block of `n` slots takes.
+/// The number of words that a block of `n` slots takes; 0 if `base` is 0.
 pub fn block_words(base: u64, n: u64) -> u64
     ensures is { result ≡ length (block base n) }
     ensures base { 0 < result → 0 < base }
@@ -65,7 +65,7 @@ pub fn block_words(base: u64, n: u64) -> u64
     1 + (slots / 63 + rest)
 }
 
-/// The block of `n` slots behind the `count` words.
+/// Writes the block of `n` slots after the first `count` words.
 pub(crate) fn add_block(out: &mut [u8], count: usize, base: u64, bitmap_words: usize, n: u64)
     requires base { 0 < base }
     requires slots { 0 < n }

@@ -1,4 +1,4 @@
-//! The writer of packed relocations over the bytes of its part.
+//! The writer of RELR words. It keeps no list of places, so each place takes the same steps.
 ghost use Rattle.std.specs.Prelude.{◌≡◌, ◌≢◌, ◌++◌, ℕ, ◌*◌, ◌%◌, ◌<◌, ◌≤◌, List, [], length, slice_index, Contains, OnOk, OnErr};
 ghost use Rattle.wild_relr.specs.Places.{places};
 ghost use Rattle.wild_relr.specs.Packing.{after, Follows, Records};
@@ -10,11 +10,11 @@ use crate::laws::{blocks_hold_their_slots, each_place_is_recorded};
 use crate::run::{Choice, Run};
 use crate::words::{add_block, add_word, block_words, join_last};
 
-/// What was to be written does not fit.
+/// The words to be written do not fit.
 #[derive(Clone, Copy, Debug, PartialEq, Eq)]
 pub struct Full;
 
-/// How many words stand in a part, and where their run stands.
+/// The number of words written to a part, and the state of their run.
 #[derive(Clone, Copy)]
 pub struct RelrWriter {
     count: usize,
@@ -22,7 +22,7 @@ pub struct RelrWriter {
 }
 
 impl RelrWriter {
-    /// No words.
+    /// A writer without words.
     #[tactic(auto, unfolding(crate::specs::Written::words_in, crate::specs::Written::IsSpelled))]
     pub fn new() -> Self
         ensures state { (bytes : List ℕ) → state bytes result ≡ nothing }
@@ -35,7 +35,7 @@ impl RelrWriter {
         }
     }
 
-    /// How many words there are.
+    /// The number of words.
     pub fn len(&self) -> usize
         ensures count { result ≡ self.now.count }
         ensures words { (bytes : List ℕ) → length (state bytes self.now).words ≡ result }
@@ -43,7 +43,7 @@ impl RelrWriter {
         self.count
     }
 
-    /// Records a place by a new word, or by one bit in the last word.
+    /// Records a place by a new word, or by a bit in the last word.
     fn put_place(&mut self, out: &mut [u8], place: u64) -> Result<(), Full>
         requires { Lies out.old self.old }
         ensures ok { OnOk result (state out.new self.new ≡ after (state out.old self.old) place) }
@@ -69,7 +69,7 @@ impl RelrWriter {
         Ok(())
     }
 
-    /// Ends the run: the next place is a word of its own.
+    /// Ends the run: the next place gets an address word.
     pub fn reset_run(&mut self)
         ensures state { (bytes : List ℕ) → state bytes self.new ≡ reset (state bytes self.old) }
         ensures follows { (bytes : List ℕ) → Follows (state bytes self.new) }
@@ -79,8 +79,8 @@ impl RelrWriter {
         self.run = Run::Closed;
     }
 
-    /// Records a place that no word stands for yet: by a new word, or by one bit in the last word. Refused
-    /// exactly where the words with it do not fit, and nothing changes then.
+    /// Records a place that is not recorded yet: by a new word, or by a bit in the last word. Fails exactly if the words with it do not
+    /// fit; then nothing changes.
     pub fn write(&mut self, out: &mut [u8], place: u64) -> Result<(), Full>
         requires lies { Lies out.old self.old }
         requires follows { Follows (state out.old self.old) }
@@ -99,7 +99,7 @@ impl RelrWriter {
         self.put_place(out, place)
     }
 
-    /// The block of `n` slots behind the words.
+    /// Writes the block of `n` slots after the words.
     fn put_block(&mut self, out: &mut [u8], base: u64, n: u64) -> Result<(), Full>
         requires { Lies out.old self.old }
         ensures ok { OnOk result (state out.new self.new ≡ after_block (state out.old self.old) base n) }
@@ -124,8 +124,8 @@ impl RelrWriter {
         Ok(())
     }
 
-    /// Records the `n` slots from `base` on by a block of their own, and ends the run. Refused exactly where
-    /// the words with the block do not fit, and nothing changes then.
+    /// Records the `n` slots from `base` on by a block, and ends the run. Fails exactly if the words with the block do not fit; then
+    /// nothing changes.
     pub fn write_block(&mut self, out: &mut [u8], base: u64, n: u64) -> Result<(), Full>
         requires lies { Lies out.old self.old }
         requires even { base % 2 ≡ 0 }
@@ -143,8 +143,8 @@ impl RelrWriter {
         self.put_block(out, base, n)
     }
 
-    /// Records a place that no word stands for yet by a word of its own, and ends the run. Refused exactly where
-    /// the words with it do not fit, and nothing changes then.
+    /// Records a place that is not recorded yet by an address word of its own, and ends the run. Fails exactly if the words with it do
+    /// not fit; then nothing changes.
     pub fn write_flat(&mut self, out: &mut [u8], place: u64) -> Result<(), Full>
         requires lies { Lies out.old self.old }
         requires even { place % 2 ≡ 0 }
@@ -162,7 +162,7 @@ impl RelrWriter {
         self.put_flat(out, place)
     }
 
-    /// The place by a word of its own, behind the words.
+    /// Writes the place as an address word, after the words.
     fn put_flat(&mut self, out: &mut [u8], place: u64) -> Result<(), Full>
         requires { Lies out.old self.old }
         ensures ok { OnOk result (state out.new self.new ≡ after_flat (state out.old self.old) place) }

@@ -1,4 +1,4 @@
-//! Walks over items, and sinks, which say what is done with each: of items of any type.
+//! Walks over items of any type: the sink that takes each item, and laws of its runs.
 #![tactic(auto)]
 
 mod sink;

@@ -1,6 +1,6 @@
-//! Where items go.
+//! Sinks: takers of items.
 
-/// Where items of type `X` go, one after another: a count, a writer, a search for a fault.
+/// Takes the items of type `X` of a walk, one after another: a counter, a writer, a search for a fault.
 pub trait Sink<X> {
     ghost use Rattle.std.specs.Prelude.{[], ◌∷◌};
     ghost use Rattle.wild_walk.specs.Runs.{Ran};
@@ -8,10 +8,10 @@ pub trait Sink<X> {
     /// Why an item is refused.
     type Error: Drop;
 
-    /// From one state to another, with the item taken.
+    /// The relation of the state before and after an item that is taken.
     ghost goes: { Self → X → Self → Type 0 };
 
-    /// In a state the item is refused for a reason, which leaves a state.
+    /// The relation of the state before an item that is refused, the reason, and the state after.
     ghost refuses: { Self → X → Self.Error → Self → Type 0 };
 
     /// Takes an item, or refuses it.
