@@ -28,7 +28,7 @@ fn count_fdes(found: &Found) -> u64
     }
 }
 
-/// Counts what is kept, from the start of a walk on.
+/// Counts the kept bytes and FDEs, from the start of a walk on.
 fn count_rest<F: FrameSource>(frames: &F, first: Pass) -> FrameCounts
     requires { IsReady (F.frames frames.now) first }
     ensures bytes { result.bytes ≡ length (flat_map (found_bytes (F.frames frames.now)) (rest_of (F.frames frames.now) start)) }

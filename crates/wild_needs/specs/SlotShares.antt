@@ -1,7 +1,7 @@
 -- What the slots and stubs of a file's symbols need of the parts (x86-64 psABI, "Global Offset Table (GOT)", "Procedure
 -- Linkage Table").
 --   header_words l       the words that appear once, at the start of the GOT
---   takes_none l r       slots need nothing of parts of that role
+--   takes_none l r       slots need no bytes of parts of that role
 --   slot_share l r f     the bytes that a file's symbols need of the part of a role
 --   block_words l g      the RELR words for a group's block of slots
 --   block_share l r g    the size of these words in bytes
@@ -97,7 +97,7 @@ header_share l role.Got = word_size * length (header_words l)
 header_share l role.RelaDynGeneral = rela_size * header_entries l
 header_share l other = 0
 
--- slots need nothing of parts of that role: it is none of theirs, or it has no bytes that appear once and no symbol has a slot
+-- slots need no bytes of parts of that role: it is none of theirs, or it has no bytes that appear once and no symbol has a slot
 abbrev pub takes_none : Layout → Role → Bool
 takes_none l r = not (is_of_slots r) || (header_share l r == 0 && list_all is_without l.symbols)
 

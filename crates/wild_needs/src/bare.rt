@@ -69,7 +69,7 @@ fn inner(groups: &[Group]) -> &[Group]
     }
 }
 
-/// Whether `is_bare` holds of an output, and all files between the first and the last group pass that test. Then these groups need
+/// Whether `is_bare` holds for an output, and all files between the first and the last group pass that test. Then these groups need
 /// nothing.
 pub fn is_bare_inside(layout: &Layout) -> bool
     ensures { result ≡ is_bare_inside layout.now }
@@ -77,7 +77,7 @@ pub fn is_bare_inside(layout: &Layout) -> bool
     is_bare(layout) && all_pass(&IsFixed, inner(layout.groups.as_slice()))
 }
 
-/// Whether all files of a group pass that test. If `is_bare` holds of the output, the group then needs nothing.
+/// Whether all files of a group pass that test. If `is_bare` holds for the output, the group then needs nothing.
 #[tactic(auto, using(crate::proofs::BareLemmas::bare_needs))]
 pub(crate) fn is_bare_group(group: &Group) -> bool
     ensures { (l : Layout) → is_bare l ≡ true → result ≡ true → (r : Role) → group_share l r group.now ≡ 0 }

@@ -254,7 +254,7 @@ impl Test<File> for IsPlain<'_> {
     }
 }
 
-/// Whether a group is known to need nothing. `bare` is true only if `is_bare` holds of the output; then relocations of files that pass
+/// Whether a group is known to need nothing. `bare` is true only if `is_bare` holds for the output; then relocations of files that pass
 /// the fast test are not read.
 pub fn needs_nothing_in(layout: &Layout, bare: bool, group: &Group) -> bool
     requires { bare ≡ true → is_bare layout.now ≡ true }
@@ -386,7 +386,7 @@ fn is_static(layout: &Layout, role: Role) -> bool
 }
 
 /// Whether no group has a share in a part of that role, as far as this is known without reading the files. `bare` is true only if
-/// `is_bare` holds of the output.
+/// `is_bare` holds for the output.
 #[tactic(auto, using(crate::proofs::ShareLemmas::no_share))]
 fn needs_nothing(layout: &Layout, bare: bool, role: Role) -> bool
     requires { bare ≡ true → is_bare layout.now ≡ true }
@@ -399,7 +399,7 @@ fn needs_nothing(layout: &Layout, bare: bool, role: Role) -> bool
         && whole_of(layout, role) == 0
 }
 
-/// The share of a group in a part of that role, at most 2^64 - 1. `bare` is true only if `is_bare` holds of the output.
+/// The share of a group in a part of that role, at most 2^64 - 1. `bare` is true only if `is_bare` holds for the output.
 fn share_of_group(layout: &Layout, bare: bool, role: Role, group: &Group) -> u64
     requires { bare ≡ true → is_bare layout.now ≡ true }
     ensures { result ≡ min (2 ^ 64 - 1) (group_share layout.now role group.now) }
@@ -425,7 +425,7 @@ fn share_of_ends(layout: &Layout, role: Role) -> u64
     }
 }
 
-/// The sum of the shares of all groups in a part of that role, at most 2^64 - 1. `inside` is true only if `is_bare_inside` holds of the
+/// The sum of the shares of all groups in a part of that role, at most 2^64 - 1. `inside` is true only if `is_bare_inside` holds for the
 /// output.
 #[tactic(auto, using(crate::proofs::BareLemmas::bare_by_inside))]
 pub fn total_share_of(layout: &Layout, inside: bool, role: Role) -> u64

@@ -158,7 +158,7 @@ pub(crate) fn header_share(layout: &Layout, role: Role) -> u64
     }
 }
 
-/// Whether no symbol has a slot. `bare` is true only if `is_bare` holds of the output.
+/// Whether no symbol has a slot. `bare` is true only if `is_bare` holds for the output.
 #[tactic(auto, using(crate::proofs::BareLemmas::bare_without))]
 fn are_without(layout: &Layout, bare: bool) -> bool
     requires { bare ≡ true → is_bare layout.now ≡ true }
@@ -167,8 +167,8 @@ fn are_without(layout: &Layout, bare: bool) -> bool
     bare || all_pass(&IsWithout, layout.symbols.as_slice())
 }
 
-/// Whether slots need nothing of parts of that role, as far as this is known without reading the files. `bare` is true only if
-/// `is_bare` holds of the output.
+/// Whether slots need no bytes of parts of that role, as far as this is known without reading the files. `bare` is true only if
+/// `is_bare` holds for the output.
 pub(crate) fn takes_none(layout: &Layout, bare: bool, role: Role) -> bool
     requires { bare ≡ true → is_bare layout.now ≡ true }
     ensures { result ≡ takes_none layout.now role }

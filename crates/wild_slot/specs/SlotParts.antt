@@ -58,7 +58,7 @@ type_of machine.AArch64 kind = aarch64_type kind
 abbrev pub entry_at : Machine → ℕ → SlotEntry → Rela
 entry_at m at e = record { offset = at; number = type_of m e.kind; symbol = e.symbol % 2 ^ 32; addend = cast_signed w64 e.addend }
 
--- the relative entry by which a loader stores load bias plus value
+-- the relative entry with which a loader stores load bias plus value
 abbrev pub address_entry : Machine → ℕ → ℕ → Rela
 address_entry m at value = record { offset = at; number = type_of m Relative; symbol = 0; addend = cast_signed w64 value }
 

@@ -64,7 +64,7 @@ pub fn entry_at(machine: Machine, place: u64, entry: SlotEntry) -> Rela
     }
 }
 
-/// The relative entry by which a loader stores load bias plus value.
+/// The relative entry with which a loader stores load bias plus value.
 pub fn address_entry(machine: Machine, place: u64, value: u64) -> Rela
     ensures { result ≡ address_entry machine place value }
 {

@@ -18,7 +18,7 @@ bool_eq false b = not b
 abbrev pub file_placed : Bool → Bool → File → Bool
 file_placed first last f = bool_eq (is_prelude f.role) first && bool_eq (is_epilogue f.role) last
 
--- the same for files after the first of all; the flag says whether the last of them is the last of all
+-- the same for files after the first of all; the flag says whether the last one is also the last of all
 abbrev pub later_placed : Bool → List File → Bool
 later_placed last [] = true
 later_placed last (f ∷ fs) = file_placed false (last && length fs == 0) f && later_placed last fs

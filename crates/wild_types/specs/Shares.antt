@@ -1,7 +1,7 @@
 -- A group's share of the part of a role.
 --   part_of l r               the index of the part of that role; the number of parts if there is none
 --   share_of l group r        the group's share of it
---   insufficient part group has needed, excessive ..   the group's share of the part is smaller, or larger, than what is written there
+--   insufficient part group has needed, excessive ..   the group's share of the part is smaller, or larger, than the bytes that it has to hold
 use Rattle.std.specs.Prelude.{ℕ, ◌+◌, if◌then◌else◌, List, [], ◌∷◌, Option, Some, None, slice_get}
 use Rattle.wild_types.specs.declared.part.Part.{Part}
 use Rattle.wild_types.specs.declared.part.Role.{Role}
@@ -30,10 +30,10 @@ given_by part (Some g) = given part g
 abbrev pub share_of : Layout → ℕ → Role → ℕ
 share_of l group r = given_by (part_of l r) (slice_get l.groups group)
 
--- the share is smaller than what is written there
+-- the share is smaller than the bytes that it has to hold
 abbrev pub insufficient : ℕ → ℕ → ℕ → ℕ → Error
 insufficient part group has needed = record { fault = faults.InsufficientAllocation part group has needed; at = nowhere }
 
--- the share is larger than what is written there
+-- the share is larger than the bytes that it has to hold
 abbrev pub excessive : ℕ → ℕ → ℕ → ℕ → Error
 excessive part group has needed = record { fault = faults.ExcessiveAllocation part group has needed; at = nowhere }

@@ -47,14 +47,14 @@ pub enum Fault {
         clause: u32,
         index: usize,
     },
-    /// A group's share of a part is smaller than what it writes there.
+    /// A group's share of a part is smaller than the bytes that it writes there.
     InsufficientAllocation {
         part: usize,
         group: usize,
         given: u64,
         needed: u64,
     },
-    /// A group's share of a part is larger than what it writes there.
+    /// A group's share of a part is larger than the bytes that it writes there.
     ExcessiveAllocation {
         part: usize,
         group: usize,
@@ -79,7 +79,7 @@ pub enum Fault {
     UnknownSequence {
         number: u32,
     },
-    /// A reference to an IFUNC has an addend. The loader stores the resolver's result alone and cannot add to it.
+    /// A reference to an IFUNC has an addend. The loader stores the resolver's result and cannot add to it.
     IfuncAddend {
         addend: i64,
     },

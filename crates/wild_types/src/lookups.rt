@@ -1,4 +1,4 @@
-//! Look-ups in a layout: sections, parts, symbols, and what is written of each input section.
+//! Look-ups in a layout: sections, parts, symbols, and the bytes of each input section.
 ghost use Rattle.std.specs.Prelude.{◌≡◌, ◌+◌, ◌^◌, ◌%◌, ◌<◌, true, length, drop, take, slice_range};
 ghost use Rattle.wild_types.specs.FileSymbols.{range_of, own_symbols, loaded_symbols};
 ghost use Rattle.wild_types.specs.FileThunks.{block_of, thunks_of};

@@ -28,7 +28,7 @@ pub fn share_of(layout: &Layout, group: usize, role: Role) -> u64
     }
 }
 
-/// The error that a group's share of a part, in bytes, is smaller than what is written there.
+/// The error that a group's share of a part, in bytes, is smaller than the bytes that it has to hold.
 pub fn insufficient(part: usize, group: usize, given: u64, needed: u64) -> Error
     ensures { result ≡ insufficient part group given needed }
 {
@@ -43,7 +43,7 @@ pub fn insufficient(part: usize, group: usize, given: u64, needed: u64) -> Error
     }
 }
 
-/// The error that a group's share of a part, in bytes, is larger than what is written there.
+/// The error that a group's share of a part, in bytes, is larger than the bytes that it has to hold.
 pub fn excessive(part: usize, group: usize, given: u64, needed: u64) -> Error
     ensures { result ≡ excessive part group given needed }
 {
