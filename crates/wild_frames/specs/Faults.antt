@@ -1,6 +1,6 @@
 -- The faults of a section of frames.
---   frame_errors s   the relocations' first, else that of the first entry that has one
---   Answers r es     r is a value where es is empty, else the first of es, or memory was refused
+--   frame_errors s   the fault of the relocations, else that of the first entry that has one
+--   Answers r es     r is a value if es is empty; else it is the first of es, or out of memory
 use Rattle.std.specs.Prelude.{◌≡◌, List, [], ◌∷◌, Option, Some, None, Result, Ok, Err}
 use Rattle.std.specs.List.{flat_map}
 use Rattle.wild_frames.specs.declared.entry.Found.{Found}
@@ -21,7 +21,7 @@ instead None es = es
 abbrev pub frame_errors : Frames → List BadFrame
 frame_errors s = instead (list_error s.relocations) (flat_map found_errors (rest_of s start))
 
--- memory was refused
+-- out of memory
 abbrev pub out_of_memory : FrameError
 out_of_memory = error.OutOfMemory
 
@@ -34,7 +34,7 @@ abbrev pub Refuses : FrameError → List BadFrame → Type 0
 Refuses (error.Bad e) es = IsFirst e es
 Refuses error.OutOfMemory es = Unit {0}
 
--- a call answers the first of the faults, where there is one
+-- a call returns the first of the faults, if there is one
 abbrev pub Answers : {A : Type 0} → Result A FrameError → List BadFrame → Type 0
 Answers (Ok x) es = es ≡ []
 Answers (Err e) es = Refuses e es

@@ -1,13 +1,13 @@
 -- The frames of an input section (LSB, "The .eh_frame section"; DWARF 5, 6.4).
---   found s st       what stands where a walk is
---   rest_of s st     all that the walk finds from there on: the list ends with the first zero length, the last bytes, or the
+--   found s st       what a walk finds at its offset
+--   rest_of s st     all that the walk finds from its offset on: the list ends with the first zero length, the last bytes, or the
 --                    first entry with a fault
 --   found_in s       all that is found in a section
---   kept_in s        the kept entries, each with its new place and id
---   frame_bytes s    the bytes that are kept, before fields are written in them
---   terminator       what ends the frames of an output
--- An entry is a length word, an id word and what follows; the length counts what follows the length word. Id 0 is a CIE;
--- of an FDE the id is the distance from the id word back to its CIE, and behind it stands where its code begins (PC Begin).
+--   kept_in s        the kept entries, each with its new offset and id
+--   frame_bytes s    the bytes that are kept, before their fields are relocated
+--   terminator       the zero length that ends the frames of an output
+-- An entry is a length word, an id word and its contents; the length does not include the length word. A CIE has id 0. The id of an
+-- FDE is the distance from the id word back to its CIE; after the id word is the address at which its code begins (PC Begin).
 use Rattle.std.specs.Prelude.{ℕ, zero, suc, ◌+◌, ◌-◌, ◌==◌, ◌&&◌, Bool, true, false, if◌then◌else◌, nat_lt, nat_le, List, [], ◌∷◌, ◌++◌, length, drop, slice_range, Option, Some, None}
 use Rattle.std.specs.List.{filter, flat_map, list_all}
 use Rattle.wild_words.specs.Words.{word, number_at, place}
@@ -21,18 +21,18 @@ use Rattle.wild_frames.specs.declared.entry.Found.{Found}
 use Rattle.wild_frames.specs.declared.entry.Found.TheVariants as finds
 use Rattle.wild_frames.specs.declared.entry.BadFrame.{BadFrame}
 
--- a length of zero, which ends the frames of an output (LSB, "The .eh_frame section")
+-- the zero length that ends the frames of an output (LSB, "The .eh_frame section")
 abbrev pub terminator : List ℕ
 terminator = 0 ∷ 0 ∷ 0 ∷ 0 ∷ []
 
--- a section of frames: how many bytes the field of a relocation has, and what its symbol is
+-- a section of frames, with the width of each relocation's field and the target of its symbol
 pub record Frames : Type 0 where
   pub bytes : List ℕ
   pub relocations : List InputRelocation
   pub width : InputRelocation → ℕ
   pub target : InputRelocation → Target
 
--- where a walk is: its place in the section, the place of the next kept entry, and the CIEs that it met
+-- the state of a walk: its offset in the section, the offset of the next kept entry, and the CIEs that it has passed
 pub record State : Type 0 where
   pub at : ℕ
   pub to : ℕ
@@ -47,26 +47,26 @@ start = record { at = 0; to = 0; cies = [] }
 abbrev pub relocations_in : ℕ → ℕ → List InputRelocation → List InputRelocation
 relocations_in from end rs = filter (λ r. nat_le from r.offset && nat_lt r.offset end) rs
 
--- what an FDE is of, by its first relocation, where that stands at its PC Begin
+-- where the code of an FDE is, by its first relocation if that is at its PC Begin; else it is discarded
 abbrev pub target_first : (InputRelocation → Target) → ℕ → List InputRelocation → Target
 target_first t at [] = target.Discarded
 target_first t at (r ∷ rs) = if r.offset == at then t r else target.Discarded
 
--- the new place of the CIE that stands at an offset
+-- the new offset of the CIE at an offset
 abbrev pub cie_at : ℕ → List Cie → Option ℕ
 cie_at x [] = None
 cie_at x (c ∷ cs) = if c.from == x then Some c.to else cie_at x cs
 
--- the new place of the CIE so far back from an id word
+-- the new offset of the CIE that is id bytes before an id word
 abbrev pub cie_back : ℕ → ℕ → List Cie → Option ℕ
 cie_back at id cs = if nat_le id at then cie_at (at - id) cs else None
 
--- an entry that is kept, whose fields have to lie in it
+-- a kept entry, if its fields are within it; else the fault
 abbrev pub kept_if : (InputRelocation → ℕ) → List InputRelocation → ℕ → ℕ → ℕ → ℕ → Found
 kept_if width own at to size id =
     if list_all (λ r. nat_le (r.offset + width r) (at + size)) own then finds.Kept (record { from = at; size = size; to = to; id = id }) else finds.Bad why.Field at
 
--- an FDE, by what it is of and by the new place of its CIE
+-- an FDE, by the target of its PC Begin and by the new offset of its CIE
 abbrev pub described : (InputRelocation → ℕ) → Target → Option ℕ → List InputRelocation → ℕ → ℕ → ℕ → Found
 described width target.NoSection cie own at to size = finds.Bad why.PcBegin at
 described width target.Discarded None own at to size = finds.Bad why.Cie at
@@ -94,11 +94,11 @@ found s st =
 
 -- ---- all entries
 
--- behind a kept entry
+-- the state after a kept entry
 abbrev pub behind : State → KeptEntry → State
 behind st k = record { at = st.at + k.size; to = st.to + k.size; cies = if k.id == 0 then st.cies ++ (record { from = k.from; to = k.to }) ∷ [] else st.cies }
 
--- the walk goes on behind what was found
+-- the walk continues after what was found
 abbrev pub goes_on : Found → Bool
 goes_on (finds.Kept k) = true
 goes_on (finds.Dropped size) = true
@@ -109,12 +109,12 @@ after st (finds.Kept k) = behind st k
 after st (finds.Dropped size) = record { at = st.at + size; to = st.to; cies = st.cies }
 after st _ = st
 
--- at most n things
+-- what the first n steps find
 unfoldable pub walk : Frames → ℕ → State → List Found
 walk s zero st = []
 walk s (suc n) st = found s st ∷ (if goes_on (found s st) then walk s n (after st (found s st)) else [])
 
--- all of them: each has a byte
+-- what all steps find: each takes at least one byte
 unfoldable pub rest_of : Frames → State → List Found
 rest_of s st = walk s (suc (length s.bytes - st.at)) st
 
@@ -125,7 +125,7 @@ unfoldable pub entry_bytes : Frames → KeptEntry → List ℕ
 entry_bytes s k =
     if k.id == 0 then slice_range s.bytes k.from (k.from + k.size) else place 4 (word 4 k.id) (slice_range s.bytes k.from (k.from + k.size))
 
--- the last bytes: four zeros, which end the frames of a whole output, are not copied
+-- the last bytes; four zeros, which end the frames of a whole output, are not copied
 unfoldable pub tail_of : List ℕ → List ℕ
 tail_of bs = if (length bs == 4) && (number_at bs 0 4 == 0) then [] else bs
 
@@ -138,7 +138,7 @@ abbrev pub kept_of : Found → List KeptEntry
 kept_of (finds.Kept k) = k ∷ []
 kept_of _ = []
 
--- an FDE that is kept has an entry in the search table
+-- a kept FDE has an entry in the search table
 abbrev pub fde_of : Found → List KeptEntry
 fde_of (finds.Kept k) = if k.id == 0 then [] else k ∷ []
 fde_of _ = []
@@ -150,7 +150,7 @@ unfoldable pub malformed_in : List InputRelocation → Option BadFrame
 malformed_in [] = None
 malformed_in (r ∷ rs) = if r.malformed then Some (record { why = why.Malformed; offset = r.offset }) else malformed_in rs
 
--- the first that stands before the one in front of it
+-- the first relocation whose offset is below that of the relocation before it
 unfoldable pub unsorted_in : ℕ → List InputRelocation → Option BadFrame
 unsorted_in reach [] = None
 unsorted_in reach (r ∷ rs) = if nat_lt r.offset reach then Some (record { why = why.Unsorted; offset = r.offset }) else unsorted_in r.offset rs
@@ -162,7 +162,7 @@ or_else None b = b
 unfoldable pub list_error : List InputRelocation → Option BadFrame
 list_error rs = or_else (malformed_in rs) (unsorted_in 0 rs)
 
--- where the relocations have a fault, the section has no frames
+-- if the relocations have a fault, the section has no frames
 abbrev pub unless : {X : Type 0} → Option BadFrame → List X → List X
 unless (Some e) xs = []
 unless None xs = xs

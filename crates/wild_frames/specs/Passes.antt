@@ -1,8 +1,8 @@
--- A walk that takes no memory: it knows the place of the last CIE, and looks for others by reading lengths.
---   comes_to bs n at x   reading by lengths from one place comes to another; n steps are enough
---   has_cie bs x         a CIE stands there
---   brief f              what was found, with the id of a kept FDE forgotten
---   IsOn s p st          such a walk is where a walk with memory is
+-- A walk that allocates no memory: it records the offset of the last CIE, and finds others by following the lengths.
+--   comes_to bs n at x   a reader that follows the lengths from at reaches x; n steps are enough
+--   has_cie bs x         a CIE is at offset x
+--   brief f              what was found, without the id of a kept FDE
+--   IsOn s p st          the walk is at the same position as a walk that records all CIEs
 use Rattle.std.specs.Prelude.{◌≡◌, ℕ, zero, suc, ◌+◌, ◌-◌, ◌<◌, ◌≤◌, ◌==◌, ◌&&◌, Bool, true, if◌then◌else◌, nat_lt, nat_le, List, [], ◌∷◌, length, slice_range, Option, Some, None, is_some, All, Result, Ok, Err}
 use Rattle.wild_words.specs.Words.{number_at}
 use Rattle.wild_frames.specs.declared.entry.Cie.{Cie}
@@ -14,31 +14,31 @@ use Rattle.wild_frames.specs.declared.pass.Pass.{Pass}
 use Rattle.wild_frames.specs.Frames.{Frames, State, start, found, after, goes_on, cie_at, list_error, rest_of}
 use Rattle.wild_frames.specs.Walks.{Fits, IsNext, Lies, MovesBack, AreOwn}
 
--- reading by lengths from one place comes to another
+-- a reader that follows the lengths from one offset reaches another
 unfoldable pub comes_to : List ℕ → ℕ → ℕ → ℕ → Bool
 comes_to bs zero at x = at == x
 comes_to bs (suc n) at x = if nat_lt at x then comes_to bs n (at + (4 + number_at bs at 4)) x else at == x
 
--- a CIE stands there
+-- a CIE is at offset x
 abbrev pub has_cie : List ℕ → ℕ → Bool
 has_cie bs x = comes_to bs x 0 x && number_at bs (x + 4) 4 == 0
 
--- the CIE so far back from an id word, as if its new place were the FDE's
+-- the CIE that is id bytes before an id word, as if its new offset were that of the FDE
 abbrev pub cie_before : List ℕ → ℕ → ℕ → ℕ → List Cie
 cie_before bs at to id = if nat_lt 4 id && (nat_le id (at + 4) && has_cie bs (at + 4 - id)) then (record { from = at + 4 - id; to = to }) ∷ [] else []
 
--- what is known of the CIEs before a place
+-- the state of the walk, with the CIE of the entry at its offset
 abbrev pub brief_state : List ℕ → Pass → State
 brief_state bs p = record { at = p.at; to = p.to; cies = cie_before bs p.at p.to (number_at bs (p.at + 4) 4) }
 
--- nothing is known of them
+-- the state of the walk, without CIEs
 abbrev pub bare_state : Pass → State
 bare_state p = record { at = p.at; to = p.to; cies = [] }
 
 abbrev pub brief_entry : KeptEntry → KeptEntry
 brief_entry k = record { from = k.from; size = k.size; to = k.to; id = if k.id == 0 then 0 else 4 }
 
--- what was found, with the id of a kept FDE forgotten
+-- what was found, without the id of a kept FDE
 abbrev pub brief : Found → Found
 brief (finds.Kept k) = finds.Kept (brief_entry k)
 brief (finds.Dropped size) = finds.Dropped size
@@ -46,16 +46,16 @@ brief (finds.Tail from) = finds.Tail from
 brief (finds.Bad w at) = finds.Bad w at
 brief finds.End = finds.End
 
--- reading by lengths from there comes to the same places as from the start
+-- a reader that follows the lengths from there reaches the same later offsets as one from the start
 abbrev pub IsBoundary : List ℕ → ℕ → Type 0
 IsBoundary bs at = (x : ℕ) → at ≤ x → comes_to bs x 0 x ≡ comes_to bs x at x
 
--- the last CIE behind what was found
+-- the last CIE, after the step that found f
 abbrev pub known_after : ℕ → Found → ℕ
 known_after known (finds.Kept k) = if k.id == 0 then k.from else known
 known_after known other = known
 
--- a walk is where another is that has the places of all CIEs
+-- the walk is at the same position as a walk that records all CIEs
 pub record IsOn (s : Frames) (p : Pass) (st : State) : Type 0 where
   pub at : st.at ≡ p.at
   pub to : st.to ≡ p.to
@@ -66,7 +66,7 @@ pub record IsOn (s : Frames) (p : Pass) (st : State) : Type 0 where
   pub ahead : All (λ c. c.to ≤ st.to) st.cies
   pub met : (x : ℕ) → x < st.at → is_some (cie_at x st.cies) ≡ has_cie s.bytes x
 
--- it is in a section
+-- the walk is at some position of a section
 pub record IsWithin (s : Frames) (p : Pass) : Type 0 where
   pub state : State
   pub on : IsOn s p state
@@ -80,13 +80,13 @@ abbrev pub Begins : Frames → Result Pass BadFrame → Type 0
 Begins s (Ok p) = IsReady s p
 Begins s (Err e) = list_error s.relocations ≡ Some e
 
--- where the walk goes on, it is behind what was found
+-- if the walk continues, it is after what was found
 pub record GoesOn (s : Frames) (from : State) (p q : Pass) : Type 0 where
   pub on : IsOn s q (after from (found s from))
   pub further : p.at < q.at
   pub within : q.at ≤ length s.bytes
 
--- a step of it
+-- one step of the walk
 pub record IsPassed (s : Frames) (from : State) (p q : Pass) (f : Found) : Type 0 where
   pub is : f ≡ brief (found s from)
   pub next : IsNext s from (after from (found s from)) (found s from)

@@ -1,6 +1,6 @@
--- A reader of frames, which goes by lengths (LSB, "The .eh_frame section").
---   IsRead bytes e             an entry of that size and id stands at its place
---   AreRead bytes at es end    entries stand one behind the other from there to an end
+-- A reader of frames that follows the lengths (LSB, "The .eh_frame section").
+--   IsRead bytes e             an entry of that size and id is at its offset
+--   AreRead bytes at es end    the entries follow each other from there to an end
 use Rattle.std.specs.Prelude.{◌≡◌, ℕ, ◌+◌, ◌<◌, ◌≤◌, ◌⊎◌, ◌==◌, ◌||◌, Bool, true, false, List, [], ◌∷◌, length, map, take, drop, All, Contains, slice_index}
 use Rattle.std.specs.List.{filter, flat_map}
 use Rattle.wild_words.specs.Words.{number_at, Stands}
@@ -47,12 +47,12 @@ abbrev pub is_loaded : Target → Bool
 is_loaded target.Loaded = true
 is_loaded _ = false
 
--- a CIE is kept, and an FDE whose first relocation stands at its PC Begin and names what is loaded
+-- a CIE is kept, and an FDE whose first relocation is at its PC Begin and has a loaded target
 abbrev pub is_kept : Frames → Entry → Bool
 is_kept s e = (e.id == 0) || is_loaded (target_first s.target (e.at + 8) (relocations_in e.at (e.at + e.size) s.relocations))
 
--- the kept entries are those that are to be kept among the entries that a reader of the input finds: where there is no fault,
--- all entries
+-- of the entries that a reader of the input finds, those are kept for which is_kept holds; if there is no fault, the reader finds all
+-- entries
 pub record AreFiltered (s : Frames) : Type 0 where
   pub entries : List Entry
   pub end : ℕ
@@ -63,9 +63,9 @@ pub record AreFiltered (s : Frames) : Type 0 where
 abbrev pub KeptAreFiltered : Type 0
 KeptAreFiltered = (s : Frames) → AreFiltered s
 
--- ---- where they stand
+-- ---- their offsets
 
--- entries one behind the other, from an offset on
+-- consecutive entries, from an offset on
 abbrev pub LieFrom : ℕ → List KeptEntry → Type 0
 LieFrom to [] = Unit {0}
 LieFrom to (k ∷ ks) = (k.to ≡ to) × LieFrom (to + k.size) ks
@@ -74,7 +74,7 @@ abbrev pub tail_found : Frames → Found → List ℕ
 tail_found s (finds.Tail from) = tail_of (drop from s.bytes)
 tail_found s _ = []
 
--- kept entries have no gap between them, and behind them stand the last bytes alone
+-- kept entries have no gap between them, and only the last bytes follow them
 pub record HaveNoGaps (s : Frames) : Type 0 where
   pub lie : LieFrom 0 (kept_in s)
   pub sum : length (frame_bytes s) ≡ total (λ k. k.size) (kept_in s) + length (flat_map (tail_found s) (found_in s))
@@ -83,11 +83,11 @@ pub record HaveNoGaps (s : Frames) : Type 0 where
 abbrev pub EntriesHaveNoGaps : Type 0
 EntriesHaveNoGaps = (s : Frames) → HaveNoGaps s
 
--- a kept entry as a reader is to find it, where the kept bytes begin at a base
+-- a kept entry as a reader finds it, if the kept bytes begin at offset base
 abbrev pub shown : ℕ → KeptEntry → Entry
 shown base k = record { at = base + k.to; size = k.size; id = k.id }
 
--- the length word and the id of each kept entry stand in an image
+-- the length word and the id of each kept entry are in an image
 abbrev pub HeadsStand : Frames → List ℕ → ℕ → Type 0
 HeadsStand s image base = All (λ k. Stands image (base + k.to) (take 8 (entry_bytes s k))) (kept_in s)
 
@@ -95,9 +95,9 @@ abbrev pub EntriesAreRead : Type 0
 EntriesAreRead = (s : Frames) (image : List ℕ) (base : ℕ) → All (λ b. b < 256) s.bytes → base + length (frame_bytes s) ≤ length image → HeadsStand s image base
     → AreRead image base (map (shown base) (kept_in s)) (base + total (λ k. k.size) (kept_in s))
 
--- ---- what is in them
+-- ---- their contents
 
--- the id of a CIE is 0, as the input's; that of an FDE leads to the CIE that the input's led to
+-- the id of an FDE leads to the CIE to which the input's id led; that of a CIE is 0, as in the input
 pub record LeadsToCie (s : Frames) (kept : List KeptEntry) (k : KeptEntry) : Type 0 where
   pub cie : KeptEntry
   pub listed : Contains kept cie
@@ -113,14 +113,14 @@ Leads s kept k = (number_at s.bytes (k.from + 4) 4 ≡ 0) × (k.id ≡ 0) ⊎ Le
 abbrev pub IdsLead : Type 0
 IdsLead = (s : Frames) → All (Leads s (kept_in s)) (kept_in s)
 
--- the fields of an FDE stand behind its id
+-- the fields of an FDE are after its id
 abbrev pub SparesId : Frames → KeptEntry → Type 0
 SparesId s k = (k.id ≡ 0) ⊎ All (λ r. k.from + 8 ≤ r.offset) (relocations_in k.from (k.from + k.size) s.relocations)
 
 abbrev pub FieldsSpareIds : Type 0
 FieldsSpareIds = (s : Frames) → All (SparesId s) (kept_in s)
 
--- each byte of a kept entry is the input's, but those of an FDE's id
+-- each byte of a kept entry is the input's, except for those of an FDE's id
 abbrev pub OthersAreInput : Type 0
 OthersAreInput = (s : Frames) (k : KeptEntry) (i : ℕ) → Contains (kept_in s) k → i < k.size → (k.id ≡ 0) ⊎ ((i < 4) ⊎ (8 ≤ i))
     → slice_index (frame_bytes s) (k.to + i) ≡ slice_index s.bytes (k.from + i)

@@ -1,4 +1,4 @@
--- What a walk in the code keeps, and what is known of what it finds.
+-- The invariants of a walk in the code, and the properties of what it finds.
 use Rattle.std.specs.Prelude.{◌≡◌, [], ◌∷◌, if◌then◌else◌, Result, Ok, Err, ℕ, ◌+◌, ◌<◌, ◌≤◌, ◌++◌, nat_le, List, take, drop, length, All, AllPairs, None, Some}
 use Rattle.std.specs.List.{filter, flat_map}
 use Rattle.wild_types.specs.declared.input.InputRelocation.{InputRelocation}
@@ -18,17 +18,17 @@ state_of w = record { at = w.at; to = w.to; cies = w.cies.items }
 abbrev pub spot_state : Spot → State
 spot_state p = record { at = p.at; to = p.to; cies = p.cies.now }
 
--- relocations in order of their offsets
+-- relocations sorted by their offsets
 pub record IsSorted (rs : List InputRelocation) : Type 0 where
   pub reach : ℕ
   pub none : unsorted_in reach rs ≡ None
 
--- CIEs in order, each before a place in the input
+-- CIEs in ascending order, each before an offset of the input
 pub record AreMet (at : ℕ) (cies : List Cie) : Type 0 where
   pub ascend : AllPairs (λ c d. c.from < d.from) cies
   pub before : All (λ c. c.from < at) cies
 
--- a walk is somewhere in a section: j is the first relocation from there on
+-- the state of a walk fits a section: j is the index of the first relocation from its offset on
 pub record Fits (s : Frames) (st : State) (j : ℕ) : Type 0 where
   pub within : st.at ≤ length s.bytes
   pub shrinks : st.to ≤ st.at
@@ -37,13 +37,13 @@ pub record Fits (s : Frames) (st : State) (j : ℕ) : Type 0 where
   pub sorted : IsSorted (drop j s.relocations)
   pub met : AreMet st.at st.cies
 
--- the n relocations from the j-th on are those of an entry, and those behind it follow
+-- the n relocations from the j-th on are those of an entry, and the relocations after its end follow
 pub record IsOwn (s : Frames) (at end j n : ℕ) : Type 0 where
   pub counted : j + n ≤ length s.relocations
   pub own : take n (drop j s.relocations) ≡ relocations_in at end s.relocations
   pub behind : drop (j + n) s.relocations ≡ filter (λ r. nat_le end r.offset) s.relocations
 
--- a field lies in an entry of that place and size
+-- a field is within an entry of that offset and size
 pub record FieldLies (s : Frames) (from size : ℕ) (r : InputRelocation) : Type 0 where
   pub behind : from ≤ r.offset
   pub within : r.offset + s.width r ≤ from + size
@@ -53,18 +53,18 @@ pub record KeptLies (s : Frames) (k : KeptEntry) : Type 0 where
   pub within : k.from + k.size ≤ length s.bytes
   pub fields : All (FieldLies s k.from k.size) (relocations_in k.from (k.from + k.size) s.relocations)
 
--- what is found lies in the section, a kept entry's fields in it
+-- what is found is within the section, and so are a kept entry's fields within the entry
 abbrev pub Lies : Frames → Found → Type 0
 Lies s (finds.Kept k) = KeptLies s k
 Lies s (finds.Tail from) = from ≤ length s.bytes
 Lies s _ = Unit {0}
 
--- no kept entry moves further on
+-- no kept entry moves to a higher offset
 abbrev pub MovesBack : Found → Type 0
 MovesBack (finds.Kept k) = k.to ≤ k.from
 MovesBack _ = Unit {0}
 
--- the relocations are those of the entry that is kept
+-- the relocations are those of the kept entry
 abbrev pub AreOwn : Frames → List InputRelocation → Found → Type 0
 AreOwn s own (finds.Kept k) = own ≡ relocations_in k.from (k.from + k.size) s.relocations
 AreOwn s own _ = Unit {0}
@@ -79,11 +79,11 @@ abbrev pub Starts : Frames → Result Walk BadFrame → Type 0
 Starts s (Ok w) = IsAtStart s w
 Starts s (Err e) = list_error s.relocations ≡ Some e
 
--- what a step found is the first of what there is, and the rest is what there is from its end on
+-- what a step found is the first item from there on, and the rest is what is found from its end on
 abbrev pub IsNext : Frames → State → State → Found → Type 0
 IsNext s from to f = rest_of s from ≡ f ∷ (if goes_on f then rest_of s to else [])
 
--- so much of a section's bytes is written as the walk has passed, and no fault was met
+-- the output for all that the walk has passed is written, and no fault was found there
 pub record IsWritten (s : Frames) (w : Walk) (out : List ℕ) : Type 0 where
   pub fits : Fits s (state_of w) w.relocation
   pub room : w.to ≤ length out

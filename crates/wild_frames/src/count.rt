@@ -1,4 +1,4 @@
-//! How many bytes and FDEs are kept, without writing them.
+//! Counts the kept bytes and FDEs of a section without writing them.
 ghost use Rattle.std.specs.Prelude.{◌≡◌, length};
 ghost use Rattle.std.specs.List.{flat_map};
 ghost use Rattle.wild_frames.specs.Frames.{start, rest_of, found_bytes, fde_of, fdes_in, frame_bytes};
@@ -9,16 +9,16 @@ use crate::frames::{FrameSource, byte_count};
 use crate::pass::Pass;
 use crate::write::{count_bytes, goes_on};
 
-/// What is kept of a section's frames.
+/// The sizes of the kept frames of a section.
 #[derive(Clone, Copy)]
 pub struct FrameCounts {
     /// The kept bytes.
     pub bytes: u64,
-    /// The kept FDEs, each an entry of the search table.
+    /// The number of kept FDEs. Each is an entry of the search table.
     pub fdes: u64,
 }
 
-/// How many entries of the search table there are for what was found.
+/// The number of search table entries for an item that was found: 1 for a kept FDE.
 fn count_fdes(found: &Found) -> u64
     ensures { result ≡ length (fde_of found.now) }
 {
@@ -28,7 +28,7 @@ fn count_fdes(found: &Found) -> u64
     }
 }
 
-/// What is kept from the start of a walk on.
+/// Counts the kept bytes and FDEs, from the start of a walk on.
 fn count_rest<F: FrameSource>(frames: &F, first: Pass) -> FrameCounts
     requires { IsReady (F.frames frames.now) first }
     ensures bytes { result.bytes ≡ length (flat_map (found_bytes (F.frames frames.now)) (rest_of (F.frames frames.now) start)) }
@@ -48,8 +48,8 @@ fn count_rest<F: FrameSource>(frames: &F, first: Pass) -> FrameCounts
     }
 }
 
-/// How many bytes are kept of a section's frames, and how many FDEs. The section's bytes are read once; nothing is written, and no
-/// memory is taken.
+/// Counts the bytes and the FDEs that are kept of a section's frames. Reads the section's bytes once, writes nothing and allocates
+/// no memory.
 pub fn count_frames<F: FrameSource>(frames: &F) -> FrameCounts
     ensures bytes { result.bytes ≡ length (frame_bytes (F.frames frames.now)) }
     ensures fdes { result.fdes ≡ length (fdes_in (F.frames frames.now)) }

@@ -2,7 +2,7 @@
 use std::alloc::AllocError;
 use wild_types::Why;
 
-/// A CIE that was met.
+/// A CIE that the walk has passed.
 #[derive(Clone, Copy)]
 pub struct Cie {
     /// Its offset in the input section.
@@ -16,31 +16,31 @@ pub struct Cie {
 pub struct KeptEntry {
     /// Its offset in the input section.
     pub from: u64,
-    /// Its bytes, the length word with them.
+    /// Its size in bytes, including the length word.
     pub size: u64,
     /// Its offset in the kept bytes.
     pub to: u64,
-    /// Its id there: 0 of a CIE, of an FDE the distance from its id word back to its CIE.
+    /// Its id in the kept bytes: 0 for a CIE; for an FDE the distance from its id word back to its CIE.
     pub id: u64,
 }
 
-/// What is wrong, and at which offset of the section: the entry's, or the relocation's.
+/// What is wrong, and at which offset of the section: that of the entry, or of the relocation.
 #[derive(Clone, Copy, Debug, PartialEq, Eq)]
 pub struct BadFrame {
     pub why: Why,
     pub offset: u64,
 }
 
-/// What stands at a place of a section.
+/// What a step of a walk finds at its offset.
 #[derive(Clone, Copy)]
 pub enum Found {
     /// A length of zero, which ends the section.
     End,
-    /// Fewer than 8 last bytes, from there on.
+    /// Fewer than 8 bytes remain, from that offset on.
     Tail { from: u64 },
     /// An entry with a fault.
     Bad { why: Why, offset: u64 },
-    /// An FDE that is not kept, of so many bytes.
+    /// An FDE of that size in bytes, which is dropped.
     Dropped { size: u64 },
     Kept { entry: KeptEntry },
 }
@@ -49,7 +49,7 @@ pub enum Found {
 #[derive(Clone, Copy, Debug, PartialEq, Eq)]
 pub enum FrameError {
     Bad(BadFrame),
-    /// Memory was refused.
+    /// Out of memory.
     OutOfMemory,
 }
 

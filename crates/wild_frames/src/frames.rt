@@ -1,21 +1,21 @@
-//! What frames are read of.
+//! The interface through which frames are read.
 ghost use Rattle.std.specs.Prelude.{◌≡◌, length};
 ghost use Rattle.wild_frames.specs.Frames.{Frames};
 
 use wild_types::InputRelocation;
 
-/// What the symbol of a relocation is, as far as frames ask.
+/// Where the symbol of a relocation is defined, as far as it decides which FDEs are kept.
 #[derive(Clone, Copy)]
 pub enum Target {
-    /// No symbol, or one that stands in no input section.
+    /// The relocation has no symbol, or one that is in no input section.
     NoSection,
-    /// In an input section that has no address, or is of size 0.
+    /// In an input section that has no address, or has size 0.
     Discarded,
-    /// In an input section that has an address and a size.
+    /// In an input section that has an address and a size other than 0.
     Loaded,
 }
 
-/// An input section of frames, with what is known of its relocations.
+/// An input section of frames, its relocations, and the width and the target of each.
 pub trait FrameSource {
     ghost frames: { Self → Frames };
 
@@ -25,7 +25,7 @@ pub trait FrameSource {
     fn relocations(&self) -> &[InputRelocation]
         ensures { result.now ≡ (frames self.now).relocations };
 
-    /// The bytes of a relocation's field.
+    /// The width in bytes of a relocation's field.
     fn width(&self, relocation: &InputRelocation) -> usize
         ensures { result ≡ (frames self.now).width relocation.now };
 
@@ -33,7 +33,7 @@ pub trait FrameSource {
         ensures { result ≡ (frames self.now).target relocation.now };
 }
 
-/// How many bytes a section has.
+/// The size of a section in bytes.
 pub(crate) fn byte_count<F: FrameSource>(frames: &F) -> usize
     ensures { result ≡ length (F.frames frames.now).bytes }
 {

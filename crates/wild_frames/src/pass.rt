@@ -11,21 +11,21 @@ use crate::relocations::list_error;
 use crate::walk::{Spot, found};
 use wild_words::read_u32;
 
-/// Where a walk is that takes no memory. It finds what a `Walk` finds, but for the id of a kept FDE, since it does not know where the
-/// CIEs went.
+/// A walk that allocates no memory. It finds what a `Walk` finds, except for the id of a kept FDE, because it does not record where
+/// the CIEs were moved.
 #[derive(Clone, Copy)]
 pub struct Pass {
-    /// Its offset in the section.
+    /// The walk's offset in the section.
     pub at: u64,
-    /// The first relocation from there on.
+    /// The index of the first relocation from that offset on.
     pub relocation: usize,
     /// The offset of the next kept entry in the kept bytes.
     pub to: u64,
-    /// The offset of the last CIE that it met; 0 before it met one.
+    /// The offset of the last CIE that the walk has passed; 0 before the first.
     pub known: u64,
 }
 
-/// Whether reading by lengths from one offset comes to another.
+/// Whether a reader that follows the lengths from one offset reaches another.
 #[tactic(auto, unfolding(crate::specs::Passes::comes_to))]
 fn comes_to(bytes: &[u8], from: u64, to: u64) -> bool
     requires { to + 8 ≤ length bytes.now }
@@ -54,8 +54,8 @@ impl Pass {
         })
     }
 
-    /// Whether a CIE stands at an offset before the walk's. The last one is known, and so is the first; to come to another takes as
-    /// many reads as there are entries between.
+    /// Whether a CIE is at an offset before the walk's. The last CIE and the first are known; reaching another takes one read for
+    /// each entry between.
     fn has_cie(&self, bytes: &[u8], from: u64) -> bool
         requires known { IsBoundary bytes.now self.now.known }
         requires from { from < self.now.at }
@@ -66,7 +66,7 @@ impl Pass {
         comes_to(bytes, first, from) && read_u32(bytes, from as usize + 4) == 0
     }
 
-    /// Whether there is one so far back from the id word of what stands where the walk is.
+    /// Whether a CIE is `id` bytes before the id word of the entry at the walk's offset.
     fn has_cie_back(&self, bytes: &[u8], id: u64) -> bool
         requires known { IsBoundary bytes.now self.now.known }
         requires room { self.now.at + 8 ≤ length bytes.now }
@@ -75,7 +75,7 @@ impl Pass {
         4 < id && id <= self.at + 4 && self.has_cie(bytes, self.at + 4 - id)
     }
 
-    /// What stands where the walk is, with the number of its relocations.
+    /// What the walk finds at its offset, with the number of its relocations.
     fn look<F: FrameSource>(&self, frames: &F) -> (Found, usize)
         requires fits { Fits (F.frames frames.now) (bare_state self.now) self.now.relocation }
         requires known { IsBoundary (F.frames frames.now).bytes self.now.known }
@@ -107,7 +107,7 @@ impl Pass {
         found(frames, &spot)
     }
 
-    /// Behind what was found.
+    /// Moves the walk past what was found.
     fn pass(&mut self, found: &Found, count: usize)
         requires room { goes_on found.now ≡ true → (after (bare_state self.old) found.now).at < 2 ^ 64 }
         requires shrinks { self.old.to ≤ self.old.at }
@@ -135,8 +135,9 @@ impl Pass {
         }
     }
 
-    /// What stands where the walk is, but for the id of a kept FDE, which is not 0; the walk is behind it then. All steps over a
-    /// section together take one pass over its entries and relocations, where each FDE is of the last CIE before it or of the first.
+    /// Returns what is found at the walk's offset, and moves the walk past it. The id of a kept FDE is not computed; it is some number
+    /// other than 0. If each FDE belongs to the last CIE before it or to the first, all steps over a section take one pass over its
+    /// entries and relocations.
     pub fn step<F: FrameSource>(&mut self, frames: &F) -> Found
         requires { IsWithin (F.frames frames.now) self.old }
         ensures { (st : State) → IsOn (F.frames frames.now) self.old st → IsPassed (F.frames frames.now) st self.old self.new result }

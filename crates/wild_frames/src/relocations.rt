@@ -24,7 +24,7 @@ fn malformed_in(relocations: &[InputRelocation]) -> Option<BadFrame>
     None
 }
 
-/// The first that stands before the one in front of it.
+/// The first relocation whose offset is below that of the relocation before it.
 #[tactic(auto, unfolding(crate::specs::Frames::unsorted_in))]
 fn unsorted_in(relocations: &[InputRelocation]) -> Option<BadFrame>
     ensures { result ≡ unsorted_in 0 relocations.now }
@@ -43,7 +43,7 @@ fn unsorted_in(relocations: &[InputRelocation]) -> Option<BadFrame>
     None
 }
 
-/// The fault of a list of relocations.
+/// The fault of a list of relocations, if it has one.
 #[tactic(auto, unfolding(crate::specs::Frames::list_error))]
 pub(crate) fn list_error(relocations: &[InputRelocation]) -> Option<BadFrame>
     ensures { result ≡ list_error relocations.now }
@@ -54,7 +54,7 @@ pub(crate) fn list_error(relocations: &[InputRelocation]) -> Option<BadFrame>
     }
 }
 
-/// How many relocations stand before an offset: those of one entry, so that all entries together take one pass.
+/// The number of relocations before an offset: those of one entry, so that all entries together take one pass.
 pub(crate) fn count_before(rest: &[InputRelocation], end: u64) -> usize
     requires { IsSorted rest.now }
     ensures within { result ≤ length rest.now }
@@ -69,7 +69,7 @@ pub(crate) fn count_before(rest: &[InputRelocation], end: u64) -> usize
     rest.len()
 }
 
-/// What an FDE is of, by its first relocation, where that stands at `at`.
+/// Where the code of an FDE is, by its first relocation if that is at offset `at` (the PC Begin); else `Discarded`.
 pub(crate) fn target_first<F: FrameSource>(frames: &F, at: u64, own: &[InputRelocation]) -> Target
     ensures { result ≡ target_first (F.frames frames.now).target at own.now }
 {

@@ -1,11 +1,11 @@
-//! What an unwinder asks the search table.
+//! Look-ups in the search table, as an unwinder makes them.
 ghost use Rattle.std.specs.Prelude.{◌≡◌, ◌<◌, ◌≤◌, ◌+◌, ◌*◌, length, OnErr};
 ghost use Rattle.wild_frames.specs.Table.{rank, count_in, nth_entry, IsInOrder, IsOrdered, IsLastBefore, RanksAreOrdered, TableIsInOrder, FdeIsFound};
 
 use crate::table::rank;
 use wild_records::{EhFrameHdr, EhFrameHdrEntry, eh_frame_hdr_entry_is_read};
 
-/// The entry at a place of a table.
+/// The entry of a table with that index.
 fn nth_entry(table: &[u8], index: usize) -> EhFrameHdrEntry
     requires { 12 + 8 * index + 8 ≤ length table.now }
     ensures { result ≡ nth_entry table.now index }
@@ -13,15 +13,15 @@ fn nth_entry(table: &[u8], index: usize) -> EhFrameHdrEntry
     EhFrameHdrEntry::read(table, EhFrameHdr::SIZE + EhFrameHdrEntry::SIZE * index)
 }
 
-/// How many entries a table has.
+/// The number of entries of a table.
 fn count_entries(table: &[u8]) -> usize
     ensures { result ≡ count_in table.now }
 {
     table.len().saturating_sub(EhFrameHdr::SIZE) / EhFrameHdrEntry::SIZE
 }
 
-/// Whether the entries of a table are in order, as a search by halves wants them: else the number of the first one that comes before the
-/// one ahead of it. Linear, without memory.
+/// Checks that the entries of a table are in order, as a binary search requires. If not, returns the index of the first entry that is
+/// below the one before it. Linear; allocates no memory.
 #[tactic(auto, using(crate::proofs::TableLemmas::ordered_first, crate::proofs::TableLemmas::ordered_more, crate::proofs::TableLemmas::ordered_all, crate::proofs::TableLemmas::out_at, crate::proofs::TableLemmas::not_in_order))]
 pub fn check_order(table: &[u8]) -> Result<(), usize>
     ensures told { IsOrdered table.now result }
@@ -38,7 +38,7 @@ pub fn check_order(table: &[u8]) -> Result<(), usize>
     Ok(())
 }
 
-/// The last entry of a table that stands at or before a place counted from its header, by halves.
+/// The last entry of a table whose code, relative to the header, begins at or before `code`. A binary search.
 pub fn look_up(table: &[u8], code: i32) -> Option<EhFrameHdrEntry>
     requires { IsInOrder table.now }
     ensures { IsLastBefore (rank code) table.now result }
@@ -61,8 +61,8 @@ pub fn look_up(table: &[u8], code: i32) -> Option<EhFrameHdrEntry>
     }
 }
 
-/// A table that was written is in order, as a search by halves wants it, and a search for an address in the code of an FDE
-/// finds that FDE, where no two have an address of code in common.
+/// A table that was written is in order, as a binary search requires. If no two FDEs cover a common address of code, a search for an
+/// address that an FDE covers finds that FDE.
 pub fn tables_are_searched()
     ensures ranks { RanksAreOrdered }
     ensures order { TableIsInOrder }

@@ -19,7 +19,7 @@ use wild_records::{EhFrameHdr, EhFrameHdrEntry};
 /// A kept FDE.
 #[derive(Clone, Copy)]
 pub struct Fde {
-    /// The address where the code begins that it is of.
+    /// The address at which its code begins.
     pub code: u64,
     /// Its own address.
     pub address: u64,
@@ -28,9 +28,9 @@ pub struct Fde {
 /// Why a table was not written.
 #[derive(Clone, Copy, Debug, PartialEq, Eq)]
 pub enum TableError {
-    /// An address is further from the header than four signed bytes tell: their distance, modulo 2^64.
+    /// The distance of an address from the header does not fit a signed 32-bit field: the distance, modulo 2^64.
     FrameOffsetOverflow { value: u64 },
-    /// Memory was refused.
+    /// Out of memory.
     OutOfMemory,
 }
 
@@ -56,7 +56,7 @@ impl<T: Drop> From<AllocFailed<T>> for TableError {
     }
 }
 
-/// From one address to another, in 32 bits.
+/// The distance from one address to another, in 32 bits.
 fn distance(from: u64, to: u64) -> Result<i32, TableError>
     ensures faults { Answers result (far from to) }
     ensures value { IfOk result (λ d. d ≡ distance from to) }
@@ -71,14 +71,14 @@ fn distance(from: u64, to: u64) -> Result<i32, TableError>
     Ok((to as i128 - from as i128) as i32)
 }
 
-/// Numbers in the order of signed ones.
+/// Maps signed numbers to unsigned ones in the same order.
 pub(crate) fn rank(value: i32) -> u32
     ensures { result ≡ rank value }
 {
     value.cast_unsigned().wrapping_add(0x8000_0000)
 }
 
-/// The entry of an FDE.
+/// The search table entry of an FDE.
 fn entry_of(header: u64, fde: Fde) -> Result<EhFrameHdrEntry, TableError>
     ensures faults { Answers result (far_fde header fde) }
     ensures value { IfOk result (λ e. e ≡ entry_of header fde) }
@@ -91,7 +91,7 @@ fn entry_of(header: u64, fde: Fde) -> Result<EhFrameHdrEntry, TableError>
     })
 }
 
-/// The entries of FDEs, in their order.
+/// The search table entries of FDEs, in their order.
 fn entries_of(alloc: Global, header: u64, fdes: &[Fde]) -> Result<Vec<EhFrameHdrEntry>, TableError>
     ensures faults { Answers result (flat_map (far_fde header) fdes.now) }
     ensures value { IfOk result (λ v. v.items ≡ map (entry_of header) fdes.now) }
@@ -106,8 +106,7 @@ fn entries_of(alloc: Global, header: u64, fdes: &[Fde]) -> Result<Vec<EhFrameHdr
     Ok(entries)
 }
 
-/// Puts entries in order of their code, those of one place in the order that they had. Time n log n on as many threads as there
-/// are processors.
+/// Sorts entries by the start of their code; the sort is stable. Time n log n, on as many threads as there are processors.
 pub fn sort_eh_frame_hdr_entries(
     rt: &(impl Threads + Sync),
     alloc: Global,
@@ -127,7 +126,7 @@ pub fn sort_eh_frame_hdr_entries(
     )
 }
 
-/// The header of the table into the front of its bytes, or the fault that the frames are too far from it.
+/// Writes the header to the start of the table's bytes, or returns the fault that the frames are too far from it.
 pub fn write_eh_frame_hdr(
     header: u64,
     eh_frame: u64,
@@ -152,7 +151,7 @@ pub fn write_eh_frame_hdr(
     Ok(())
 }
 
-/// An entry into a table.
+/// Writes one entry to a table.
 fn put_entry(entry: &EhFrameHdrEntry, at: usize, out: &mut [u8])
     requires { at + 8 ≤ length out.old }
     ensures { take (at + 8) out.new ≡ take at out.old ++ entry_bytes entry.now }
@@ -160,7 +159,7 @@ fn put_entry(entry: &EhFrameHdrEntry, at: usize, out: &mut [u8])
     entry.put(&mut out[at..at + EhFrameHdrEntry::SIZE]);
 }
 
-/// The entries behind the header.
+/// Writes the entries after the header.
 fn put_entries(entries: &[EhFrameHdrEntry], out: &mut [u8])
     requires { length out.old ≡ 12 + 8 * length entries.now }
     ensures { out.new ≡ take 12 out.old ++ flat_map entry_bytes entries.now }
@@ -170,7 +169,7 @@ fn put_entries(entries: &[EhFrameHdrEntry], out: &mut [u8])
     }
 }
 
-/// The entries behind the header, in order of their code.
+/// Writes the entries after the header, sorted by the start of their code.
 fn put_sorted(
     rt: &(impl Threads + Sync),
     alloc: Global,
@@ -187,7 +186,7 @@ fn put_sorted(
     Ok(())
 }
 
-/// The search table of the FDEs that are kept, or the first distance that is too far.
+/// Writes the search table of the kept FDEs, or returns the first distance that is too far.
 pub fn write_search_table(
     rt: &(impl Threads + Sync),
     alloc: Global,

@@ -10,33 +10,33 @@ use std::alloc::{AllocError, Global};
 use wild_types::{InputRelocation, Why};
 use wild_words::read_u32;
 
-/// Where a walk is.
+/// The state of a walk.
 #[derive(Drop)]
 pub struct Walk {
-    /// Its offset in the section.
+    /// The walk's offset in the section.
     pub at: u64,
-    /// The first relocation from there on.
+    /// The index of the first relocation from that offset on.
     pub relocation: usize,
     /// The offset of the next kept entry in the kept bytes.
     pub to: u64,
-    /// The CIEs that it met.
+    /// The CIEs that the walk has passed.
     pub cies: Vec<Cie>,
 }
 
-/// Where frames are read.
+/// The position at which frames are read.
 #[derive(Clone, Copy)]
 pub(crate) struct Spot<'a> {
-    /// Its offset in the section.
+    /// The offset in the section.
     pub(crate) at: u64,
-    /// The first relocation from there on.
+    /// The index of the first relocation from that offset on.
     pub(crate) relocation: usize,
     /// The offset of the next kept entry in the kept bytes.
     pub(crate) to: u64,
-    /// CIEs before it, among which an FDE's is.
+    /// The CIEs before the offset, among which an FDE's CIE is looked up.
     pub(crate) cies: &'a [Cie],
 }
 
-/// The new place of the CIE that stands at an offset. Time log n.
+/// The offset in the kept bytes of the CIE at offset `from`. Time log n.
 fn cie_at(from: u64, cies: &[Cie]) -> Option<u64>
     requires { AllPairs (λ c d. c.from < d.from) cies.now }
     ensures { result ≡ cie_at from cies.now }
@@ -49,7 +49,7 @@ fn cie_at(from: u64, cies: &[Cie]) -> Option<u64>
     }
 }
 
-/// The new place of the CIE so far back from an id word.
+/// The offset in the kept bytes of the CIE that is `id` bytes before offset `at` (of the id word).
 fn cie_back(at: u64, id: u64, cies: &[Cie]) -> Option<u64>
     requires { AllPairs (λ c d. c.from < d.from) cies.now }
     ensures { result ≡ cie_back at id cies.now }
@@ -61,7 +61,7 @@ fn cie_back(at: u64, id: u64, cies: &[Cie]) -> Option<u64>
     }
 }
 
-/// An entry that is kept, whose fields have to lie in it.
+/// A kept entry, if its fields are within it; else the fault.
 fn kept_if<F: FrameSource>(
     frames: &F,
     own: &[InputRelocation],
@@ -88,7 +88,7 @@ fn kept_if<F: FrameSource>(
     }
 }
 
-/// An FDE, by what it is of and by the new place of its CIE.
+/// An FDE, by the target of its PC Begin and by the new offset of its CIE.
 fn described<F: FrameSource>(
     frames: &F,
     own: &[InputRelocation],
@@ -121,7 +121,7 @@ fn described<F: FrameSource>(
     }
 }
 
-/// An entry of that id and size, with its relocations.
+/// An entry with that id and size, and its relocations.
 #[tactic(auto, unfolding(crate::specs::Frames::identified))]
 fn identified<F: FrameSource>(
     frames: &F,
@@ -143,7 +143,7 @@ fn identified<F: FrameSource>(
     described(frames, own, spot, size, target, cie)
 }
 
-/// How many relocations the entry has that ends there.
+/// The number of relocations of the entry that ends at `end`.
 fn count_own<F: FrameSource>(frames: &F, spot: &Spot<'_>, end: u64) -> usize
     requires fits { Fits (F.frames frames.now) (spot_state spot.now) spot.now.relocation }
     requires end { spot.now.at ≤ end }
@@ -187,7 +187,7 @@ fn sized<F: FrameSource>(frames: &F, spot: &Spot<'_>, size: u64) -> (Found, usiz
     (identified(frames, own, spot, size, id), count)
 }
 
-/// What stands there, with the number of its relocations.
+/// What is found at that position, with the number of its relocations.
 #[tactic(auto, unfolding(crate::specs::Frames::found))]
 pub(crate) fn found<F: FrameSource>(frames: &F, spot: &Spot<'_>) -> (Found, usize)
     requires fits { Fits (F.frames frames.now) (spot_state spot.now) spot.now.relocation }
@@ -223,7 +223,7 @@ impl Walk {
         })
     }
 
-    /// What stands where the walk is, with the number of its relocations.
+    /// What the walk finds at its offset, with the number of its relocations.
     fn look<F: FrameSource>(&self, frames: &F) -> (Found, usize)
         requires fits { Fits (F.frames frames.now) (state_of self.now) self.now.relocation }
         ensures found { result.0 ≡ found (F.frames frames.now) (state_of self.now) }
@@ -239,7 +239,7 @@ impl Walk {
         found(frames, &spot)
     }
 
-    /// Behind what was found.
+    /// Moves the walk past what was found.
     fn pass(&mut self, found: Found, count: usize) -> Result<(), AllocError>
         requires room { goes_on found ≡ true → (after (state_of self.old) found).at < 2 ^ 64 }
         requires shrinks { self.old.to ≤ self.old.at }
@@ -269,8 +269,8 @@ impl Walk {
         Ok(())
     }
 
-    /// What stands where the walk is; the walk is behind it then. All steps over a section together take one pass over
-    /// its entries and relocations, and a search by halves among the CIEs for each FDE.
+    /// Returns what is found at the walk's offset, and moves the walk past it. All steps over a section take one pass over its entries and
+    /// relocations, and for each FDE a binary search among the CIEs.
     pub fn step<F: FrameSource>(&mut self, frames: &F) -> Result<Found, AllocError>
         requires { Fits (F.frames frames.now) (state_of self.old) self.old.relocation }
         ensures found { IfOk result (λ f. f ≡ found (F.frames frames.now) (state_of self.old)) }

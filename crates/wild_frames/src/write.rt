@@ -12,7 +12,7 @@ use crate::walk::Walk;
 use std::alloc::{AllocError, Global};
 use wild_words::{put, read_u32};
 
-/// The low four bytes of an id.
+/// Writes the low four bytes of an id.
 #[tactic(auto, using(wild_words::proofs::WordLemmas::low_word_4))]
 fn put_id(room: &mut [u8], id: u64)
     requires { 8 ≤ length room.old }
@@ -21,7 +21,7 @@ fn put_id(room: &mut [u8], id: u64)
     put(room, 4, &id.to_le_bytes()[..4]);
 }
 
-/// A kept entry, with its new id.
+/// Writes a kept entry, with its new id.
 #[tactic(auto, unfolding(crate::specs::Frames::entry_bytes))]
 pub fn write_entry<F: FrameSource>(frames: &F, entry: &KeptEntry, room: &mut [u8])
     requires within { entry.now.from + entry.now.size ≤ length (F.frames frames.now).bytes }
@@ -36,7 +36,7 @@ pub fn write_entry<F: FrameSource>(frames: &F, entry: &KeptEntry, room: &mut [u8
     }
 }
 
-/// How many of the last bytes are copied.
+/// How many of the remaining bytes are copied.
 #[tactic(auto, unfolding(crate::specs::Frames::tail_of))]
 fn count_tail<F: FrameSource>(frames: &F, from: u64) -> usize
     requires { from ≤ length (F.frames frames.now).bytes }
@@ -49,7 +49,7 @@ fn count_tail<F: FrameSource>(frames: &F, from: u64) -> usize
     tail.len()
 }
 
-/// The last bytes of a section, from there on: four zeros are not copied.
+/// Copies the remaining bytes of a section, from offset `from` on. If they are four zeros they are not copied.
 #[tactic(auto, unfolding(crate::specs::Frames::tail_of))]
 fn write_tail<F: FrameSource>(frames: &F, from: u64, room: &mut [u8])
     requires from { from ≤ length (F.frames frames.now).bytes }
@@ -63,7 +63,7 @@ fn write_tail<F: FrameSource>(frames: &F, from: u64, room: &mut [u8])
     room.copy_from_slice(tail);
 }
 
-/// How many bytes stand for what was found.
+/// The size of the output for what was found, in bytes.
 pub(crate) fn count_bytes<F: FrameSource>(frames: &F, found: &Found) -> usize
     requires { Lies (F.frames frames.now) found.now }
     ensures { result ≡ length (found_bytes (F.frames frames.now) found.now) }
@@ -75,7 +75,7 @@ pub(crate) fn count_bytes<F: FrameSource>(frames: &F, found: &Found) -> usize
     }
 }
 
-/// What stands for what was found, or its fault.
+/// Writes the output for what was found, or returns its fault.
 fn write_found<F: FrameSource>(frames: &F, found: &Found, room: &mut [u8]) -> Result<(), FrameError>
     requires lies { Lies (F.frames frames.now) found.now }
     requires room { length room.old ≡ length (found_bytes (F.frames frames.now) found.now) }
@@ -96,7 +96,7 @@ fn write_found<F: FrameSource>(frames: &F, found: &Found, room: &mut [u8]) -> Re
     Ok(())
 }
 
-/// What stands for what was found, behind other bytes. The bytes of what is not kept are none.
+/// Appends the output for what was found: nothing if it is not kept.
 #[tactic(auto, unfolding(crate::specs::Frames::entry_bytes, crate::specs::Frames::tail_of))]
 pub fn add_found<F: FrameSource>(
     frames: &F,
@@ -125,14 +125,14 @@ pub fn add_found<F: FrameSource>(
     Ok(())
 }
 
-/// The length of zero that ends the frames of an output, behind other bytes.
+/// Appends the zero length that ends the frames of an output.
 pub fn write_eh_frame_terminator(out: &mut Vec<u8>) -> Result<(), AllocError>
     ensures { OnOk result (out.new.items ≡ out.old.items ++ terminator) }
 {
     out.extend_from_slice(&[0; 4])
 }
 
-/// The walk goes on behind what was found.
+/// Whether the walk continues after what was found.
 pub fn goes_on(found: &Found) -> bool
     ensures { result ≡ goes_on found.now }
 {
@@ -142,7 +142,7 @@ pub fn goes_on(found: &Found) -> bool
     }
 }
 
-/// One step of a walk, with what it writes: tells whether there is more.
+/// Takes one step of a walk and writes its output. Returns whether there is more.
 fn write_next<F: FrameSource>(
     frames: &F,
     walk: &mut Walk,
@@ -165,7 +165,7 @@ fn write_next<F: FrameSource>(
     }
 }
 
-/// The kept bytes from the start of a walk on.
+/// Writes the kept bytes, from the start of a walk on.
 fn write_frames<F: FrameSource>(frames: &F, first: Walk, out: &mut [u8]) -> Result<(), FrameError>
     requires first { IsAtStart (F.frames frames.now) first }
     requires room { length out.old ≡ length (flat_map (found_bytes (F.frames frames.now)) (rest_of (F.frames frames.now) start)) }
@@ -177,8 +177,8 @@ fn write_frames<F: FrameSource>(frames: &F, first: Walk, out: &mut [u8]) -> Resu
     Ok(())
 }
 
-/// The kept bytes of a section, before fields are written in them, or its first fault. One pass over the section's bytes
-/// and relocations, with a search by halves for each FDE; memory for the places of its CIEs.
+/// Writes the kept bytes of a section, before their fields are relocated, or returns the first fault. One pass over the section's bytes
+/// and relocations, with a binary search for each FDE. Allocates memory for the offsets of the CIEs.
 pub fn write_eh_frame_data<F: FrameSource>(
     alloc: Global,
     frames: &F,

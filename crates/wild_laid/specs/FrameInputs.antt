@@ -1,8 +1,8 @@
 -- The frames of input files (LSB, "The .eh_frame section").
---   section_target l s     what a symbol in that section is, as far as frames ask
---   target_of l f r        what the symbol of a relocation of file f is
---   frames_of l f s        the frames of an input section of file f; of one without data none
---   kept_size l f s        how many bytes of them are kept, and fde_count l f s how many FDEs
+--   section_target l s     where a symbol in that section is defined, as far as it decides which FDEs are kept
+--   target_of l f r        the target of a relocation of file f
+--   frames_of l f s        the frames of an input section of file f; empty for a section without data
+--   kept_size l f s        the number of bytes that are kept of them, and fde_count l f s the number of FDEs
 use Rattle.std.specs.Prelude.{ℕ, ◌+◌, ◌==◌, ◌&&◌, Bool, true, false, not, if◌then◌else◌, nat_le, nat_lt, List, [], length, Option, Some, None, slice_get}
 use Rattle.wild_types.specs.declared.symbol.Place.{Place}
 use Rattle.wild_types.specs.declared.symbol.Place.TheVariants as at
@@ -21,7 +21,7 @@ abbrev pub section_target : Layout → Option InputSection → Target
 section_target l None = target.NoSection
 section_target l (Some s) = if has_address l s && not (s.size == 0) then target.Loaded else target.Discarded
 
--- the file's range of symbols has symbol i
+-- the file's range of symbols contains symbol i
 abbrev pub has_symbol : File → ℕ → Bool
 has_symbol f i = nat_le f.first_symbol i && nat_lt i (f.first_symbol + f.symbol_count)
 
@@ -29,7 +29,7 @@ abbrev pub target_in : Layout → ℕ → Option File → Target
 target_in l k None = target.NoSection
 target_in l k (Some f) = section_target l (slice_get f.sections k)
 
--- the file of symbol i: file f where it is one of its own
+-- the file of symbol i: file f if it is one of its own, else the first file that contains it
 abbrev pub home_of : Layout → File → ℕ → Option File
 home_of l f i = if has_symbol f i then Some f else file_of (files_of l.groups) i
 
@@ -45,7 +45,7 @@ abbrev pub target_by : Layout → File → Option ℕ → Target
 target_by l f None = target.NoSection
 target_by l f (Some i) = symbol_target l f i (slice_get l.symbols i)
 
--- what the symbol of a relocation of file f is
+-- the target of a relocation of file f
 unfoldable pub target_of : Layout → File → InputRelocation → Target
 target_of l f r = target_by l f r.symbol
 
@@ -58,7 +58,7 @@ frames_of l f s = record {
   target = target_of l f;
 }
 
--- how many bytes are kept of a section of frames, and how many FDEs; of other sections none
+-- the number of bytes that are kept of a section of frames, and the number of FDEs; 0 for other sections
 unfoldable pub kept_size : Layout → File → InputSection → ℕ
 kept_size l f s = if is_frame s.slot then length (frame_bytes (frames_of l f s)) else 0
 

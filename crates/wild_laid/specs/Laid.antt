@@ -1,16 +1,16 @@
--- Input sections as they stand in the output.
---   kept_relocations fs     the relocations of the kept entries of frames, as the input has them
---   laid_relocations fs     the same at the entries' new places
---   framed l f at s         a section of frames as it stands: its kept entries one behind the other, from an address on
---   origins_of l f s        the relocations of a section as it stands, as the input has them
---   unread l s              of a relocatable object, a section without its relocations, which stand in a table of their own
---   tabled f s              a table of relocations: those of its target, at their places in the output
---   laid_section l f at s   a section of file f as it stands
---   laid_file l at f        a file with its sections so, whose frames begin at an address
---   file_frames l f         how many bytes of frames a file keeps
---   laid_files l g          the files of a group so: its frames stand one behind the other from where the group's begin
---   sorted_inputs l         the sections that stand in the order of `sorted`, each with its file
---   processed l f           the sections that a file's entries are made of: its own, and the last file's the sorted ones besides
+-- Placed input sections: input sections in the form that they have in the output.
+--   kept_relocations fs     the relocations of the kept entries of frames, at the input's offsets
+--   laid_relocations fs     the same at the entries' new offsets
+--   framed l f at s         a placed section of frames: its kept entries are consecutive, from an address on
+--   origins_of l f s        the relocations of a placed section, at the input's offsets
+--   unread l s              in a relocatable object, a section without its relocations, which are in a separate table
+--   tabled f s              a table of relocations: those of its target, at their offsets in the output
+--   laid_section l f at s   a placed section of file f
+--   laid_file l at f        a file with placed sections, whose frames begin at an address
+--   file_frames l f         the number of bytes of frames that a file keeps
+--   laid_files l g          the files of a group with placed sections: the frames are consecutive, from the start of the group's frames on
+--   sorted_inputs l         the sections that are placed in the order of `sorted`, each with its file
+--   processed l f           the sections for which a file writes entries: its own; for the last file also the sorted ones
 use Rattle.std.specs.Prelude.{ℕ, ◌+◌, ◌-◌, ◌%◌, ◌^◌, ◌&&◌, Bool, true, false, not, if◌then◌else◌, nat_le, nat_lt, List, [], ◌∷◌, ◌++◌, length, map, Option, Some, None, is_some, slice_get}
 use Rattle.std.specs.List.{flat_map}
 use Rattle.wild_records.specs.Abi.Section.{shf_write, shf_execinstr}
@@ -36,23 +36,23 @@ use Rattle.wild_laid.specs.FrameInputs.{frames_of, kept_size, fde_count}
 
 -- ---- frames
 
--- the relocations of a kept entry, as the input has them
+-- the relocations of a kept entry, at the input's offsets
 abbrev pub entry_relocations : Frames → KeptEntry → List InputRelocation
 entry_relocations fs k = relocations_in k.from (k.from + k.size) fs.relocations
 
--- a relocation of a kept entry at the entry's new place
+-- a relocation of a kept entry, at the entry's new offset
 abbrev pub moved_by : KeptEntry → InputRelocation → InputRelocation
 moved_by k r = record { offset = k.to + (r.offset - k.from); number = r.number; symbol = r.symbol; addend = r.addend; malformed = r.malformed }
 
--- those of all kept entries, as the input has them
+-- the relocations of all kept entries, at the input's offsets
 unfoldable pub kept_relocations : Frames → List InputRelocation
 kept_relocations fs = flat_map (entry_relocations fs) (kept_in fs)
 
--- and at the entries' new places
+-- the same at the entries' new offsets
 unfoldable pub laid_relocations : Frames → List InputRelocation
 laid_relocations fs = flat_map (λ k. map (moved_by k) (entry_relocations fs k)) (kept_in fs)
 
--- frames are data: the program does not write to them, and runs none of their bytes
+-- frames are read-only data: the program neither writes nor executes them
 abbrev pub without_write : ℕ → ℕ
 without_write flags = if writable flags then flags - shf_write else flags
 
@@ -77,14 +77,14 @@ framed_with s at fs = record {
   relocations = laid_relocations fs;
 }
 
--- a section of frames as it stands
+-- a placed section of frames
 abbrev pub framed : Layout → File → ℕ → InputSection → InputSection
 framed l f at s = framed_with s at (frames_of l f s)
 
 -- ---- relocatable objects
 
--- the bytes of a section of a relocatable object are those of the input, whatever relocations it has: they stand in a table of their own
--- (gABI, "Relocation")
+-- in a relocatable object a section has the input's bytes, whatever its relocations are: these are in a separate table (gABI,
+-- "Relocation")
 abbrev pub without_relocations : InputSection → InputSection
 without_relocations s = record {
   slot = s.slot;
@@ -106,12 +106,12 @@ without_relocations s = record {
 abbrev pub unread : Layout → InputSection → InputSection
 unread l s = if is_partial_link l.kind then without_relocations s else s
 
--- where the input section begins in its output section; a section that the object keeps by itself begins it
+-- the offset of an input section in its output section; 0 for one that the object keeps as a section of its own
 abbrev pub base_of : InputSection → ℕ
 base_of s = if is_some s.singleton then 0 else s.address
 
--- a relocation of a section that begins there in its output section (gABI, "Relocation": in a relocatable file r_offset is counted from
--- the beginning of the section)
+-- a relocation of a section that begins at offset base of its output section (gABI, "Relocation": in a relocatable file r_offset is
+-- counted from the beginning of the section)
 abbrev pub counted_from : ℕ → InputRelocation → InputRelocation
 counted_from base r = record { offset = (base + r.offset) % 2 ^ 64; number = r.number; symbol = r.symbol; addend = r.addend; malformed = r.malformed }
 
@@ -123,7 +123,7 @@ relocations_at (Some s) = map (counted_from (base_of s)) (as_turned s).relocatio
 abbrev pub target_relocations : File → InputSection → List InputRelocation
 target_relocations f s = relocations_at (slice_get f.sections s.target)
 
--- the table, with those
+-- a table of relocations, with those of its target
 abbrev pub tabled : File → InputSection → InputSection
 tabled f s = record {
   slot = slot.Rela;
@@ -142,13 +142,13 @@ tabled f s = record {
   relocations = target_relocations f s;
 }
 
--- the relocations of a section as it stands, as the input has them
+-- the relocations of a placed section, at the input's offsets
 abbrev pub origins_of : Layout → File → InputSection → List InputRelocation
 origins_of l f s = if is_frame s.slot then kept_relocations (frames_of l f s) else (unread l s).relocations
 
 -- ---- files
 
--- a section of file f as it stands, where the file's next frames stand at an address
+-- a placed section of file f; at is the address of the file's next frames
 abbrev pub laid_by : Slot → Layout → File → ℕ → InputSection → InputSection
 laid_by slot.Loaded l f at s = as_turned (unread l s)
 laid_by slot.Debug l f at s = as_turned s
@@ -159,7 +159,7 @@ laid_by other l f at s = s
 unfoldable pub laid_section : Layout → File → ℕ → InputSection → InputSection
 laid_section l f at s = laid_by s.slot l f at s
 
--- the address behind n bytes, modulo 2^64
+-- the address after n bytes, modulo 2^64
 abbrev pub behind : ℕ → ℕ → ℕ
 behind at n = (at + n) % 2 ^ 64
 
@@ -167,7 +167,7 @@ abbrev pub laid_sections : Layout → File → ℕ → List InputSection → Lis
 laid_sections l f at [] = []
 laid_sections l f at (s ∷ ss) = laid_section l f at s ∷ laid_sections l f (behind at (kept_size l f s)) ss
 
--- a file with its sections as they stand
+-- a file with placed sections
 abbrev pub laid_file : Layout → ℕ → File → File
 laid_file l at f = record {
   role = f.role;
@@ -181,7 +181,7 @@ laid_file l at f = record {
   verneed = f.verneed;
 }
 
--- how many bytes of frames a file keeps
+-- the number of bytes of frames that a file keeps
 abbrev pub file_frames : Layout → File → ℕ
 file_frames l f = total (kept_size l f) f.sections
 
@@ -193,15 +193,15 @@ abbrev pub part_address : Option Part → ℕ
 part_address None = 0
 part_address (Some p) = p.address
 
--- where the frames of a group begin
+-- the address at which the frames of a group begin
 abbrev pub frames_at : Layout → Group → ℕ
 frames_at l g = behind (part_address (part_with role.EhFrame l.parts)) g.eh_frame_start
 
--- the files of a group with their sections as they stand
+-- the files of a group with placed sections
 unfoldable pub laid_files : Layout → Group → List File
 laid_files l g = laid_from l (frames_at l g) g.files
 
--- how many FDEs all files keep
+-- the number of FDEs that all files keep
 abbrev pub all_fdes : Layout → ℕ
 all_fdes l = total (λ (g : Group). total (λ (f : File). total (fde_count l f) f.sections) g.files) l.groups
 
@@ -247,22 +247,22 @@ abbrev pub files_at : Option Group → List File
 files_at None = []
 files_at (Some g) = g.files
 
--- the section that is named, where it is a sorted one
+-- the section to which an entry of the sort order refers, if it is a sorted one
 unfoldable pub sorted_input : Layout → SortedSection → List Input
 sorted_input l x = sorted_in_group l (slice_get (files_at (slice_get l.groups x.group)) x.file) x.section
 
--- the sorted sections in their order, each with its file
+-- the sorted sections in sort order, each with its file
 abbrev pub sorted_inputs : Layout → List Input
 sorted_inputs l = flat_map (sorted_input l) l.sorted
 
--- as they stand
+-- the sorted sections as placed
 abbrev pub sorted_sections : Layout → List InputSection
 sorted_sections l = map (λ (x : Input). as_turned x.section) (sorted_inputs l)
 
--- they are the last file's
+-- the sorted sections belong to the last file
 abbrev pub of_last_file : {X : Type 0} → File → List X → List X
 of_last_file f xs = if is_epilogue f.role then xs else []
 
--- the sections whose entries a file writes, of a file whose sections are as they stand
+-- the sections for which a file writes entries, given a file with placed sections
 abbrev pub processed : Layout → File → List InputSection
 processed l f = f.sections ++ of_last_file f (sorted_sections l)

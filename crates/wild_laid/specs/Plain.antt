@@ -1,6 +1,6 @@
--- Files of which nothing moves.
---   StandsAsItIs s     the section is none of frames and no table of relocations, and its words are not reversed
---   StandAsTheyAre f   so is each of a file
+-- Files that are placed unchanged.
+--   StandsAsItIs s     the section holds no frames, is no table of relocations, and its words are not reversed
+--   StandAsTheyAre f   this holds for each section of a file
 use Rattle.std.specs.Prelude.{◌≡◌, ℕ, false, All}
 use Rattle.wild_types.specs.declared.input.InputSection.{InputSection}
 use Rattle.wild_types.specs.declared.file.File.{File}
@@ -10,7 +10,7 @@ use Rattle.wild_types.specs.Kinds.{is_partial_link}
 use Rattle.wild_types.specs.Lookups.{is_frame, is_rela}
 use Rattle.wild_laid.specs.Laid.{laid_file, laid_files}
 
--- the section is none of frames and no table of relocations, and its words are not reversed
+-- the section holds no frames, is no table of relocations, and its words are not reversed
 pub record StandsAsItIs (s : InputSection) : Type 0 where
   pub frame : is_frame s.slot ≡ false
   pub table : is_rela s.slot ≡ false
@@ -19,10 +19,10 @@ pub record StandsAsItIs (s : InputSection) : Type 0 where
 abbrev pub StandAsTheyAre : File → Type 0
 StandAsTheyAre f = All StandsAsItIs f.sections
 
--- such a file stands as it is, where the output is no relocatable object
+-- such a file is placed unchanged, unless the output is a relocatable object
 abbrev pub PlainFileStands : Type 0
 PlainFileStands = (l : Layout) (at : ℕ) (f : File) → is_partial_link l.kind ≡ false → StandAsTheyAre f → laid_file l at f ≡ f
 
--- and so do the files of a group
+-- the same for the files of a group
 abbrev pub PlainFilesStand : Type 0
 PlainFilesStand = (l : Layout) (g : Group) → is_partial_link l.kind ≡ false → All StandAsTheyAre g.files → laid_files l g ≡ g.files

@@ -1,4 +1,4 @@
-//! How much of frames is kept, without writing it.
+//! The sizes of kept frames, computed without writing them.
 ghost use Rattle.std.specs.Prelude.{◌≡◌, ◌-◌, ◌%◌, ◌^◌, min};
 ghost use Rattle.wild_types.specs.Lists.{total};
 ghost use Rattle.wild_types.specs.declared.part.Role.TheVariants as role;
@@ -10,7 +10,7 @@ use crate::frames::FileFrames;
 use wild_frames::count_frames;
 use wild_types::{File, Group, InputSection, Layout, Role, part_with};
 
-/// How many bytes are kept of a section of frames; of another none. Time linear in the section, no memory.
+/// The bytes that are kept of a section of frames; 0 for another section. Time linear in the section; allocates no memory.
 #[tactic(auto, unfolding(crate::specs::FrameInputs::kept_size))]
 pub fn kept_size(layout: &Layout, file: &File, section: &InputSection) -> u64
     ensures { result ≡ kept_size layout.now file.now section.now }
@@ -27,7 +27,7 @@ pub fn kept_size(layout: &Layout, file: &File, section: &InputSection) -> u64
     }
 }
 
-/// How many FDEs are kept of a section of frames; of another none.
+/// The number of FDEs that are kept of a section of frames; 0 for another section.
 #[tactic(auto, unfolding(crate::specs::FrameInputs::fde_count))]
 pub fn fde_count(layout: &Layout, file: &File, section: &InputSection) -> u64
     ensures { result ≡ fde_count layout.now file.now section.now }
@@ -44,7 +44,7 @@ pub fn fde_count(layout: &Layout, file: &File, section: &InputSection) -> u64
     }
 }
 
-/// How many bytes of frames a file keeps, modulo 2^64.
+/// The bytes of frames that a file keeps, modulo 2^64.
 pub fn file_frames(layout: &Layout, file: &File) -> u64
     ensures { result ≡ file_frames layout.now file.now % 2 ^ 64 }
 {
@@ -55,7 +55,7 @@ pub fn file_frames(layout: &Layout, file: &File) -> u64
     bytes
 }
 
-/// How many FDEs a file keeps; 2^64 - 1 where they are more.
+/// The number of FDEs that a file keeps; 2^64 - 1 if there are more.
 fn file_fdes(layout: &Layout, file: &File) -> u64
     ensures { result ≡ min (2 ^ 64 - 1) (total (fde_count layout.now file.now) file.now.sections) }
 {
@@ -66,7 +66,7 @@ fn file_fdes(layout: &Layout, file: &File) -> u64
     count
 }
 
-/// The same of a group.
+/// The number of FDEs that a group keeps; 2^64 - 1 if there are more.
 fn group_fdes(layout: &Layout, group: &Group) -> u64
     ensures { result ≡ min (2 ^ 64 - 1) (total (λ f. total (fde_count layout.now f) f.sections) group.now.files) }
 {
@@ -77,7 +77,7 @@ fn group_fdes(layout: &Layout, group: &Group) -> u64
     count
 }
 
-/// How many FDEs all files keep; 2^64 - 1 where they are more.
+/// The number of FDEs that all files keep; 2^64 - 1 if there are more.
 pub fn all_fdes(layout: &Layout) -> u64
     ensures { result ≡ min (2 ^ 64 - 1) (all_fdes layout.now) }
 {
@@ -88,7 +88,7 @@ pub fn all_fdes(layout: &Layout) -> u64
     count
 }
 
-/// Where the frames of a group begin, modulo 2^64.
+/// The address at which the frames of a group begin, modulo 2^64.
 pub fn frames_at(layout: &Layout, group: &Group) -> u64
     ensures { result ≡ frames_at layout.now group.now }
 {

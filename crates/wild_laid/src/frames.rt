@@ -16,7 +16,7 @@ pub struct FileFrames<'a> {
     pub section: &'a InputSection,
 }
 
-/// What a symbol in that input section is, as far as frames ask.
+/// Where a symbol in that input section is defined, as far as it decides which FDEs are kept.
 fn section_target(layout: &Layout, section: &InputSection) -> Target
     ensures { result ≡ section_target layout.now (Some section.now) }
 {
@@ -27,7 +27,7 @@ fn section_target(layout: &Layout, section: &InputSection) -> Target
     }
 }
 
-/// The same of the section at that place of a file.
+/// As `section_target`, for the file's section number `place`.
 fn target_in(layout: &Layout, place: usize, file: &File) -> Target
     ensures { result ≡ target_in layout.now place (Some file.now) }
 {
@@ -37,7 +37,7 @@ fn target_in(layout: &Layout, place: usize, file: &File) -> Target
     }
 }
 
-/// Whether the file's range of symbols has the symbol.
+/// Whether the file's range of symbols contains the symbol.
 fn has_symbol(file: &File, symbol: SymbolIndex) -> bool
     ensures { result ≡ has_symbol file.now symbol }
 {
@@ -45,7 +45,7 @@ fn has_symbol(file: &File, symbol: SymbolIndex) -> bool
     file.first_symbol.0 <= symbol.0 && (symbol.0 as u128) < end
 }
 
-/// The first of the files whose range of symbols has the symbol.
+/// The first of the files whose range of symbols contains the symbol.
 fn find_file(files: &[File], symbol: SymbolIndex) -> Option<&File>
     ensures { option_copied result ≡ file_of files.now symbol }
 {
@@ -57,7 +57,7 @@ fn find_file(files: &[File], symbol: SymbolIndex) -> Option<&File>
     None
 }
 
-/// The first file of the layout whose range has it.
+/// The first file of the layout whose range of symbols contains the symbol.
 fn file_of(layout: &Layout, symbol: SymbolIndex) -> Option<&File>
     ensures { option_copied result ≡ file_of (files_of layout.now.groups) symbol }
 {
@@ -70,7 +70,7 @@ fn file_of(layout: &Layout, symbol: SymbolIndex) -> Option<&File>
     None
 }
 
-/// What a symbol of another file is.
+/// The target for a symbol of another file, in section number `place` of that file.
 fn target_beyond(layout: &Layout, symbol: SymbolIndex, place: usize) -> Target
     ensures { result ≡ target_in layout.now place (file_of (files_of layout.now.groups) symbol) }
 {
@@ -80,7 +80,7 @@ fn target_beyond(layout: &Layout, symbol: SymbolIndex, place: usize) -> Target
     }
 }
 
-/// What a symbol in a section is. A symbol of the file itself is found without a search; for another the files are searched.
+/// The target for a symbol in section number `place` of its file. If the symbol is not the file's own, all files are searched.
 fn target_of_place(layout: &Layout, file: &File, symbol: SymbolIndex, place: usize) -> Target
     ensures { result ≡ target_in layout.now place (home_of layout.now file.now symbol) }
 {
@@ -91,7 +91,7 @@ fn target_of_place(layout: &Layout, file: &File, symbol: SymbolIndex, place: usi
     }
 }
 
-/// What a symbol is.
+/// The target for a symbol.
 fn target_by(layout: &Layout, file: &File, symbol: SymbolIndex) -> Target
     ensures { result ≡ target_by layout.now file.now (Some symbol) }
 {

@@ -1,4 +1,4 @@
-//! The one walk over the relocations of a section as it stands. What is done with each is a sink's. It takes no memory.
+//! The one walk over the relocations of a placed section. It passes each to a sink, and allocates no memory.
 ghost use Rattle.std.specs.Prelude.{◌≡◌, ℕ, map, All};
 ghost use Rattle.std.specs.List.{flat_map};
 ghost use Rattle.wild_frames.specs.Frames.{rest_of, start};
@@ -17,7 +17,7 @@ use wild_frames::{Found, FrameSource, KeptEntry, Pass, goes_on};
 use wild_types::{File, InputRelocation, InputSection, Layout, Slot};
 use wild_walk::Sink;
 
-/// Gives relocations as they are.
+/// Passes relocations unchanged.
 #[inline(always)]
 #[tactic(auto, using(wild_walk::proofs::RunLemmas::item_loops))]
 fn give_all<S: Sink<InputRelocation>>(
@@ -32,7 +32,7 @@ fn give_all<S: Sink<InputRelocation>>(
     Ok(())
 }
 
-/// Gives relocations at the new places of their words, of a section of `size` bytes.
+/// Passes relocations of a section of `size` bytes at the new offsets of their reversed words.
 #[inline(always)]
 #[tactic(auto, using(wild_walk::proofs::RunLemmas::mapped_loops))]
 fn give_reversed<S: Sink<InputRelocation>>(
@@ -48,7 +48,7 @@ fn give_reversed<S: Sink<InputRelocation>>(
     Ok(())
 }
 
-/// Gives the relocations of a section that debuggers read, as it stands.
+/// Passes the relocations of a debug section as placed.
 #[inline(always)]
 #[tactic(auto, unfolding(crate::specs::Turned::as_turned))]
 fn give_words<S: Sink<InputRelocation>>(
@@ -65,7 +65,7 @@ fn give_words<S: Sink<InputRelocation>>(
     }
 }
 
-/// Gives the relocations of a section that is loaded or sorted, as it stands: in a relocatable object none.
+/// Passes the relocations of a loaded or sorted section as placed: none in a relocatable object.
 #[inline(always)]
 #[tactic(auto, using(wild_walk::proofs::RunLemmas::runs, crate::proofs::TableLemmas::none_read))]
 pub fn give_turned<S: Sink<InputRelocation>>(
@@ -82,7 +82,7 @@ pub fn give_turned<S: Sink<InputRelocation>>(
     }
 }
 
-/// Gives the relocations of the target of a table, as the table has them.
+/// Passes the relocations of the target of a table, with the offsets that the table has.
 #[inline(always)]
 #[tactic(auto, using(wild_walk::proofs::RunLemmas::mapped_loops))]
 fn give_placed<S: Sink<InputRelocation>>(
@@ -98,7 +98,7 @@ fn give_placed<S: Sink<InputRelocation>>(
     Ok(())
 }
 
-/// Gives those of a table of relocations.
+/// Passes the entries of a table of relocations.
 #[inline(always)]
 fn give_table<S: Sink<InputRelocation>>(
     file: &File,
@@ -113,7 +113,7 @@ fn give_table<S: Sink<InputRelocation>>(
     }
 }
 
-/// Gives relocations of a kept entry at its new place.
+/// Passes the relocations of a kept entry, at the entry's new offset.
 #[inline(always)]
 #[tactic(auto, using(wild_walk::proofs::RunLemmas::mapped_loops))]
 fn give_moved<S: Sink<InputRelocation>>(
@@ -130,7 +130,7 @@ fn give_moved<S: Sink<InputRelocation>>(
     Ok(())
 }
 
-/// Gives those of what was found.
+/// Passes the relocations of what a walk found.
 #[inline(always)]
 #[tactic(auto, using(wild_walk::proofs::RunLemmas::runs))]
 fn give_found<S: Sink<InputRelocation>>(
@@ -147,7 +147,7 @@ fn give_found<S: Sink<InputRelocation>>(
     }
 }
 
-/// Gives those of the entries from the start of a walk on.
+/// Passes the relocations of the kept entries, from the start of a walk on.
 #[inline(always)]
 fn give_kept<S: Sink<InputRelocation>>(
     frames: &FileFrames<'_>,
@@ -170,7 +170,7 @@ fn give_kept<S: Sink<InputRelocation>>(
     }
 }
 
-/// Gives those of frames.
+/// Passes the relocations of a section of frames.
 #[inline(always)]
 fn give_frames<S: Sink<InputRelocation>>(
     frames: &FileFrames<'_>,
@@ -184,7 +184,7 @@ fn give_frames<S: Sink<InputRelocation>>(
     }
 }
 
-/// Gives the relocations of a section of a file as it stands in the output, one after another, without taking memory.
+/// Passes the relocations of a file's section, as placed in the output, one by one. Allocates no memory.
 #[inline(always)]
 #[tactic(auto, unfolding(crate::specs::Laid::laid_section))]
 pub fn give_relocations<S: Sink<InputRelocation>>(

@@ -1,4 +1,4 @@
-//! The kept entries of a section of frames, one behind the other.
+//! The kept entries of a section of frames, placed consecutively.
 ghost use Rattle.std.specs.Prelude.{◌≡◌, ◌++◌, [], IfOk, OnOk, All, map, None, option_to_list};
 ghost use Rattle.std.specs.List.{flat_map};
 ghost use Rattle.wild_frames.specs.Frames.{found_bytes, found_in, rest_of, start};
@@ -15,7 +15,7 @@ use wild_records::abi::section::{SHF_EXECINSTR, SHF_WRITE};
 use wild_types::{InputRelocation, InputSection, Slot, is_executable, is_writable};
 use wild_words::{Bytes, Items};
 
-/// A relocation of a kept entry at the entry's new place.
+/// A relocation of a kept entry, at the entry's new offset.
 pub(crate) fn moved_by(entry: &KeptEntry, relocation: InputRelocation) -> InputRelocation
     requires { StaysLow entry.now relocation }
     ensures { result ≡ moved_by entry.now relocation }
@@ -26,7 +26,7 @@ pub(crate) fn moved_by(entry: &KeptEntry, relocation: InputRelocation) -> InputR
     }
 }
 
-/// The kept entries of frames, with their relocations in the input and at their new places, and the fault that ended them.
+/// The kept entries of frames, their relocations at the input's offsets and at the new ones, and the fault that ended them.
 #[derive(Drop)]
 pub(crate) struct KeptFrames {
     pub(crate) bytes: Vec<u8>,
@@ -35,7 +35,7 @@ pub(crate) struct KeptFrames {
     pub(crate) fault: Option<BadFrame>,
 }
 
-/// Relocations of an entry to its new place.
+/// Moves the relocations of an entry to its new offset.
 fn move_all(entry: &KeptEntry, relocations: &mut [InputRelocation])
     requires { All (StaysLow entry.now) relocations.old }
     ensures { relocations.new ≡ map (moved_by entry.now) relocations.old }
@@ -46,7 +46,7 @@ fn move_all(entry: &KeptEntry, relocations: &mut [InputRelocation])
 }
 
 impl KeptFrames {
-    /// Nothing.
+    /// No entries.
     fn new(alloc: Global) -> Self
         ensures bytes { result.bytes.items ≡ [] }
         ensures origins { result.origins.items ≡ [] }
@@ -79,7 +79,7 @@ impl KeptFrames {
         Ok(())
     }
 
-    /// Adds what was found, with its relocations.
+    /// Adds the output for what a walk found, with its relocations.
     fn add(
         &mut self,
         frames: &FileFrames<'_>,
@@ -108,7 +108,7 @@ impl KeptFrames {
     }
 }
 
-/// What is kept from the start of a walk on.
+/// Collects the kept entries, from the start of a walk on.
 fn keep_from(alloc: Global, frames: &FileFrames<'_>, first: Walk) -> Result<KeptFrames, AllocError>
     requires { IsAtStart (frames_of frames.now.layout.now frames.now.file.now frames.now.section.now) first }
     ensures kept { IfOk result (λ k. AreKept (frames_of frames.now.layout.now frames.now.file.now frames.now.section.now) (rest_of (frames_of frames.now.layout.now frames.now.file.now frames.now.section.now) start) k.bytes.items k.origins.items k.moved.items) }
@@ -128,7 +128,7 @@ fn keep_from(alloc: Global, frames: &FileFrames<'_>, first: Walk) -> Result<Kept
     }
 }
 
-/// What is kept of frames. One pass over the section.
+/// Collects the kept entries of frames, in one pass over the section.
 pub(crate) fn keep(alloc: Global, frames: &FileFrames<'_>) -> Result<KeptFrames, AllocError>
     ensures kept { IfOk result (λ k. AreKept (frames_of frames.now.layout.now frames.now.file.now frames.now.section.now) (found_in (frames_of frames.now.layout.now frames.now.file.now frames.now.section.now)) k.bytes.items k.origins.items k.moved.items) }
     ensures fault { IfOk result (λ k. option_to_list k.fault ≡ frame_errors (frames_of frames.now.layout.now frames.now.file.now frames.now.section.now)) }
@@ -143,7 +143,7 @@ pub(crate) fn keep(alloc: Global, frames: &FileFrames<'_>) -> Result<KeptFrames,
     }
 }
 
-/// The flags of frames: the program does not write to them, and runs none of their bytes.
+/// The flags of placed frames: without `SHF_WRITE` and `SHF_EXECINSTR`, because the program neither writes nor executes them.
 pub fn frame_flags(flags: u64) -> u64
     ensures { result ≡ frame_flags flags }
 {
@@ -159,7 +159,7 @@ pub fn frame_flags(flags: u64) -> u64
     }
 }
 
-/// A section of frames as it stands, from its kept bytes and moved relocations.
+/// A placed section of frames, made of its kept bytes and moved relocations.
 pub(crate) fn framed(
     alloc: Global,
     at: u64,

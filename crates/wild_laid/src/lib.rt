@@ -1,4 +1,5 @@
-//! Input sections as they stand in the output: frames one behind the other, and the words of reversed sections turned.
+//! Placed input sections: input sections in the form that they have in the output. Kept frames are consecutive, and the words of
+//! reversed sections are in reverse order.
 #![tactic(auto)]
 
 mod counts;

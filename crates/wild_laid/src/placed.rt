@@ -1,4 +1,4 @@
-//! Sections as they stand, in memory.
+//! Placed sections in memory.
 ghost use Rattle.std.specs.Prelude.{◌≡◌, IfOk, option_to_list, unwrap_or};
 ghost use Rattle.wild_laid.specs.Turned.{as_turned};
 ghost use Rattle.wild_laid.specs.Laid.{as_loaded, unread, tabled};
@@ -14,7 +14,7 @@ use wild_frames::BadFrame;
 use wild_types::{File, InputRelocation, InputSection, Layout, Slot};
 use wild_words::{Bytes, Items};
 
-/// A section as it stands. It borrows the plan's, where nothing of that moves.
+/// A placed section. It borrows the plan's section if that is placed unchanged.
 #[derive(Drop)]
 pub struct LaidSection<'a> {
     input: &'a InputSection,
@@ -43,7 +43,7 @@ impl<'a> LaidSection<'a> {
         }
     }
 
-    /// Its relocations, as the input has them.
+    /// Its relocations, at the input's offsets.
     pub fn origins(&self) -> &[InputRelocation]
         ensures { result.now ≡ self.now.origins }
     {
@@ -53,7 +53,7 @@ impl<'a> LaidSection<'a> {
         }
     }
 
-    /// The fault that ends its frames.
+    /// The fault that ends its frames, if there is one.
     pub fn fault(&self) -> Option<BadFrame>
         ensures { option_to_list result ≡ self.now.faults }
     {
@@ -61,7 +61,7 @@ impl<'a> LaidSection<'a> {
     }
 }
 
-/// A section of frames, of which the kept entries stand from an address on.
+/// Places a section of frames: its kept entries begin at address `at`.
 fn lay_frames<'a>(
     alloc: Global,
     layout: &Layout,
@@ -85,7 +85,7 @@ fn lay_frames<'a>(
     })
 }
 
-/// A section of no frames, by what stands of it where that is another. No relocations of a relocatable object are read.
+/// A placed section other than frames; `stands` is its new form, if it is changed. Relocations of a relocatable object are not read.
 fn laid<'a>(
     alloc: Global,
     layout: &Layout,
@@ -107,7 +107,7 @@ fn laid<'a>(
     }
 }
 
-/// A section with its words in reverse order, where it is to have them so.
+/// Places a section, with its words in reverse order if it is a reversed one.
 #[tactic(auto, unfolding(crate::specs::Turned::as_turned))]
 fn lay_turned<'a>(
     alloc: Global,
@@ -123,7 +123,7 @@ fn lay_turned<'a>(
     Ok(laid(alloc, layout, section, Some(stands)))
 }
 
-/// A copy of a section in another slot, with other relocations.
+/// A copy of a section, with another kind and other relocations.
 fn copy_with(
     alloc: Global,
     slot: Slot,
@@ -154,7 +154,7 @@ fn copy_with(
     })
 }
 
-/// A section as it stands, by itself.
+/// The section with its words in reverse order if it is a reversed one, as a value that borrows nothing.
 #[tactic(auto, unfolding(crate::specs::Turned::as_turned))]
 fn as_turned(alloc: Global, section: InputSection) -> Result<InputSection, AllocError>
     ensures { IfOk result (λ s. s ≡ as_turned section) }
@@ -166,7 +166,7 @@ fn as_turned(alloc: Global, section: InputSection) -> Result<InputSection, Alloc
     }
 }
 
-/// A section that is loaded: in a relocatable object without its relocations, which stand in a table of their own.
+/// Places a loaded section. In a relocatable object its relocations are left out: they are in a separate table.
 fn lay_loaded<'a>(
     alloc: Global,
     layout: &Layout,
@@ -182,7 +182,7 @@ fn lay_loaded<'a>(
     Ok(laid(alloc, layout, section, Some(stands)))
 }
 
-/// A table of relocations, with those of its target.
+/// Places a table of relocations, with the relocations of its target.
 fn lay_table<'a>(
     alloc: Global,
     layout: &Layout,
@@ -195,9 +195,12 @@ fn lay_table<'a>(
     Ok(laid(alloc, layout, section, Some(stands)))
 }
 
-/// A section of a file as it stands, where the file's next frames stand at an address. Memory for what moves: the kept bytes and
-/// relocations of frames, with the places of their CIEs, the bytes and relocations of a reversed section, the relocations of a table, and in
-/// a relocatable object the bytes of what is loaded. One pass over them.
+/// Places a section of a file; `at` is the address of the file's next frames. One pass over the section. Allocates memory for what
+/// changes:
+/// - the kept bytes and relocations of frames, and the offsets of their CIEs,
+/// - the bytes and relocations of a reversed section,
+/// - the relocations of a table,
+/// - in a relocatable object the bytes of a loaded section.
 #[tactic(auto, unfolding(crate::specs::Laid::laid_section))]
 pub fn lay<'a>(
     alloc: Global,
@@ -217,7 +220,7 @@ pub fn lay<'a>(
     }
 }
 
-/// A sorted section as a loaded one.
+/// Copies a sorted section as a loaded one.
 fn loaded(
     alloc: Global,
     layout: &Layout,
@@ -233,7 +236,7 @@ fn loaded(
     copy_with(alloc, Slot::Loaded, relocations, section)
 }
 
-/// A sorted section as it stands.
+/// Places a sorted section.
 pub fn lay_sorted<'a>(
     alloc: Global,
     layout: &Layout,

@@ -1,4 +1,4 @@
-//! Sections that stand in an order of their own.
+//! Sections that are placed in sort order.
 ghost use Rattle.std.specs.Prelude.{◌≡◌, Some};
 ghost use Rattle.wild_types.specs.declared.input.Slot.TheVariants as slot;
 ghost use Rattle.wild_laid.specs.Laid.{sorted_in_group, sorted_in_file, sorted_input};
@@ -13,7 +13,7 @@ pub struct SortedInput<'a> {
     pub section: &'a InputSection,
 }
 
-/// The section at that place of a file, where it is a sorted one.
+/// The file's section number `section`, if it is a sorted one.
 fn sorted_in_file<'a>(layout: &Layout, file: &'a File, section: usize) -> Option<SortedInput<'a>>
     ensures { inputs layout.now result ≡ sorted_in_group layout.now (Some file.now) section }
 {
@@ -27,7 +27,7 @@ fn sorted_in_file<'a>(layout: &Layout, file: &'a File, section: usize) -> Option
     }
 }
 
-/// The section that is named, where it is a sorted one.
+/// The section to which an entry of the sort order refers, if it is a sorted one.
 #[tactic(auto, unfolding(crate::specs::Laid::sorted_input))]
 pub fn sorted_input(layout: &Layout, entry: SortedSection) -> Option<SortedInput<'_>>
     ensures { inputs layout.now result ≡ sorted_input layout.now entry }

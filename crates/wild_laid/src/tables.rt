@@ -8,7 +8,7 @@ use std::alloc::{AllocError, Global};
 use wild_types::{File, InputRelocation, InputSection, Slot};
 use wild_words::{Bytes, Items};
 
-/// Where an input section begins in its output section; one that the object keeps by itself begins it.
+/// The offset of an input section in its output section; 0 for one that the object keeps as a section of its own.
 fn base_of(section: &InputSection) -> u64
     ensures { result ≡ base_of section.now }
 {
@@ -18,7 +18,7 @@ fn base_of(section: &InputSection) -> u64
     }
 }
 
-/// A relocation of a section that begins there in its output section, modulo 2^64.
+/// A relocation of a section that begins at offset `base` of its output section, modulo 2^64.
 fn counted_from(base: u64, relocation: InputRelocation) -> InputRelocation
     ensures { result ≡ counted_from base relocation }
 {
@@ -28,7 +28,7 @@ fn counted_from(base: u64, relocation: InputRelocation) -> InputRelocation
     }
 }
 
-/// A relocation of a section at the place of its word, where that is another.
+/// A relocation of a section, at the new offset of its word if the section is reversed.
 fn turned_in(section: &InputSection, relocation: InputRelocation) -> InputRelocation
     ensures { result ≡ turned_in section.now relocation }
 {
@@ -39,14 +39,14 @@ fn turned_in(section: &InputSection, relocation: InputRelocation) -> InputReloca
     }
 }
 
-/// A relocation of the target of a table, as the table has it.
+/// A relocation of the target of a table, with the offset that the table has.
 pub(crate) fn placed_at(target: &InputSection, relocation: InputRelocation) -> InputRelocation
     ensures { result ≡ placed_at target.now relocation }
 {
     counted_from(base_of(target), turned_in(target, relocation))
 }
 
-/// The relocations of a target, as a table has them.
+/// The relocations of a target, with the offsets that a table has.
 fn placed(alloc: Global, target: &InputSection) -> Result<Vec<InputRelocation>, AllocError>
     ensures { IfOk result (λ v. v.items ≡ map (placed_at target.now) target.now.relocations) }
 {
@@ -57,14 +57,14 @@ fn placed(alloc: Global, target: &InputSection) -> Result<Vec<InputRelocation>, 
     Ok(placed)
 }
 
-/// The section that a table is about, in its file.
+/// The section to which the relocations of a table apply, in its file.
 pub(crate) fn target_of<'a>(file: &'a File, section: &InputSection) -> Option<&'a InputSection>
     ensures { option_copied result ≡ slice_get file.now.sections section.now.target }
 {
     file.sections.as_slice().get(section.target)
 }
 
-/// The relocations of the target of a table, as the table has them.
+/// The relocations of the target of a table, with the offsets that the table has.
 #[tactic(auto, using(crate::proofs::TableLemmas::target_placed, crate::proofs::TableLemmas::target_missing))]
 fn target_relocations(
     alloc: Global,
@@ -79,7 +79,7 @@ fn target_relocations(
     }
 }
 
-/// A table of relocations, with those of its target.
+/// A table of relocations, with the relocations of its target.
 pub(crate) fn tabled(
     alloc: Global,
     file: &File,

@@ -1,4 +1,4 @@
-//! Sections whose words stand in reverse order.
+//! Sections whose words are written in reverse order.
 ghost use Rattle.std.specs.Prelude.{◌≡◌, IfOk, map};
 ghost use Rattle.wild_laid.specs.Turned.{word_size, turned_bytes, turned_offset, turned};
 
@@ -6,10 +6,10 @@ use std::alloc::{AllocError, Global};
 use wild_types::{InputRelocation, InputSection};
 use wild_words::{Bytes, Items};
 
-/// The bytes of a word.
+/// The size of a word in bytes.
 const WORD_SIZE: u64 = 8;
 
-/// The relocation at the new place of its word, in a section of that size.
+/// The relocation at the new offset of its word, in a section of `size` bytes.
 pub(crate) fn turned_offset(size: u64, relocation: InputRelocation) -> InputRelocation
     ensures { result ≡ turned_offset size relocation }
 {
@@ -21,7 +21,7 @@ pub(crate) fn turned_offset(size: u64, relocation: InputRelocation) -> InputRelo
     }
 }
 
-/// The words of a section, the last first.
+/// The words of a section in reverse order.
 #[tactic(auto, unfolding(crate::specs::Turned::turned_bytes))]
 fn turned_bytes(alloc: Global, bytes: &[u8]) -> Result<Vec<u8>, AllocError>
     ensures { IfOk result (λ v. v.items ≡ turned_bytes bytes.now) }
@@ -35,7 +35,7 @@ fn turned_bytes(alloc: Global, bytes: &[u8]) -> Result<Vec<u8>, AllocError>
     Ok(turned)
 }
 
-/// Relocations at the new places of their words.
+/// Relocations at the new offsets of their words.
 fn turned_relocations(
     alloc: Global,
     size: u64,
@@ -50,7 +50,7 @@ fn turned_relocations(
     Ok(turned)
 }
 
-/// The section as it stands.
+/// The section with its words in reverse order.
 pub(crate) fn turned(alloc: Global, section: &InputSection) -> Result<InputSection, AllocError>
     ensures { IfOk result (λ s. s ≡ turned section.now) }
 {

@@ -1,8 +1,8 @@
 -- The entries of the dynamic section that the last file writes (gABI, "Dynamic Section").
 --   dynamic_number tag        the number of an entry
---   dynamic_entry l tag       its value; none where the entry is left out
+--   dynamic_entry l tag       its value; none if the entry is left out
 --   dynamic_entries l         all these entries, in order
---   dynamic_count l           how many they are
+--   dynamic_count l           the number of these entries
 use Rattle.std.specs.Prelude.{ℕ, Bool, not, ◌&&◌, if◌then◌else◌, List, [], ◌∷◌, ◌++◌, length, All, flat_map, codes, bit_or, Option, Some, None}
 use Rattle.wild_records.specs.Abi.Dynamic.{dt_null, dt_pltrelsz, dt_pltgot, dt_pltrel, dt_hash, dt_jmprel, dt_strtab, dt_symtab, dt_rela, dt_relasz, dt_relaent, dt_strsz, dt_syment, dt_init, dt_fini, dt_debug, dt_textrel, dt_aarch64_bti_plt, dt_aarch64_variant_pcs, dt_init_array, dt_fini_array, dt_init_arraysz, dt_fini_arraysz, dt_flags, dt_preinit_array, dt_preinit_arraysz, dt_relrsz, dt_relr, dt_relrent, dt_gnu_hash, dt_versym, dt_relacount, dt_flags_1, dt_verdef, dt_verdefnum, dt_verneed, dt_verneednum, df_origin, df_textrel, df_bind_now, df_static_tls, df_1_now, df_1_nodelete, df_1_origin, df_1_interpose, df_1_pie}
 use Rattle.wild_records.specs.Dynamic.{DynamicEntryFits}
@@ -68,19 +68,18 @@ only ok n = if ok then Some n else None
 abbrev pub flag : Bool → ℕ → ℕ
 flag ok n = if ok then n else 0
 
--- DT_FLAGS: all entries are taken at the start; room in the initial thread storage is asked for by libraries alone, an
--- executable has it
+-- DT_FLAGS: all relocations are processed at load time; only libraries request static TLS space, executables always have it
 unfoldable pub dynamic_flags : OutputKind → Options → ℕ
 dynamic_flags kind o = bit_or (bit_or (bit_or df_bind_now (flag (not (is_executable kind) && o.static_tls) df_static_tls)) (flag o.textrel df_textrel)) (flag o.origin df_origin)
 
--- DT_FLAGS_1 (glibc, `elf.h`): two of them are for libraries alone
+-- DT_FLAGS_1 (glibc, `elf.h`): two of the flags are only for libraries
 unfoldable pub dynamic_flags_1 : OutputKind → Options → ℕ
 dynamic_flags_1 kind o =
     bit_or (bit_or (bit_or (bit_or df_1_now (flag (is_executable kind && is_position_independent kind) df_1_pie)) (flag o.origin df_1_origin)) (flag (is_shared_object kind && o.nodelete) df_1_nodelete)) (flag (is_shared_object kind && o.interpose) df_1_interpose)
 
 -- ---- entries
 
--- the value of an entry; none where it is left out
+-- the value of an entry; none if it is left out
 unfoldable pub dynamic_entry : Layout → DynamicTag → Option ℕ
 dynamic_entry l tags.Init = section_address l (codes ".init")
 dynamic_entry l tags.Fini = section_address l (codes ".fini")
@@ -120,7 +119,7 @@ dynamic_entry l tags.BtiPlt = beside 0 (marked_stubs l l.machine)
 dynamic_entry l tags.VariantPcs = only l.options.variant_pcs 0
 dynamic_entry l tags.Null = Some 0
 
--- the entries in their order; those of AArch64 stand before Null
+-- the entries in their order; those of AArch64 are before Null
 unfoldable pub all_tags : List DynamicTag
 all_tags =
     tags.Init ∷ tags.Fini ∷ tags.InitArray ∷ tags.InitArraySize ∷ tags.FiniArray ∷ tags.FiniArraySize ∷ tags.PreinitArray ∷ tags.PreinitArraySize
@@ -130,7 +129,7 @@ all_tags =
     ∷ tags.SysvHash ∷ tags.GnuHash ∷ tags.SymbolVersions ∷ tags.VersionDefinitions ∷ tags.VersionDefinitionCount ∷ tags.VersionNeeds ∷ tags.VersionNeedCount
     ∷ tags.Debug ∷ tags.Textrel ∷ tags.Flags ∷ tags.Flags1 ∷ tags.BtiPlt ∷ tags.VariantPcs ∷ tags.Null ∷ []
 
--- an entry, where it has a value
+-- an entry, if it has a value
 abbrev pub entry_with : ℕ → Option ℕ → List DynamicEntry
 entry_with number None = []
 entry_with number (Some value) = record { tag = number; value = value } ∷ []
@@ -140,7 +139,7 @@ entry_of l tag = entry_with (dynamic_number tag) (dynamic_entry l tag)
 
 -- ---- the whole
 
--- the entries with values of their own, in order
+-- the entries other than those for strings, in order
 unfoldable pub tag_entries : Layout → List DynamicEntry
 tag_entries l = if needs_dynamic l.kind then flat_map (entry_of l) all_tags else []
 
@@ -148,10 +147,10 @@ tag_entries l = if needs_dynamic l.kind then flat_map (entry_of l) all_tags else
 unfoldable pub dynamic_entries : Layout → List DynamicEntry
 dynamic_entries l = string_entries (string_start l) (named_strings l) ++ tag_entries l
 
--- how many they are
+-- the number of these entries
 abbrev pub dynamic_count : Layout → ℕ
 dynamic_count l = length (dynamic_entries l)
 
--- the entry of a tag has the ranges of its fields, where it is there
+-- the fields of a tag's entry, if it exists, are in their ranges
 pub record TagFits (l : Layout) (tag : DynamicTag) : Type 0 where
   pub entry : All DynamicEntryFits (entry_of l tag)

@@ -1,8 +1,8 @@
--- Where the tables and functions stand that the dynamic section names (gABI, "Dynamic Section").
+-- The addresses and sizes of the tables and functions to which the dynamic section refers (gABI, "Dynamic Section").
 --   section_address l name    the address of a section with bytes; section_size its size
 --   part_address l role       the address of the part of a role; part_size its size
---   relative_count l          how many relative entries stand first
---   need_number l             of how many libraries versions are needed
+--   relative_count l          the number of relative entries, which are the first ones
+--   need_number l             the number of libraries from which versions are needed
 --   marked_stubs l machine    the part of stubs that begin with a landing pad
 use Rattle.std.specs.Prelude.{ℕ, ◌+◌, ◌-◌, ◌/◌, ◌^◌, ◌==◌, Bool, not, ◌&&◌, if◌then◌else◌, min, List, find, bytes_eq, Option, Some, None, option_map}
 use Rattle.std.specs.Option.{option_or}
@@ -38,7 +38,7 @@ part_address p = option_map (λ (x : Part). x.address) p
 abbrev pub part_size : Option Part → Option ℕ
 part_size p = option_map (λ (x : Part). x.size) p
 
--- a number for each part that is there
+-- a number, if the part exists
 abbrev pub beside : ℕ → Option Part → Option ℕ
 beside n p = option_map (λ (x : Part). n) p
 
@@ -46,11 +46,11 @@ abbrev pub unless_empty : Option Part → Option Part
 unless_empty None = None
 unless_empty (Some p) = if p.size == 0 then None else Some p
 
--- the part of a role, where it is not empty
+-- the part of a role, if it is not empty
 abbrev pub filled_part : Layout → Role → Option Part
 filled_part l r = unless_empty (part_with r l.parts)
 
--- where entries with addends begin: relative entries stand first (LSB, "Dynamic Entries", DT_RELACOUNT)
+-- the part at whose start the entries with addends begin: relative entries are the first ones (LSB, "Dynamic Entries", DT_RELACOUNT)
 unfoldable pub first_entries : Layout → Option Part
 first_entries l = option_or (filled_part l role.RelaDynRelative) (filled_part l role.RelaDynGeneral)
 
@@ -58,19 +58,19 @@ abbrev pub bytes_of : Option Part → ℕ
 bytes_of None = 0
 bytes_of (Some p) = p.size
 
--- the bytes of all entries with addends, at most 2^64 - 1
+-- the size of all entries with addends in bytes, at most 2^64 - 1
 unfoldable pub entries_bytes : Layout → ℕ
 entries_bytes l = min (2 ^ 64 - 1) (bytes_of (part_with role.RelaDynRelative l.parts) + bytes_of (part_with role.RelaDynGeneral l.parts))
 
--- how many entries are relative, where there are any
+-- the number of relative entries; none if there are none
 abbrev pub relative_count : Layout → Option ℕ
 relative_count l = option_map (λ (p : Part). p.size / rela_size) (filled_part l role.RelaDynRelative)
 
--- of how many libraries versions are needed, at most 2^64 - 1
+-- the number of libraries from which versions are needed, at most 2^64 - 1
 unfoldable pub need_number : Layout → ℕ
 need_number l = min (2 ^ 64 - 1) (need_count l)
 
--- the part of AArch64's stubs, where they begin with a landing pad and there are any ("System V ABI for the Arm 64-bit Architecture",
+-- the part of AArch64's stubs, if they begin with a landing pad and there are any ("System V ABI for the Arm 64-bit Architecture",
 -- "Dynamic Section", DT_AARCH64_BTI_PLT)
 abbrev pub marked_stubs : Layout → Machine → Option Part
 marked_stubs l machine.AArch64 = if l.options.bti then filled_part l role.PltGot else None

@@ -1,12 +1,12 @@
--- Clause 13: the dynamic symbol table (gABI, "Symbol Table"). Behind the null symbol it has, file by file, the symbols that other
+-- Clause 13: the dynamic symbol table (gABI, "Symbol Table"). After the null symbol it has, file by file, the symbols that other
 -- modules define, and then those of the layout's list `dynsyms` in its order. A symbol's flags, resolution and place are those
--- that the layout gives for it, also where another symbol defines it.
+-- that the layout gives for it, even if another symbol defines it.
 --   undefined_entries ss fs   the symbols that other modules define, in the order of their entries
---   dynamic_symbols l         the symbols of the table behind the null symbol
+--   dynamic_symbols l         the symbols of the table after the null symbol
 --   has_position table i p    entry p of the table is that of symbol i
 --   misplaced table i ss      the first symbol whose index is not its position
---   misfit l p i ds           the first of the listed symbols that has not the position that follows, or stands in a section
---                             whose header index no symbol can have
+--   misfit l p i ds           the first symbol of `dynsyms` whose index is not the next position, or which is in a section whose
+--                             header index no symbol can have
 use Rattle.std.specs.Prelude.{ℕ, zero, suc, ◌+◌, ◌==◌, Bool, true, false, not, ◌&&◌, if◌then◌else◌, nat_lt, List, [], ◌∷◌, ◌++◌, length, map, Option, Some, None, slice_get}
 use Rattle.std.specs.List.{flat_map}
 use Rattle.wild_types.specs.declared.symbol.Place.{Place}
@@ -26,8 +26,8 @@ use Rattle.wild_types.specs.Lookups.{section_of, files_of, file_of}
 
 -- ---- the table
 
--- a file of this role gives an undefined entry for a resolution with these flags: an object for what another module
--- defines, a library for what is neither copied nor has its stub for address
+-- a file of this role has an undefined entry for a resolution with these flags: an object for a symbol that another module defines, a
+-- library for one that has neither a copy relocation nor a canonical stub
 abbrev pub gives_entry : FileRole → ValueFlags → Bool
 gives_entry file_role.Object f = has_flag f dynamic
 gives_entry file_role.Dynamic f = not (has_flag f copy_relocation) && not (has_flag f canonical_plt)
@@ -41,7 +41,7 @@ is_resolved (Some r) = true
 abbrev pub is_undefined_entry : FileRole → Symbol → Bool
 is_undefined_entry role s = gives_entry role s.flags && is_resolved s.resolution
 
--- the places of those that pass a test, counted from i on
+-- the indexes of the items that pass a test, counted from i on
 abbrev pub places_where : {X : Type 0} → (X → Bool) → ℕ → List X → List ℕ
 places_where test i [] = []
 places_where test i (x ∷ xs) = if test x then i ∷ places_where test (i + 1) xs else places_where test (i + 1) xs
@@ -56,7 +56,7 @@ undefined_entries symbols files = flat_map (undefined_in symbols) files
 abbrev pub listed : List DynamicSymbol → List ℕ
 listed ds = map (λ (d : DynamicSymbol). d.symbol) ds
 
--- the symbols of the table behind the null symbol
+-- the symbols of the table after the null symbol
 abbrev pub dynamic_symbols : Layout → List ℕ
 dynamic_symbols l = undefined_entries l.symbols (files_of l.groups) ++ listed l.dynsyms
 
@@ -75,11 +75,11 @@ abbrev pub resolved_index : Option Resolution → Option ℕ
 resolved_index None = None
 resolved_index (Some r) = r.dynamic_symbol_index
 
--- the index in the dynamic symbol table that the symbol carries
+-- the symbol's index in the dynamic symbol table
 abbrev pub dynsym_of : Symbol → Option ℕ
 dynsym_of s = resolved_index s.resolution
 
--- the index, where it is there, is the position of symbol i
+-- the index, if there is one, is the position of symbol i
 abbrev pub position_fits : List ℕ → ℕ → Option ℕ → Bool
 position_fits table i None = true
 position_fits table i (Some p) = has_position table i p
@@ -88,7 +88,7 @@ abbrev pub misplaced : List ℕ → ℕ → List Symbol → Option ℕ
 misplaced table i [] = None
 misplaced table i (s ∷ ss) = if position_fits table i (dynsym_of s) then misplaced table (i + 1) ss else Some i
 
--- ---- the symbols that are listed
+-- ---- the symbols of the list `dynsyms`
 
 -- a header index that a symbol may have (gABI, "Special Section Indexes": SHN_LORESERVE)
 abbrev pub symbol_sections : ℕ
@@ -102,7 +102,7 @@ abbrev pub section_of_input : Layout → Option InputSection → ℕ
 section_of_input l None = 0
 section_of_input l (Some s) = section_of l s.part
 
--- the header index of the output section of a place in a file; 0 where there is none
+-- the header index of the output section for a symbol's place in a file; 0 if there is none
 abbrev pub output_section : Layout → Option File → Place → ℕ
 output_section l f (at.Output k) = k
 output_section l f (at.Section k) = section_of_input l (input_of f k)
@@ -116,7 +116,7 @@ abbrev pub symbol_listed_fits : Layout → ℕ → ℕ → Option Symbol → Boo
 symbol_listed_fits l p i None = false
 symbol_listed_fits l p i (Some s) = is_position p (dynsym_of s) && nat_lt (output_section l (file_of (files_of l.groups) i) s.place) symbol_sections
 
--- the symbol carries position p, and a symbol may have the header index of its section
+-- the symbol has index p, and a symbol may have the header index of its section
 abbrev pub listed_fits : Layout → ℕ → DynamicSymbol → Bool
 listed_fits l p d = symbol_listed_fits l p d.symbol (slice_get l.symbols d.symbol)
 
@@ -124,6 +124,6 @@ abbrev pub misfit : Layout → ℕ → ℕ → List DynamicSymbol → Option ℕ
 misfit l p i [] = None
 misfit l p i (d ∷ ds) = if listed_fits l p d then misfit l (p + 1) (i + 1) ds else Some i
 
--- the position of the first listed symbol: behind the null symbol and the undefined ones
+-- the position of the first symbol of `dynsyms`: after the null symbol and the undefined ones
 abbrev pub first_listed : Layout → ℕ
 first_listed l = length (undefined_entries l.symbols (files_of l.groups)) + 1

@@ -1,14 +1,14 @@
--- The addresses of a movable output that a loader adds its base to: by an entry with an addend, or by a word of packed
--- relocations (gABI, "Relocation", "Relative Relocation Table").
---   is_moved_by l flags r           the address that a relocation writes in a section with such flags moves
---   listed_at, packed_at            the place of a relocation of a section at an address, where that has an entry, where it is packed
---   listed_places, packed_places    the places of a section's addresses that move: those that have an entry, and those
+-- The relative relocations of a position-independent output: entries with addends, or RELR words (gABI, "Relocation", "Relative
+-- Relocation Table"); and the entries that name a symbol or a resolver.
+--   is_moved_by l flags r           a relocation writes an address that changes with the load bias, in a section with such flags
+--   listed_at, packed_at            the place of a relocation, if it has an entry, and if it is packed
+--   listed_places, packed_places    the places of a section's relative relocations: those that have an entry, and those
 --                                   that are packed
---   entry_count l f, word_count l f   how many entries, and how many words, a file has
+--   entry_count l f, word_count l f   the numbers of entries and of RELR words of a file
 --   may_be_left flags n             an entry that names a symbol or a resolver can fill the field of a relocation of type n
 --   may_have_entry l symbol         it can name that symbol, or its resolver
---   left_relocations l s            the relocations of a section whose fields are left to entries that name a symbol or a resolver
---   general_count l f               how many entries a file has for these, and for the symbols that it has copied
+--   left_relocations l s            the relocations of a section whose fields are filled by such entries
+--   general_count l f               the number of such entries of a file, with those of its copy relocations
 use Rattle.std.specs.Prelude.{ℕ, ◌+◌, ◌==◌, ◌&&◌, ◌||◌, Bool, true, false, not, if◌then◌else◌, List, [], length, Option, Some, None, option_to_list}
 use Rattle.std.specs.List.{flat_map, filter}
 use Rattle.wild_records.specs.Abi.Relocation.{r_aarch64_abs64, r_x86_64_64, r_x86_64_size32, r_x86_64_size64}
@@ -30,28 +30,28 @@ abbrev pub is_base_relative : Treatment → Bool
 is_base_relative BaseRelative = true
 is_base_relative other = false
 
--- the address that the relocation writes moves, in a section with such flags
+-- the relocation writes an address that changes with the load bias, in a section with such flags
 abbrev pub is_moved_by : Layout → ℕ → InputRelocation → Bool
 is_moved_by l flags r = is_base_relative (treatment l flags r)
 
 abbrev pub is_moved : Layout → InputSection → InputRelocation → Bool
 is_moved l s r = is_moved_by l s.flags r
 
--- its place, of a section with such flags at an address, where that has an entry
+-- its place if it has an entry, in a section with such flags at an address
 abbrev pub listed_at : Layout → ℕ → ℕ → InputRelocation → Option ℕ
 listed_at l flags address r = if is_moved_by l flags r && not (packs l (place_of address r)) then Some (place_of address r) else None
 
 abbrev pub listed_place : Layout → InputSection → InputRelocation → Option ℕ
 listed_place l s r = listed_at l s.flags s.address r
 
--- its place, where that is packed
+-- its place if it is packed
 abbrev pub packed_at : Layout → ℕ → ℕ → InputRelocation → Option ℕ
 packed_at l flags address r = if is_moved_by l flags r && packs l (place_of address r) then Some (place_of address r) else None
 
 abbrev pub packed_place : Layout → InputSection → InputRelocation → Option ℕ
 packed_place l s r = packed_at l s.flags s.address r
 
--- what the relocations of a section give, where it may have addresses that move
+-- the items that f yields for the relocations of a section, if it may have relative relocations
 abbrev pub moved_of : {X : Type 0} → Layout → InputSection → (InputRelocation → Option X) → List X
 moved_of l s f = if has_moved l s then flat_map (λ r. option_to_list (f r)) s.relocations else []
 
@@ -63,44 +63,44 @@ listed_places l s = moved_of l s (listed_place l s)
 unfoldable pub packed_places : Layout → InputSection → List ℕ
 packed_places l s = moved_of l s (packed_place l s)
 
--- the words of an input section: its places are a run of their own
+-- the RELR words of an input section: its places are a separate run
 abbrev pub words_of : Layout → InputSection → List ℕ
 words_of l s = packed (packed_places l s)
 
--- how many entries a file has whose sections are as they stand
+-- the number of relative entries of a file with placed sections
 abbrev pub entry_count : Layout → File → ℕ
 entry_count l f = total (λ s. length (listed_places l s)) (processed l f)
 
--- how many words of its own sections
+-- the number of RELR words of its own sections
 abbrev pub word_count : Layout → File → ℕ
 word_count l f = total (λ s. length (words_of l s)) f.sections
 
--- the words of the sorted sections, each section's a run of its own
+-- the RELR words of the sorted sections, each section's a separate run
 abbrev pub sorted_words : Layout → List ℕ
 sorted_words l = flat_map (words_of l) (sorted_sections l)
 
 -- ---- entries that name a symbol or a resolver
 
--- the field is left to such an entry
+-- such an entry fills the field
 abbrev pub is_left_to_entry : Treatment → Bool
 is_left_to_entry (Symbolic i) = true
 is_left_to_entry (Indirect i) = true
 is_left_to_entry (Extent row i) = true
 is_left_to_entry other = false
 
--- no other type has a field that such an entry fills: an address of 8 bytes, where the program may write, and a size
+-- the types whose fields such an entry can fill: an 8-byte address in a writable section, and a size
 abbrev pub may_be_left : ℕ → ℕ → Bool
 may_be_left flags n = (n == r_x86_64_64 || n == r_aarch64_abs64) && writable flags || (n == r_x86_64_size32 || n == r_x86_64_size64)
 
--- nor is a field of a symbol that only this output defines, which is no IFUNC
+-- the symbols that such an entry can name: interposable ones and IFUNCs
 abbrev pub may_have_entry : Layout → Option ℕ → Bool
 may_have_entry l None = false
 may_have_entry l (Some i) = interposable (flags_at l i) || has_flag (flags_at l i) ifunc
 
--- the relocations of an input section whose fields are left to entries, in order
+-- the relocations of an input section whose fields such entries fill, in order
 unfoldable pub left_relocations : Layout → InputSection → List InputRelocation
 left_relocations l s = if is_read s then filter (λ r. is_left_to_entry (treatment l s.flags r)) s.relocations else []
 
--- how many entries a file has for copies and for fields
+-- the number of entries of a file for copy relocations and for fields
 unfoldable pub general_count : Layout → File → ℕ
 general_count l f = length (copies_of f) + total (λ s. length (left_relocations l s)) (processed l f)

@@ -1,6 +1,6 @@
--- Where the program begins (gABI, "ELF Header", e_entry).
---   text_start l      where `.text` stands; none where it is not there, or empty
---   entry_point l     the address, and what is said of it
+-- The entry point of the program (gABI, "ELF Header", e_entry).
+--   text_start l      the address of `.text`; none if it is missing or empty
+--   entry_point l     the address, and the warning about it
 use Rattle.std.specs.Prelude.{ℕ, ◌==◌, if◌then◌else◌, bytes_eq, codes, find, Option, Some, None, option_and_then, slice_get}
 use Rattle.wild_types.specs.declared.layout.Entry.{Entry}
 use Rattle.wild_types.specs.declared.layout.Entry.TheVariants as entry
@@ -23,11 +23,11 @@ abbrev pub start_of : Option Section → Option ℕ
 start_of None = None
 start_of (Some s) = if s.size == 0 then None else Some s.address
 
--- where the first section of that name stands, unless it is empty
+-- the address of the first section of that name, unless it is empty
 unfoldable pub text_start : Layout → Option ℕ
 text_start l = start_of (find (λ (s : Section). bytes_eq s.name (codes ".text")) l.sections)
 
--- for symbol i, which has no address
+-- the entry point for symbol i, which has no address
 abbrev pub defaulted : ℕ → Option ℕ → EntryPoint
 defaulted i None = record { address = 0; warning = Some (warning.EmptyText i) }
 defaulted i (Some a) = record { address = a; warning = Some (warning.Defaulted i a) }
@@ -35,11 +35,11 @@ defaulted i (Some a) = record { address = a; warning = Some (warning.Defaulted i
 abbrev pub told : ℕ → EntryPoint
 told a = record { address = a; warning = None }
 
--- the address of symbol i: its stub where a resolver chooses the function that it names
+-- the address of symbol i as entry point: for an IFUNC that of its stub
 abbrev pub entry_value : Layout → ℕ → Option ℕ
 entry_value l i = if has_flag (flags_at l i) ifunc then option_and_then plt_of (slice_get l.symbols (canonical l i)) else raw_value l i
 
--- a library need not begin anywhere
+-- a library does not need an entry point
 abbrev pub entry_at : Layout → ℕ → Option ℕ → EntryPoint
 entry_at l i (Some a) = told a
 entry_at l i None = if is_shared_object l.kind then told 0 else defaulted i (text_start l)

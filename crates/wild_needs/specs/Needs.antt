@@ -1,11 +1,11 @@
--- How many bytes of a part a group needs: the sum of what its files have to write there.
---   share l role f      what one file has to write in a part of that role
+-- The bytes that a group needs of a part: the sum of its files' shares.
+--   share l role f      the share of one file in a part of that role
 --   needs l part group  the group's share of the part, at most 2^64 - 1
---   is_plain l f        the file writes nothing in any part but raw ones, as far as its role and its symbols' slots tell
---   is_bare l           no symbol of the output has a slot or is another module's, and it has no dynamic section and no table of all symbols
---   is_bare_file f       of such an output, a file that is plain by its role and its sections alone
---   is_bare_inside l     such an output has groups of such files alone between the first and the last
---   total_share l r      what all groups need of the part of a role
+--   is_plain l f        the file writes only input sections, as far as its role and its symbols' slots show
+--   is_bare l           the output has no dynamic section, no `.symtab`, and no symbol that has a slot or that another module defines
+--   is_bare_file f       in such an output, a file that is plain by its role and its sections
+--   is_bare_inside l     in such an output, all files between the first and the last group are such files
+--   total_share l r      the sum of the shares of all groups in the part of a role
 use Rattle.std.specs.Prelude.{ℕ, ◌-◌, ◌^◌, ◌==◌, Bool, true, false, ◌&&◌, List, length, ◌+◌, ◌*◌, if◌then◌else◌, not, min, Option, Some, None, is_some, slice_get, slice_range, slice_index_or}
 use Rattle.std.specs.List.{list_all, list_any}
 use Rattle.wild_types.specs.declared.layout.Layout.{Layout}
@@ -49,19 +49,19 @@ use Rattle.wild_types.specs.Lookups.{has_table}
 use Rattle.wild_needs.specs.TableSymbols.{has_long, local_count, global_count, table_strings}
 use Rattle.wild_needs.specs.DynamicStrings.{text_room, entry_names, strings_room, needed_count}
 
--- the bytes of the sections' names, each with a zero behind it
+-- the size of the section names in bytes, each with a terminating zero
 abbrev pub name_bytes : Layout → ℕ
 name_bytes l = total (λ s. length s.name + 1) l.sections
 
--- what stands behind all else, of the last file
+-- the last file's bytes, which follow all others
 abbrev pub last_of : FileRole → ℕ → ℕ
 last_of f size = if is_epilogue f then size else 0
 
--- the search table of frames: its header, and an entry an FDE that is kept (LSB, "The .eh_frame_hdr section")
+-- the search table of frames: its header, and an entry for each kept FDE (LSB, "The .eh_frame_hdr section")
 abbrev pub search_table_room : Layout → ℕ
 search_table_room l = if l.options.eh_frame_hdr then eh_frame_hdr_size + eh_frame_hdr_entry_size * all_fdes l else 0
 
--- a note of GNU: its header, and the name with a zero (gABI, "Note Section")
+-- a GNU note: its header, and the name with a terminating zero (gABI, "Note Section")
 abbrev pub gnu_note_size : ℕ
 gnu_note_size = note_header_size + 4
 
@@ -78,18 +78,18 @@ value_room (values.PointerAuthentication platform version) = 24
 abbrev pub property_room : Property → ℕ
 property_room p = value_room p.value
 
--- the note of the properties, where there are some
+-- the note of the properties, if there are any
 abbrev pub properties_room : List Property → ℕ
 properties_room ps = if length ps == 0 then 0 else gnu_note_size + total property_room ps
 
--- the frames of a file whose sections are as they stand, and behind those of the last file a length of zero, where the option asks for one
+-- the placed frames of a file; if the option is set, the last file also has the zero length that ends the frames
 abbrev pub frame_room : InputSection → ℕ
 frame_room s = if is_frame s.slot then s.size else 0
 
 abbrev pub frames_room : Layout → File → ℕ
 frames_room l f = total frame_room f.sections + (if l.options.terminator then last_of f.role 4 else 0)
 
--- what stands once in an image, by role; parts of other roles are empty
+-- the bytes that appear once in an image, by role; parts of other roles are empty
 abbrev pub whole_of : Layout → Role → ℕ
 whole_of l role.FileHeader = file_header_size
 whole_of l role.ProgramHeaders = program_header_size * length l.segments
@@ -99,39 +99,43 @@ whole_of l role.EhFrameHdr = search_table_room l
 whole_of l role.Interp = length l.interp
 whole_of l other = 0
 
--- how many entries a file has in the dynamic symbol table, which begins with an entry of zeros (gABI, "Symbol Table")
+-- the number of entries of a file in the dynamic symbol table, which begins with the null symbol (gABI, "Symbol Table")
 abbrev pub dynsym_count : Layout → File → ℕ
 dynsym_count l f = if needs_dynsym l.kind then (if is_prelude f.role then 1 else 0) + length (entry_names l f) else 0
 
--- how many symbols of a file have a version, where the option asks for versions
+-- the number of symbols of a file that have a version, if the option is set
 abbrev pub version_count : Layout → File → ℕ
 version_count l f = if l.options.versions then dynsym_count l f else 0
 
--- a hash table of that shape, of an output with dynamic symbols: the counts, a word a bucket, and one a symbol (gABI, "Hash Table")
+-- the size of a hash table of that shape: the two counts, a word for each bucket, and one for each symbol (gABI, "Hash Table")
 abbrev pub sysv_room : Layout → Option SysvHash → ℕ
 sysv_room l None = 0
 sysv_room l (Some h) = 8 + (4 * h.buckets + 4 * (1 + length (dynamic_symbols l)))
 
--- the header, the words of the Bloom filter, a word a bucket, and one a symbol that is defined (GNU, "DT_GNU_HASH")
+-- the size of a GNU hash table: the header, the Bloom filter, a word for each bucket, and one for each symbol of `dynsyms` (GNU,
+-- "DT_GNU_HASH")
 abbrev pub gnu_room : Layout → Option GnuHash → ℕ
 gnu_room l None = 0
 gnu_room l (Some h) = gnu_hash_header_size + (8 * h.bloom_count + (4 * h.buckets + 4 * length l.dynsyms))
 
--- what an output with dynamic symbols has, of the last file
+-- the bytes of the last file, if the output has dynamic symbols
 abbrev pub last_dynamic : Layout → FileRole → ℕ → ℕ
 last_dynamic l f size = if needs_dynsym l.kind then last_of f size else 0
 
--- the size of a section index of 32 bits (gABI, SHT_SYMTAB_SHNDX)
+-- the size of a 32-bit section index in bytes (gABI, SHT_SYMTAB_SHNDX)
 abbrev pub long_index_size : ℕ
 long_index_size = 4
 
--- so many indexes, where a part of that role has them
+-- the size of count 32-bit indexes, if a part of that role has them
 abbrev pub long_room : Layout → Role → ℕ → ℕ
 long_room l r count = if has_long l r then long_index_size * count else 0
 
--- what a file has to write for a loader: the addresses that it adds the base to, as entries with addends, and as words;
--- the entries that name symbols or resolvers; the dynamic symbol table, its strings, versions and hash tables, and the dynamic
--- section; and for other readers the table of all symbols
+-- the share of a file in tables for a loader and other readers:
+--   relative relocations, as entries with addends and as RELR words
+--   the entries that name symbols or resolvers
+--   the dynamic symbol table, its strings, versions and hash tables, and the dynamic section
+--   `.symtab` with its strings and indexes
+--   frames and notes
 abbrev pub own_of : Layout → Role → File → ℕ
 own_of l role.RelaDynRelative f = rela_size * entry_count l f
 own_of l role.RelaDynGeneral f = rela_size * general_count l f
@@ -154,7 +158,7 @@ own_of l role.BuildId f = last_of f.role (build_id_room l.build_id)
 own_of l role.Property f = last_of f.role (properties_room l.properties)
 own_of l other f = 0
 
--- of these roles a file's sections tell what it has to write
+-- the roles for which a file's share depends on its sections
 abbrev pub reads_sections : Role → Bool
 reads_sections role.RelaDynRelative = true
 reads_sections role.RelaDynGeneral = true
@@ -162,13 +166,13 @@ reads_sections role.RelrDyn = true
 reads_sections role.EhFrame = true
 reads_sections other = false
 
--- and where they stand
+-- the roles for which it depends on the addresses of the sections
 abbrev pub reads_places : Layout → Role → Bool
 reads_places l role.RelaDynRelative = is_position_independent l.kind && l.options.relr
 reads_places l role.RelrDyn = is_position_independent l.kind && l.options.relr
 reads_places l other = false
 
--- what an output that no loader relocates may have beside slots: entries for resolvers, and frames, which its sections tell, and notes
+-- roles that an output which no loader relocates may need besides slots: entries for resolvers, frames (by its sections), and notes
 abbrev pub is_static : Layout → Role → Bool
 is_static l role.RelaDynGeneral = true
 is_static l role.EhFrame = true
@@ -176,35 +180,35 @@ is_static l role.BuildId = is_some l.build_id
 is_static l role.Property = not (length l.properties == 0)
 is_static l other = false
 
--- what the first file writes: what stands once
+-- the share of the first file: the bytes that appear once
 abbrev pub first_share : Layout → Role → ℕ
 first_share l r = whole_of l r + header_share l r
 
--- what one file has to write in a part of that role
+-- the share of one file in a part of that role
 abbrev pub share : Layout → Role → File → ℕ
 share l r f = (if is_prelude f.role then first_share l r else 0) + own_of l r f + slot_share l r f
 
--- neither the first file nor the last, in an output without a dynamic section and without a table of all symbols
+-- the file is neither the first nor the last, and the output has no dynamic section and no `.symtab`
 abbrev pub has_plain_role : Layout → File → Bool
 has_plain_role l f = not (needs_dynamic l.kind) && not (has_table l) && not (is_prelude f.role) && not (is_epilogue f.role)
 
--- such a file without entries and frames, none of whose symbols has a slot: it writes nothing in any part but raw ones
+-- such a file without slots, entries and frames: it writes only input sections
 abbrev pub is_plain : Layout → File → Bool
 is_plain l f = has_plain_role l f && (list_all is_without (own_symbols l f) && (general_count l f == 0 && frames_room l f == 0))
 
--- a symbol without a slot that no other module defines
+-- the symbol has no slot, and no other module defines it
 abbrev pub is_alone : Symbol → Bool
 is_alone s = is_without s && not (has_flag s.flags dynamic)
 
--- an output without a dynamic section and without a table of all symbols, each of whose symbols is one
+-- the output has no dynamic section and no `.symtab`, and all its symbols are such symbols
 abbrev pub is_bare : Layout → Bool
 is_bare l = not (needs_dynamic l.kind) && not (has_table l) && list_all is_alone l.symbols
 
--- a section that the program does not write to, none of frames: in such an output no entry names a symbol for one of its fields
+-- a read-only section without frames: in such an output no entry names a symbol for one of its fields
 abbrev pub is_fixed : InputSection → Bool
 is_fixed s = not (is_frame s.slot) && not (writable s.flags)
 
--- a file of such sections, neither the first nor the last, that has nothing copied
+-- a file of such sections that has no copy relocations and is neither the first nor the last
 abbrev pub is_bare_file : File → Bool
 is_bare_file f = not (is_prelude f.role) && not (is_epilogue f.role) && length (copies_of f) == 0 && list_all is_fixed f.sections
 
@@ -216,25 +220,26 @@ is_bare_group g = list_all is_bare_file g.files
 abbrev pub inner : List Group → List Group
 inner gs = slice_range gs 1 (length gs - 1)
 
--- in a bare output these are such groups
+-- in such an output these groups have only such files
 abbrev pub is_bare_inside : Layout → Bool
 is_bare_inside l = is_bare l && list_all is_bare_group (inner l.groups)
 
--- the group has the last file
+-- the group contains the last file
 abbrev pub has_last : Group → Bool
 has_last g = list_any (λ (f : File). is_epilogue f.role) g.files
 
--- what stands behind all else of the group with the last file: the words of the sorted sections, behind those of the group's block of slots
+-- the bytes that follow all else of the group with the last file: the RELR words of the sorted sections, after those of the group's
+-- block of slots
 abbrev pub last_share : Layout → Role → Group → ℕ
 last_share l role.RelrDyn g = if has_last g then relr_size * length (sorted_words l) else 0
 last_share l other g = 0
 
--- what a group has to write in a part of that role: what its files have, as their sections stand, the words that pack its block of slots, and what
--- stands behind those
+-- the share of a group in a part of that role: the shares of its files with placed sections, the RELR words of its block of slots, and
+-- what follows them
 abbrev pub group_share : Layout → Role → Group → ℕ
 group_share l r g = total (share l r) (laid_files l g) + (block_share l r g + last_share l r g)
 
--- a raw part's input sections are given their room by the layout itself
+-- the layout itself gives the room of input sections, in raw parts
 abbrev pub needs_of : Layout → Role → ℕ → Group → ℕ
 needs_of l role.Raw part g = slice_index_or g.part_sizes part 0
 needs_of l r part g = min (2 ^ 64 - 1) (group_share l r g)
@@ -243,10 +248,10 @@ abbrev pub needs_by : Layout → ℕ → Option Part → Option Group → ℕ
 needs_by l part (Some p) (Some g) = needs_of l p.role part g
 needs_by l part _ _ = 0
 
--- the group's share of the part; 0 where there is no such part or group
+-- the group's share of the part; 0 if there is no such part or group
 unfoldable pub needs : Layout → ℕ → ℕ → ℕ
 needs l part group = needs_by l part (slice_get l.parts part) (slice_get l.groups group)
 
--- what all groups have to write in a part of that role
+-- the sum of the shares of all groups in a part of that role
 abbrev pub total_share : Layout → Role → ℕ
 total_share l r = total (group_share l r) l.groups

@@ -1,6 +1,6 @@
--- How many symbols of sections a relocatable object has, file by file (gABI, "Symbol Table": STT_SECTION).
---   alone_of f      how many sections of a file the object keeps by themselves
---   alone_count l   how many of all files
+-- The number of section symbols of a relocatable object, file by file (gABI, "Symbol Table": STT_SECTION).
+--   alone_of f      the number of input sections of a file that the object keeps as sections of their own
+--   alone_count l   the number of such sections of all files
 use Rattle.std.specs.Prelude.{ℕ, List, length, option_to_list}
 use Rattle.wild_types.specs.declared.input.InputSection.{InputSection}
 use Rattle.wild_types.specs.declared.file.File.{File}

@@ -1,10 +1,10 @@
--- What the slots and stubs of a file's symbols take of the parts (x86-64 psABI, "Global Offset Table (GOT)", "Procedure
+-- What the slots and stubs of a file's symbols need of the parts (x86-64 psABI, "Global Offset Table (GOT)", "Procedure
 -- Linkage Table").
---   header_words l       the words that stand once, at the start of the table
---   takes_none l r       slots take nothing of parts of that role
---   slot_share l r f     what a file's symbols take of the part of a role
---   block_words l g      the packed words for a group's block of slots
---   block_share l r g    what they take
+--   header_words l       the words that appear once, at the start of the GOT
+--   takes_none l r       slots need no bytes of parts of that role
+--   slot_share l r f     the bytes that a file's symbols need of the part of a role
+--   block_words l g      the RELR words for a group's block of slots
+--   block_share l r g    the size of these words in bytes
 use Rattle.std.specs.Prelude.{ℕ, ◌+◌, ◌*◌, ◌==◌, Bool, true, false, not, ◌&&◌, ◌||◌, if◌then◌else◌, List, [], ◌∷◌, ◌++◌, min, ◌-◌, ◌^◌, length, replicate, Option, Some, None, unwrap_or}
 use Rattle.wild_records.specs.Relocations.{rela_size, relr_size}
 use Rattle.wild_relr.specs.Packed.{block}
@@ -30,11 +30,11 @@ use Rattle.wild_slot.specs.SlotParts.{at_places, slot_words, slot_entries, flat_
 use Rattle.wild_types.specs.FileSymbols.{own_symbols}
 use Rattle.wild_slot.specs.SymbolWords.{slots_of}
 
--- the size of a word of a slot
+-- the size of a slot in bytes
 abbrev pub word_size : ℕ
 word_size = 8
 
--- the size of a stub
+-- the size of a stub in bytes
 abbrev pub stub_size : ℕ
 stub_size = 16
 
@@ -47,7 +47,7 @@ words_in part l s = slot_words part l.options.relr (slots_at s) (slots_of l s).w
 abbrev pub entries_in : EntryPart → Layout → Symbol → ℕ
 entries_in part l s = length (slot_entries part l.machine l.options.relr (slots_at s) (slots_of l s).words)
 
--- the pair of the output's own thread-local data, where it has a place
+-- the module pair of the output's own thread-local data, if it has an address
 abbrev pub storage_at : Setting → Option ℕ → List SlotWord
 storage_at s None = []
 storage_at s (Some at) = storage_pair s
@@ -59,13 +59,13 @@ storage_words l = storage_at (setting_of l) l.tlsld
 abbrev pub header_words : Layout → List ℕ
 header_words l = replicate l.got_header 0 ++ slot_words words.Got l.options.relr (unwrap_or l.tlsld 0) (storage_words l)
 
--- the entry of that pair, where it has one
+-- the number of entries for that pair
 abbrev pub header_entries : Layout → ℕ
 header_entries l = length (slot_entries entries.General l.machine l.options.relr (unwrap_or l.tlsld 0) (storage_words l))
 
 -- ---- bytes
 
--- what a symbol takes of the part of a role
+-- the bytes that a symbol needs of the part of a role
 abbrev pub symbol_share : Layout → Role → Symbol → ℕ
 symbol_share l role.Got s = word_size * length (words_in words.Got l s)
 symbol_share l role.GotRelr s = word_size * length (words_in words.Block l s)
@@ -76,7 +76,7 @@ symbol_share l role.RelaDynGeneral s = rela_size * entries_in entries.General l 
 symbol_share l role.RelrDyn s = relr_size * length (flat_places l.options.relr (slots_at s) (slots_of l s).words)
 symbol_share l other s = 0
 
--- slots and stubs take something of parts of these roles
+-- parts of these roles hold slots or stubs, or entries for them
 abbrev pub is_of_slots : Role → Bool
 is_of_slots role.Got = true
 is_of_slots role.GotRelr = true
@@ -87,26 +87,26 @@ is_of_slots role.RelaDynGeneral = true
 is_of_slots role.RelrDyn = true
 is_of_slots other = false
 
--- what a file's symbols take
+-- the bytes that a file's symbols need
 unfoldable pub slot_share : Layout → Role → File → ℕ
 slot_share l r f = total (symbol_share l r) (own_symbols l f)
 
--- what stands once
+-- the bytes that appear once
 abbrev pub header_share : Layout → Role → ℕ
 header_share l role.Got = word_size * length (header_words l)
 header_share l role.RelaDynGeneral = rela_size * header_entries l
 header_share l other = 0
 
--- slots take nothing of parts of that role: it is none of theirs, or nothing stands once there and no symbol has a slot
+-- slots need no bytes of parts of that role: it is none of theirs, or it has no bytes that appear once and no symbol has a slot
 abbrev pub takes_none : Layout → Role → Bool
 takes_none l r = not (is_of_slots r) || (header_share l r == 0 && list_all is_without l.symbols)
 
--- the place of a word, where it is one of the block
+-- the place of a word, if it belongs to the block
 abbrev pub block_place : ℕ → SlotWord → Option ℕ
 block_place at (InBlock a) = Some at
 block_place at other = None
 
--- the places of a group's words in its block
+-- the places of a symbol's words in the group's block
 abbrev pub block_places : Layout → Symbol → List ℕ
 block_places l s = at_places block_place (slots_at s) (slots_of l s).words
 
@@ -117,19 +117,19 @@ abbrev pub first_place : List ℕ → ℕ
 first_place [] = 0
 first_place (p ∷ ps) = p
 
--- slots of eight bytes, one behind the other, by their places: where they begin, and how many there are, at most 2^64 - 1
+-- consecutive slots of 8 bytes, by their places: the first place, and the number of slots, at most 2^64 - 1
 abbrev pub block_of : List ℕ → Block
 block_of ps = record { base = first_place ps; count = min (2 ^ 64 - 1) (length ps) }
 
--- the words that pack a block (gABI, "Relative Relocation Table")
+-- the RELR words that pack a block (gABI, "Relative Relocation Table")
 abbrev pub words_of_block : Block → List ℕ
 words_of_block b = block b.base b.count
 
--- those of a group's block
+-- the RELR words that pack a group's block
 abbrev pub block_words : Layout → Group → List ℕ
 block_words l g = words_of_block (block_of (group_block l g))
 
--- what these words take
+-- the size of these words in bytes
 abbrev pub block_share : Layout → Role → Group → ℕ
 block_share l role.RelrDyn g = relr_size * length (block_words l g)
 block_share l other g = 0

@@ -1,16 +1,16 @@
--- Which symbols `.symtab` has (gABI, "Symbol Table"). Its local symbols stand in front of all others; names stand in the order in
--- which the files are processed.
+-- The symbols of `.symtab` (gABI, "Symbol Table"). Its local symbols precede all others; names are in the order in which the files are
+-- processed.
 --   TableSymbol            a symbol of the layout, or the name of its slot, of its stub or of a thunk to it
---   section_symbols l      the sections that a relocatable object has symbols for
---   pass_items l p i ss    what symbols from number i on give, in one pass
+--   section_symbols l      the sections for which a relocatable object has symbols
+--   pass_items l p i ss    the items for symbols from number i on, in one pass
 --   thunk_items l f        the names of the thunks that a file writes
---   file_items l f         what a file gives, in the order of the names
+--   file_items l f         the items for a file, in the order of the names
 --   item_name x            its name
---   is_local x             it stands among the local symbols
---   side local xs          those that do, or the others
---   local_count, global_count   how many entries a file has among the local symbols, and among the others
+--   is_local x             it is a local symbol
+--   side local xs          the local symbols, or the global ones
+--   local_count, global_count   the number of entries of a file for local symbols, and for global ones
 --   table_strings l f      the strings of a file
---   has_long l r           a part of that role has a section index of 32 bits for each symbol
+--   has_long l r           parts of that role have a 32-bit section index for each symbol
 use Rattle.std.specs.Prelude.{ℕ, ◌+◌, ◌/◌, ◌==◌, Bool, true, false, not, ◌&&◌, ◌||◌, if◌then◌else◌, List, [], ◌∷◌, ◌++◌, length, map, codes, Option, Some, None, option_to_list, slice_get}
 use Rattle.std.specs.List.{filter, flat_map, list_any}
 use Rattle.wild_records.specs.Abi.Symbol.{stb_local}
@@ -43,7 +43,7 @@ use Rattle.wild_walk.specs.Runs.{numbered}
 
 -- ---- symbols
 
--- a symbol of the layout, its number, and what of it is named: itself, its slot, its stub, or a thunk to it
+-- a symbol of the layout, its number, and the kind of its name: its own, its slot's, its stub's, or that of a thunk to it
 pub record TableSymbol : Type 0 where
   pub named : Named
   pub index : ℕ
@@ -58,7 +58,7 @@ where_asked b x = if b then x ∷ [] else []
 abbrev pub slot_items : Layout → ℕ → Symbol → List TableSymbol
 slot_items l i s = where_asked (names_slot l i s) (item named.Slot i s) ++ where_asked (names_stub l i s) (item named.Stub i s)
 
--- nothing defines the symbol here
+-- the symbol is undefined
 abbrev pub is_undefined_symbol : Place → Bool
 is_undefined_symbol at.Undefined = true
 is_undefined_symbol other = false
@@ -73,21 +73,21 @@ is_of_pass takes.Nothing s = false
 abbrev pub own_item : Own → ℕ → Symbol → List TableSymbol
 own_item o i s = where_asked (is_of_pass o s && s.emit) (item named.Itself i s)
 
--- what a symbol gives in a pass: names of its slot and its stub, and its own behind them
+-- the items for a symbol in a pass: the names of its slot and its stub, then its own
 abbrev pub symbol_items : Layout → Pass → ℕ → Symbol → List TableSymbol
 symbol_items l p i s = (if p.slots then slot_items l i s else []) ++ own_item p.own i s
 
--- what symbols give, from number i on
+-- the items for symbols in a pass, from number i on
 abbrev pub pass_items : Layout → Pass → ℕ → List Symbol → List TableSymbol
 pass_items l p i ss = numbered (symbol_items l p) i ss
 
--- a file from elsewhere has all in one pass; the linker's own has its symbols first, and then the names of their slots
+-- an input file has one pass; the linker's own files have their symbols first, and then the names of their slots
 abbrev pub linked_passes : FileRole → List Pass
 linked_passes file_role.Object = record { slots = true; own = takes.Every } ∷ []
 linked_passes file_role.Dynamic = record { slots = true; own = takes.Every } ∷ []
 linked_passes other = record { slots = false; own = takes.Every } ∷ record { slots = true; own = takes.Nothing } ∷ []
 
--- in a relocatable object, which has no slots, a file's undefined symbols follow its others
+-- in a relocatable object, which has no slots, a file's undefined symbols follow the others
 abbrev pub passes : OutputKind → FileRole → List Pass
 passes kind role =
     if is_partial_link kind
@@ -109,7 +109,7 @@ thunk_item l t = named_thunk t (slice_get l.symbols t.symbol)
 abbrev pub thunk_items : Layout → File → List TableSymbol
 thunk_items l f = flat_map (thunk_item l) (thunks_of l f)
 
--- what a file gives: its symbols, and behind them its thunks
+-- the items for a file: its symbols, then its thunks
 unfoldable pub file_items : Layout → File → List TableSymbol
 file_items l f = if has_table l then items_of l (passes l.kind f.role) f ++ thunk_items l f else []
 
@@ -124,16 +124,16 @@ suffix named.Slot = codes "$got"
 suffix named.Stub = codes "$plt"
 suffix other = []
 
--- what is named of a symbol with that name
+-- the full name of an item for a symbol with that name
 abbrev pub full_name : Named → List ℕ → List ℕ
 full_name n name = prefix n ++ (name ++ suffix n)
 
 abbrev pub item_name : TableSymbol → List ℕ
 item_name x = full_name x.named x.symbol.name
 
--- ---- sides
+-- ---- local and global symbols
 
--- the symbol's binding is local, or it was made so (gABI, "Symbol Table", STB_LOCAL)
+-- the symbol's binding is local, or was downgraded to local (gABI, "Symbol Table", STB_LOCAL)
 abbrev pub is_local_symbol : Symbol → Bool
 is_local_symbol s = s.info / 16 == stb_local || has_flag s.flags downgrade_to_local
 
@@ -149,18 +149,18 @@ abbrev pub is_on : Bool → TableSymbol → Bool
 is_on true x = is_local x
 is_on false x = not (is_local x)
 
--- the local ones, or the others
+-- the local symbols, or the global ones
 abbrev pub side : Bool → List TableSymbol → List TableSymbol
 side local xs = filter (is_on local) xs
 
 -- ---- section symbols
 
--- the places of the sections that ask for a symbol, counted from k on
+-- the header indexes of the sections that have a section symbol by the layout, counted from k on
 abbrev pub asked_from : ℕ → List Section → List ℕ
 asked_from k [] = []
 asked_from k (s ∷ ss) = if s.section_symbol then k ∷ asked_from (k + 1) ss else asked_from (k + 1) ss
 
--- and those of the sections that the object keeps by themselves, in the order of processing
+-- the header indexes of the input sections that the object keeps as sections of their own, in the order of processing
 abbrev pub kept_alone : Layout → List ℕ
 kept_alone l = flat_map (λ (f : File). flat_map (λ (s : InputSection). option_to_list s.singleton) f.sections) (files_of l.groups)
 
@@ -168,11 +168,11 @@ kept_alone l = flat_map (λ (f : File). flat_map (λ (s : InputSection). option_
 unfoldable pub section_symbols : Layout → List ℕ
 section_symbols l = if is_partial_link l.kind then asked_from 0 l.sections ++ kept_alone l else []
 
--- the table begins with an entry of zeros, which is local, and those of sections
+-- the table begins with the null symbol, which is local, and the section symbols
 abbrev pub null_count : Layout → File → ℕ
 null_count l f = if has_table l && is_prelude f.role then 1 + length (section_symbols l) else 0
 
--- how many entries a file has among the local symbols, and among the others
+-- the number of entries of a file for local symbols, and for global ones
 abbrev pub local_count : Layout → File → ℕ
 local_count l f = null_count l f + length (side true (file_items l f))
 
@@ -181,7 +181,7 @@ global_count l f = length (side false (file_items l f))
 
 -- ---- strings
 
--- the empty string, with which the table of strings begins, is the first file's (gABI, "String Table")
+-- the empty string, with which the string table begins, belongs to the first file (gABI, "String Table")
 abbrev pub null_strings : Layout → File → List (List ℕ)
 null_strings l f = if has_table l && is_prelude f.role then [] ∷ [] else []
 
@@ -191,6 +191,6 @@ table_strings l f = null_strings l f ++ map item_name (file_items l f)
 
 -- ---- longer section indexes
 
--- each symbol has an index of 32 bits too, where there is a part for them, or a section that needs one (gABI, SHT_SYMTAB_SHNDX)
+-- each symbol has a 32-bit index, if there is a part for them, or a section that needs one (gABI, SHT_SYMTAB_SHNDX)
 abbrev pub has_long : Layout → Role → Bool
 has_long l r = list_any (has_role r) l.parts || has_many_sections l

@@ -1,6 +1,6 @@
--- How many undefined entries of the dynamic symbol table files and groups give.
---   undefined_of ss f    how many of a file
---   undefined_count l    how many of all files
+-- The numbers of undefined entries of files and groups in the dynamic symbol table.
+--   undefined_of ss f    the number for a file
+--   undefined_count l    the number for all files
 use Rattle.std.specs.Prelude.{ℕ, ◌+◌, Bool, true, false, List}
 use Rattle.wild_types.specs.declared.symbol.Symbol.{Symbol}
 use Rattle.wild_types.specs.declared.file.FileRole.{FileRole}

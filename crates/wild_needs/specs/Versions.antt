@@ -1,11 +1,11 @@
--- How many bytes tables of versions have (LSB, "Symbol Versioning").
+-- The sizes of version tables (LSB, "Symbol Versioning").
 --   definition_size d    the record of a version that the output defines, with its names
---   need_size n          the record of a library, with the versions that are needed of it
---   definitions_room l, needs_room l f   what a file has to write of both
---   need_count l         of how many libraries versions are needed
---   version_names l f    the strings of a file's versions, which no symbol has
---   versions_needed ..   how many versions are needed
---   versions_fit l       each has an index of 16 bits
+--   need_size n          the record of a library, with the versions that are needed from it
+--   definitions_room l, needs_room l f   the bytes of both that a file writes
+--   need_count l         the number of libraries from which versions are needed
+--   version_names l f    the strings of a file's versions, which are no name of a symbol
+--   versions_needed ..   the number of needed versions
+--   versions_fit l       each version has a 16-bit index
 use Rattle.std.specs.Prelude.{ℕ, ◌+◌, Bool, true, ◌&&◌, if◌then◌else◌, nat_le, List, [], ◌∷◌, length, Option, Some, None, ◌*◌, false, map, drop}
 use Rattle.std.specs.List.{filter}
 use Rattle.wild_types.specs.declared.file.VersionNeeds.{VersionNeeds}
@@ -23,7 +23,7 @@ use Rattle.wild_types.specs.Kinds.{needs_dynsym}
 
 -- ---- versions that the output defines
 
--- the record and its name, with the parent's behind it
+-- the record and its name, and the parent's name if it has one
 abbrev pub size_with : Option ℕ → ℕ
 size_with None = verdef_size + verdaux_size
 size_with (Some p) = verdef_size + (verdaux_size + verdaux_size)
@@ -31,15 +31,15 @@ size_with (Some p) = verdef_size + (verdaux_size + verdaux_size)
 abbrev pub definition_size : VersionDefinition → ℕ
 definition_size d = size_with d.parent
 
--- how many bytes versions have
+-- the size of version records in bytes
 abbrev pub definitions_size : List VersionDefinition → ℕ
 definitions_size ds = total definition_size ds
 
--- the last file writes them, where the output has dynamic symbols
+-- the last file writes them, if the output has dynamic symbols
 abbrev pub definitions_room : Layout → File → ℕ
 definitions_room l f = if needs_dynsym l.kind && is_epilogue f.role then definitions_size l.verdefs else 0
 
--- ---- versions that are needed of libraries
+-- ---- versions that are needed from libraries
 
 -- the record and its versions
 abbrev pub need_size : VersionNeeds → ℕ
@@ -49,7 +49,7 @@ abbrev pub room_of : Option VersionNeeds → ℕ
 room_of None = 0
 room_of (Some n) = need_size n
 
--- a library has versions that are needed of it
+-- the versions that are needed from a file, if it is a library
 abbrev pub needs_of : File → Option VersionNeeds
 needs_of f = if is_library f.role then f.verneed else None
 
@@ -63,7 +63,7 @@ is_needed (Some n) = true
 abbrev pub has_needs : File → Bool
 has_needs f = is_needed (needs_of f)
 
--- of how many libraries versions are needed
+-- the number of libraries from which versions are needed
 abbrev pub need_count : Layout → ℕ
 need_count l = length (filter has_needs (files_of l.groups))
 
@@ -72,7 +72,7 @@ need_count l = length (filter has_needs (files_of l.groups))
 abbrev pub needed_names : List NeededVersion → List (List ℕ)
 needed_names vs = map (λ (v : NeededVersion). v.name) vs
 
--- a library's name once more, and the names of its versions
+-- a library's name a second time, and the names of its versions
 abbrev pub need_names : List ℕ → Option VersionNeeds → List (List ℕ)
 need_names library None = []
 need_names library (Some n) = library ∷ needed_names n.versions
@@ -80,7 +80,7 @@ need_names library (Some n) = library ∷ needed_names n.versions
 abbrev pub definition_names : List VersionDefinition → List (List ℕ)
 definition_names ds = map (λ (d : VersionDefinition). d.name) ds
 
--- the first version is the output's own name: where the layout has one for it, its string serves
+-- the first version is that of the output itself: if the layout has a soname, the version uses the soname's string
 abbrev pub own_names : Option (List ℕ) → List VersionDefinition → List (List ℕ)
 own_names None ds = definition_names ds
 own_names (Some soname) ds = definition_names (drop 1 ds)
@@ -93,19 +93,19 @@ abbrev pub length_of : Option VersionNeeds → ℕ
 length_of None = 0
 length_of (Some n) = length n.versions
 
--- how many are needed of a file
+-- the number of versions needed from a file
 abbrev pub file_versions : File → ℕ
 file_versions f = length_of (needs_of f)
 
--- how many are needed of a group
+-- the number of versions needed from a group
 abbrev pub group_versions : Group → ℕ
 group_versions g = total file_versions g.files
 
--- how many versions are needed of all libraries
+-- the number of versions needed from all libraries
 abbrev pub versions_needed : Layout → ℕ
 versions_needed l = total file_versions (files_of l.groups)
 
--- an index of a version has 16 bits (LSB, vd_ndx, vn_cnt)
+-- a version index has 16 bits (LSB, vd_ndx, vn_cnt)
 abbrev pub most_versions : ℕ
 most_versions = 65535
 

@@ -1,4 +1,5 @@
-//! Files that need nothing, known by their roles and sections alone: where no symbol of the output has a slot or is another module's.
+//! A fast test for a common case. If no symbol has a slot and none is another module's, a file's role and section flags show that it
+//! needs nothing.
 ghost use Rattle.std.specs.Prelude.{◌≡◌, true};
 ghost use Rattle.wild_types.specs.declared.part.Role.{Role};
 ghost use Rattle.wild_needs.specs.Needs.{is_alone, is_bare, is_fixed, is_bare_file, is_bare_group, inner, is_bare_inside, group_share};
@@ -7,7 +8,7 @@ use wild_types::{
     File, Group, InputSection, Layout, Symbol, Test, all_pass, is_without, is_writable,
 };
 
-/// A symbol has no slot, and no other module defines it.
+/// The test that a symbol has no slot and no other module defines it.
 struct IsAlone;
 
 impl Test<Symbol> for IsAlone {
@@ -18,8 +19,7 @@ impl Test<Symbol> for IsAlone {
     }
 }
 
-/// Whether an output has no dynamic section and no table of all symbols, and each of its symbols is one without a slot that no other
-/// module defines.
+/// Whether an output has no dynamic section, no `.symtab`, and no symbol that has a slot or that another module defines.
 pub fn is_bare(layout: &Layout) -> bool
     ensures { result ≡ is_bare layout.now }
 {
@@ -28,8 +28,8 @@ pub fn is_bare(layout: &Layout) -> bool
         && all_pass(&IsAlone, layout.symbols.as_slice())
 }
 
-/// The program does not write to a section, and it is none of frames. A file has such sections alone, nothing copied, and is neither the first
-/// nor the last.
+/// The test that a section is read-only and holds no frames. A file passes if all its sections do, it has no copy relocations, and it is
+/// neither the first nor the last file.
 struct IsFixed;
 
 impl Test<InputSection> for IsFixed {
@@ -69,14 +69,15 @@ fn inner(groups: &[Group]) -> &[Group]
     }
 }
 
-/// Whether an output is bare, with groups of such files alone between the first and the last: these need nothing.
+/// Whether `is_bare` holds for an output, and all files between the first and the last group pass that test. Then these groups need
+/// nothing.
 pub fn is_bare_inside(layout: &Layout) -> bool
     ensures { result ≡ is_bare_inside layout.now }
 {
     is_bare(layout) && all_pass(&IsFixed, inner(layout.groups.as_slice()))
 }
 
-/// Whether all files of a group are such. In such an output the group needs nothing.
+/// Whether all files of a group pass that test. If `is_bare` holds for the output, the group then needs nothing.
 #[tactic(auto, using(crate::proofs::BareLemmas::bare_needs))]
 pub(crate) fn is_bare_group(group: &Group) -> bool
     ensures { (l : Layout) → is_bare l ≡ true → result ≡ true → (r : Role) → group_share l r group.now ≡ 0 }

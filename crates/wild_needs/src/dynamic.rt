@@ -18,7 +18,7 @@ use wild_records::abi::dynamic::{
 use wild_records::{Rela, Relr, SymtabEntry};
 use wild_types::{Layout, Machine, Options, OutputKind, Part, Role, Section, part_with};
 
-/// An entry with a value of its own, in the order in which they stand.
+/// An entry of the last file other than those for strings, in the order in which they are written.
 #[derive(Clone, Copy)]
 pub enum DynamicTag {
     /// The address of `.init`.
@@ -34,24 +34,24 @@ pub enum DynamicTag {
     StringTable,
     StringSize,
     SymbolTable,
-    /// How many bytes one symbol has.
+    /// The size of a symbol in bytes: `DT_SYMENT`.
     SymbolSize,
-    /// The address of the global offset table, where stubs have entries.
+    /// The address of the global offset table, if stubs have entries.
     PltGot,
-    /// How many bytes the entries of stubs have.
+    /// The size of the entries of stubs, in bytes.
     PltRelSize,
     /// That these entries have addends: `DT_RELA`.
     PltRel,
     JmpRel,
     Rela,
     RelaSize,
-    /// How many bytes one entry with an addend has.
+    /// The size of one entry with an addend, in bytes.
     RelaEntry,
-    /// How many of them are relative.
+    /// The number of relative entries.
     RelaCount,
     Relr,
     RelrSize,
-    /// How many bytes one word of packed relocations has.
+    /// The size of one RELR word, in bytes.
     RelrEntry,
     SysvHash,
     GnuHash,
@@ -60,7 +60,7 @@ pub enum DynamicTag {
     VersionDefinitions,
     VersionDefinitionCount,
     VersionNeeds,
-    /// Of how many libraries versions are needed.
+    /// The number of libraries from which versions are needed.
     VersionNeedCount,
     /// A word for debuggers.
     Debug,
@@ -69,14 +69,14 @@ pub enum DynamicTag {
     Flags1,
     /// Stubs begin with a landing pad for indirect branches (AArch64).
     BtiPlt,
-    /// Some function has a calling convention of its own (AArch64).
+    /// Some function has a variant calling convention (AArch64).
     VariantPcs,
     /// The end of the entries.
     Null,
 }
 
 impl DynamicTag {
-    /// All of them, in their order.
+    /// All entries, in their order.
     #[tactic(auto, unfolding(crate::specs::Dynamic::all_tags))]
     pub fn all() -> [DynamicTag; 37]
         ensures { result ≡ all_tags }
@@ -169,14 +169,14 @@ impl DynamicTag {
     }
 }
 
-/// Address and size of a run in memory.
+/// The address and the size of a range in memory.
 #[derive(Clone, Copy)]
 struct Run {
     address: u64,
     size: u64,
 }
 
-/// Where the first section of a name with bytes in the file stands.
+/// The address and the size of the first section with that name that has bytes in the file.
 #[tactic(auto, unfolding(crate::specs::DynamicPlaces::section_named))]
 fn section_named(layout: &Layout, name: &[u8]) -> Option<Run>
     ensures address { option_map (λ r. r.address) result ≡ section_address layout.now name.now }
@@ -218,14 +218,14 @@ fn part_size(part: Option<Part>) -> Option<u64>
     Some(part?.size)
 }
 
-/// A number beside each part that is there.
+/// The number, if the part exists.
 fn beside(number: u64, part: Option<Part>) -> Option<u64>
     ensures { result ≡ beside number part }
 {
     part.and(Some(number))
 }
 
-/// The part of a role, where it is not empty.
+/// The part of a role, if it is not empty.
 fn filled_part(layout: &Layout, role: Role) -> Option<Part>
     ensures { result ≡ filled_part layout.now role }
 {
@@ -235,7 +235,7 @@ fn filled_part(layout: &Layout, role: Role) -> Option<Part>
     }
 }
 
-/// The part at whose front the entries with addends begin.
+/// The part at whose start the entries with addends begin.
 #[tactic(auto, unfolding(crate::specs::DynamicPlaces::first_entries))]
 fn first_entries(layout: &Layout) -> Option<Part>
     ensures { result ≡ first_entries layout.now }
@@ -252,7 +252,7 @@ fn bytes_of(part: Option<Part>) -> u64
     }
 }
 
-/// The bytes of all entries with addends, at most 2^64 - 1.
+/// The size of all entries with addends in bytes, at most 2^64 - 1.
 #[tactic(auto, unfolding(crate::specs::DynamicPlaces::entries_bytes))]
 fn entries_bytes(layout: &Layout) -> u64
     ensures { result ≡ entries_bytes layout.now }
@@ -262,14 +262,14 @@ fn entries_bytes(layout: &Layout) -> u64
     relative.saturating_add(general)
 }
 
-/// How many relative entries there are, where there are any.
+/// The number of relative entries; none if there are none.
 fn relative_count(layout: &Layout) -> Option<u64>
     ensures { result ≡ relative_count layout.now }
 {
     Some(filled_part(layout, Role::RelaDynRelative)?.size / Rela::SIZE as u64)
 }
 
-/// The part of AArch64's stubs, where they begin with a landing pad and there are any.
+/// The part of AArch64's stubs, if they begin with a landing pad and there are any.
 fn marked_stubs(layout: &Layout) -> Option<Part>
     ensures { result ≡ marked_stubs layout.now layout.now.machine }
 {
@@ -317,7 +317,7 @@ fn dynamic_flags_1(kind: OutputKind, options: &Options) -> u64
         | flag(shared && options.interpose, DF_1_INTERPOSE)
 }
 
-/// The value of an entry; none where it is left out.
+/// The value of an entry; none if it is left out.
 #[tactic(auto, unfolding(crate::specs::Dynamic::dynamic_entry))]
 pub fn dynamic_entry(layout: &Layout, tag: DynamicTag) -> Option<u64>
     ensures { result ≡ dynamic_entry layout.now tag }
@@ -383,7 +383,7 @@ pub fn dynamic_entry(layout: &Layout, tag: DynamicTag) -> Option<u64>
     }
 }
 
-/// How many entries with values of their own there are.
+/// The number of entries other than those for strings.
 #[tactic(auto, unfolding(crate::specs::Dynamic::tag_entries, crate::specs::Dynamic::all_tags), using(crate::proofs::DynamicLemmas::length_entry))]
 fn tag_count(layout: &Layout) -> usize
     ensures count { result ≡ length (tag_entries layout.now) }
@@ -401,7 +401,7 @@ fn tag_count(layout: &Layout) -> usize
     count
 }
 
-/// How many entries the last file has; none where the output has no entries for dynamic linking.
+/// The number of entries of the last file; 0 if the output has no entries for dynamic linking.
 #[tactic(auto, using(crate::proofs::DynamicLemmas::length_dynamic_entries))]
 pub fn dynamic_count(layout: &Layout) -> usize
     ensures { result ≡ dynamic_count layout.now }
@@ -409,7 +409,7 @@ pub fn dynamic_count(layout: &Layout) -> usize
     string_count(layout) + tag_count(layout)
 }
 
-/// The entry of a tag has the ranges of its fields.
+/// The fields of a tag's entry are in their ranges.
 #[tactic(auto, using(crate::proofs::DynamicLemmas::entry_fits))]
 fn entry_fits(layout: &Layout, tag: DynamicTag)
     ensures { TagFits layout.now tag }
@@ -418,7 +418,7 @@ fn entry_fits(layout: &Layout, tag: DynamicTag)
     let _value = dynamic_entry(layout, tag);
 }
 
-/// Each entry with a value of its own has the ranges of its fields.
+/// The fields of each entry other than those for strings are in their ranges.
 fn tags_fit(layout: &Layout)
     ensures { All (TagFits layout.now) all_tags }
 {
@@ -427,7 +427,7 @@ fn tags_fit(layout: &Layout)
     }
 }
 
-/// Each entry has the ranges of its fields.
+/// The fields of each entry are in their ranges.
 #[tactic(auto, using(crate::proofs::DynamicLemmas::all_fit, crate::proofs::DynamicLemmas::no_tags_fit, crate::proofs::DynamicLemmas::tags_fit))]
 pub fn dynamic_entries_fit(layout: &Layout)
     ensures { All DynamicEntryFits (dynamic_entries layout.now) }

@@ -1,11 +1,11 @@
-//! The undefined entries of the dynamic symbol table, and how long it is.
+//! The undefined entries of the dynamic symbol table, and its length.
 ghost use Rattle.std.specs.Prelude.{◌≡◌, ◌-◌, ◌^◌, ◌≤◌, min, length};
 ghost use Rattle.wild_needs.specs.DynamicSymbols.{gives_entry, is_undefined_entry, dynsym_of, dynamic_symbols};
 ghost use Rattle.wild_needs.specs.UndefinedCounts.{count_in, undefined_of, undefined_of_group, undefined_count};
 
 use wild_types::{File, FileRole, Group, Layout, Symbol, ValueFlags, some_from};
 
-/// Whether a file of that role gives an undefined entry for a resolution with these flags.
+/// Whether a file of that role writes an undefined entry for a resolution with these flags.
 fn gives_entry(role: FileRole, flags: ValueFlags) -> bool
     ensures { result ≡ gives_entry role flags }
 {
@@ -23,14 +23,14 @@ pub fn is_undefined_entry(role: FileRole, symbol: &Symbol) -> bool
     gives_entry(role, symbol.flags) && symbol.resolution.is_some()
 }
 
-/// The index in the dynamic symbol table that the symbol carries.
+/// The symbol's index in the dynamic symbol table.
 pub fn dynsym_of(symbol: &Symbol) -> Option<u64>
     ensures { result ≡ dynsym_of symbol.now }
 {
     symbol.resolution?.dynamic_symbol_index
 }
 
-/// How many of a file's symbols have an undefined entry.
+/// The number of a file's symbols with an undefined entry.
 pub fn count_in(role: FileRole, symbols: &[Symbol]) -> usize
     ensures count { result ≡ count_in role symbols.now }
     ensures few { result ≤ length symbols.now }
@@ -54,7 +54,7 @@ fn undefined_of(layout: &Layout, file: &File) -> usize
     )
 }
 
-/// At most 2^64 - 1.
+/// The number of undefined entries of a group, at most 2^64 - 1.
 pub fn undefined_of_group(layout: &Layout, group: &Group) -> usize
     ensures { result ≡ min (2 ^ 64 - 1) (undefined_of_group layout.now.symbols group.now) }
 {
@@ -65,7 +65,7 @@ pub fn undefined_of_group(layout: &Layout, group: &Group) -> usize
     count
 }
 
-/// At most 2^64 - 1.
+/// The number of undefined entries of all files, at most 2^64 - 1.
 pub fn undefined_count(layout: &Layout) -> usize
     ensures { result ≡ min (2 ^ 64 - 1) (undefined_count layout.now) }
 {
@@ -76,7 +76,7 @@ pub fn undefined_count(layout: &Layout) -> usize
     count
 }
 
-/// How many symbols the table has behind the null symbol, at most 2^64 - 1.
+/// The number of symbols in the table after the null symbol, at most 2^64 - 1.
 #[tactic(auto, using(crate::proofs::UndefinedLemmas::table_length))]
 pub fn table_length(layout: &Layout) -> usize
     ensures { result ≡ min (2 ^ 64 - 1) (length (dynamic_symbols layout.now)) }

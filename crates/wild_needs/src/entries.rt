@@ -1,5 +1,4 @@
-//! What a loader writes into the fields of relocations, counted: the addresses that it adds its base to, and the entries
-//! that name a symbol or a resolver.
+//! Counts the dynamic relocations of input sections: relative ones, and those that name a symbol or a resolver.
 ghost use Rattle.std.specs.Prelude.{◌≡◌, ℕ, ◌+◌, ◌-◌, ◌^◌, ◌%◌, ◌≤◌, min, List, length, ◌++◌, is_some, option_to_list, IfSome};
 ghost use Rattle.wild_relr.specs.Packed.{counted};
 ghost use Rattle.wild_laid.specs.Laid.{laid_file};
@@ -14,7 +13,7 @@ use wild_relr::{Choice, Run, choice};
 use wild_slot::{Treatment, flags_at, treatment_of};
 use wild_types::{File, InputRelocation, InputSection, Layout, SymbolIndex, is_writable};
 
-/// Whether the address that a relocation writes moves with the base, in a section with such flags.
+/// Whether a relocation writes an address that changes with the load bias, in a section with such flags.
 pub fn is_moved_by(layout: &Layout, flags: u64, relocation: &InputRelocation) -> bool
     ensures { result ≡ is_moved_by layout.now flags relocation.now }
 {
@@ -24,14 +23,14 @@ pub fn is_moved_by(layout: &Layout, flags: u64, relocation: &InputRelocation) ->
     )
 }
 
-/// Whether the address that a relocation of a section writes moves with the base.
+/// Whether a relocation of a section writes an address that changes with the load bias.
 pub fn is_moved(layout: &Layout, section: &InputSection, relocation: &InputRelocation) -> bool
     ensures { result ≡ is_moved layout.now section.now relocation.now }
 {
     is_moved_by(layout, section.flags, relocation)
 }
 
-/// The place of a relocation of a section with such flags at an address, where that is packed.
+/// The place of a relocation if it is packed as RELR, in a section with such flags at an address.
 pub fn packed_at(
     layout: &Layout,
     flags: u64,
@@ -49,7 +48,7 @@ pub fn packed_at(
     }
 }
 
-/// The place of a relocation, where that is packed.
+/// The place of a relocation if it is packed as RELR.
 pub fn packed_place(
     layout: &Layout,
     section: &InputSection,
@@ -61,7 +60,7 @@ pub fn packed_place(
     packed_at(layout, section.flags, section.address, relocation)
 }
 
-/// Whether the place of a relocation of a section with such flags at an address has an entry with an addend.
+/// Whether the place of a relocation has a relative entry with an addend, in a section with such flags at an address.
 pub(crate) fn is_listed_at(
     layout: &Layout,
     flags: u64,
@@ -73,7 +72,7 @@ pub(crate) fn is_listed_at(
     is_moved_by(layout, flags, relocation) && !layout.packs(relocation.place_from(address))
 }
 
-/// How many words a place adds to a run, and where the run stands behind it.
+/// The number of RELR words that a place adds to a run, and the run after it.
 #[tactic(auto, using(crate::proofs::EntryLemmas::counted_more))]
 pub(crate) fn count_place(run: Run, place: Option<u64>) -> (usize, Run)
     ensures rest { (ps : List ℕ) → result.0 + counted result.1 ps ≡ counted run (option_to_list place ++ ps) }
@@ -101,7 +100,7 @@ fn may_be_left(flags: u64, number: u32) -> bool
     }
 }
 
-/// Whether such an entry can name a symbol, or its resolver.
+/// Whether such an entry can name the symbol, or its resolver.
 #[inline]
 fn may_have_entry(layout: &Layout, symbol: Option<SymbolIndex>) -> bool
     ensures { result ≡ may_have_entry layout.now symbol }
@@ -115,7 +114,7 @@ fn may_have_entry(layout: &Layout, symbol: Option<SymbolIndex>) -> bool
     }
 }
 
-/// Whether the treatment of a relocation leaves its field to such an entry.
+/// Whether the treatment of a relocation is such an entry.
 fn is_left_by_treatment(layout: &Layout, flags: u64, relocation: &InputRelocation) -> bool
     ensures { result ≡ is_left_to_entry (treatment layout.now flags relocation.now) }
 {
@@ -125,8 +124,8 @@ fn is_left_by_treatment(layout: &Layout, flags: u64, relocation: &InputRelocatio
     )
 }
 
-/// Whether the field of a relocation of a section with such flags is left to an entry that names a symbol or a resolver. Its
-/// treatment is asked only where its type and its symbol allow that.
+/// Whether an entry that names a symbol or a resolver fills the field of a relocation, in a section with such flags. The treatment is
+/// computed only if the type and the symbol allow such an entry.
 #[inline]
 #[tactic(auto, using(crate::proofs::EntryLemmas::others_stay, crate::proofs::EntryLemmas::plain_stay))]
 pub fn is_left_by(layout: &Layout, flags: u64, relocation: &InputRelocation) -> bool
@@ -137,7 +136,7 @@ pub fn is_left_by(layout: &Layout, flags: u64, relocation: &InputRelocation) -> 
         && is_left_by_treatment(layout, flags, relocation)
 }
 
-/// Whether the field of a relocation of a section is left to an entry that names a symbol or a resolver.
+/// Whether an entry that names a symbol or a resolver fills the field of a section's relocation.
 #[inline]
 pub fn is_left_to_entry(
     layout: &Layout,
@@ -149,21 +148,21 @@ pub fn is_left_to_entry(
     is_left_by(layout, section.flags, relocation)
 }
 
-/// How many entries with addends a file has whose frames begin at an address, at most 2^64 - 1.
+/// The number of relative entries with addends of a file, at most 2^64 - 1. The file's frames begin at address `at`.
 pub fn entry_count(layout: &Layout, at: u64, file: &File) -> u64
     ensures { result ≡ min (2 ^ 64 - 1) (entry_count layout.now (laid_file layout.now at file.now)) }
 {
     count_processed(Counted::Listed, layout, at, file)
 }
 
-/// How many words of packed relocations a file has whose frames begin at an address, at most 2^64 - 1.
+/// The number of RELR words of a file, at most 2^64 - 1. The file's frames begin at address `at`.
 pub fn word_count(layout: &Layout, at: u64, file: &File) -> u64
     ensures { result ≡ min (2 ^ 64 - 1) (word_count layout.now (laid_file layout.now at file.now)) }
 {
     count_sections(Counted::Packed, layout, at, file)
 }
 
-/// How many words of packed relocations the sections have that stand in a given order, at most 2^64 - 1.
+/// The number of RELR words of the sorted sections, at most 2^64 - 1.
 #[tactic(auto, using(crate::proofs::TallyLemmas::length_words))]
 pub fn sorted_word_count(layout: &Layout) -> u64
     ensures { result ≡ min (2 ^ 64 - 1) (length (sorted_words layout.now)) }
@@ -171,8 +170,8 @@ pub fn sorted_word_count(layout: &Layout) -> u64
     count_sorted(Counted::Packed, layout)
 }
 
-/// How many entries a file has, whose frames begin at an address, for fields that are left to entries, and for the symbols that it
-/// has copied, at most 2^64 - 1.
+/// The number of entries of a file that name a symbol or a resolver, and of its copy relocations, at most 2^64 - 1. The file's frames
+/// begin at address `at`.
 #[tactic(auto, unfolding(crate::specs::Entries::general_count))]
 pub fn general_count(layout: &Layout, at: u64, file: &File) -> u64
     ensures { result ≡ min (2 ^ 64 - 1) (general_count layout.now (laid_file layout.now at file.now)) }

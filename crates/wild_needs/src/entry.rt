@@ -1,4 +1,4 @@
-//! Where symbols stand, and where the program begins (gABI, "Symbol Table", "ELF Header").
+//! The entry point of the program (gABI, "Symbol Table", "ELF Header").
 ghost use Rattle.std.specs.Prelude.{◌≡◌, Some};
 ghost use Rattle.wild_types.specs.Addresses.{raw_value};
 ghost use Rattle.wild_needs.specs.EntryPoint.{start_of, text_start, defaulted, entry_value, entry_at, entry_point};
@@ -9,7 +9,7 @@ use wild_types::{
     Entry, EntryWarning, File, InputSection, Layout, Place, Section, SymbolIndex, plt_of,
 };
 
-/// Where a section stands, unless it is empty.
+/// The address of a section, unless it is empty.
 fn start_of(section: &Section) -> Option<u64>
     ensures { result ≡ start_of (Some section.now) }
 {
@@ -20,7 +20,7 @@ fn start_of(section: &Section) -> Option<u64>
     }
 }
 
-/// Where the first section of the name `.text` stands, unless it is empty.
+/// The address of the first section named `.text`, unless it is empty.
 #[tactic(auto, unfolding(crate::specs::EntryPoint::text_start))]
 fn text_start(layout: &Layout) -> Option<u64>
     ensures { result ≡ text_start layout.now }
@@ -33,7 +33,7 @@ fn text_start(layout: &Layout) -> Option<u64>
     None
 }
 
-/// The address for a symbol that has none, where `.text` begins there, and what is said of it.
+/// The entry point for a symbol without an address: the start of `.text`, or 0 if there is none, with a warning.
 fn defaulted(symbol: SymbolIndex, text: Option<u64>) -> (u64, Option<EntryWarning>)
     ensures address { result.0 ≡ (defaulted symbol text).address }
     ensures warning { result.1 ≡ (defaulted symbol text).warning }
@@ -44,7 +44,7 @@ fn defaulted(symbol: SymbolIndex, text: Option<u64>) -> (u64, Option<EntryWarnin
     }
 }
 
-/// The address of a symbol for the program to begin at: that of its stub where a resolver chooses the function that it names.
+/// The address of a symbol as entry point: for an IFUNC that of its stub.
 fn entry_value(layout: &Layout, symbol: SymbolIndex) -> Option<u64>
     ensures { result ≡ entry_value layout.now symbol }
 {
@@ -56,7 +56,7 @@ fn entry_value(layout: &Layout, symbol: SymbolIndex) -> Option<u64>
     }
 }
 
-/// The address of a symbol at which the program begins. A library need not begin anywhere.
+/// The entry point at a symbol. A library does not need one.
 fn entry_at(layout: &Layout, symbol: SymbolIndex) -> (u64, Option<EntryWarning>)
     ensures address { result.0 ≡ (entry_at layout.now symbol (entry_value layout.now symbol)).address }
     ensures warning { result.1 ≡ (entry_at layout.now symbol (entry_value layout.now symbol)).warning }
@@ -68,8 +68,7 @@ fn entry_at(layout: &Layout, symbol: SymbolIndex) -> (u64, Option<EntryWarning>)
     }
 }
 
-/// The address at which the program begins (`e_entry`), and what is said of it; 0 of a relocatable object, and where the layout
-/// asks for none.
+/// The entry point (`e_entry`), and the warning about it. It is 0 for a relocatable object, and if the layout has none.
 #[tactic(auto, unfolding(crate::specs::EntryPoint::entry_point))]
 pub fn elf_entry_address(layout: &Layout) -> (u64, Option<EntryWarning>)
     ensures address { result.0 ≡ (entry_point layout.now).address }

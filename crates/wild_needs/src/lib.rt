@@ -1,4 +1,4 @@
-//! What each group needs of each part: slots, entries, names, symbols, versions, the dynamic section; and where the program begins.
+//! What each group needs of each part: slots, entries, names, symbols, versions, the dynamic section; and the entry point.
 #![tactic(auto)]
 
 mod bare;

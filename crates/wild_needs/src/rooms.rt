@@ -1,4 +1,4 @@
-//! How many bytes frames, their search table and notes have (LSB, "The .eh_frame section", "The .eh_frame_hdr section"; gABI, "Note
+//! The sizes of frames, of their search table and of notes (LSB, "The .eh_frame section", "The .eh_frame_hdr section"; gABI, "Note
 //! Section").
 ghost use Rattle.std.specs.Prelude.{◌≡◌, ℕ, ◌+◌, ◌-◌, ◌^◌, ◌≤◌, min, if◌then◌else◌};
 ghost use Rattle.wild_types.specs.Lists.{total};
@@ -9,13 +9,13 @@ use wild_laid::{all_fdes, kept_size};
 use wild_records::{EhFrameHdr, EhFrameHdrEntry, NoteHeader};
 use wild_types::{File, Layout, Property, PropertyValue};
 
-/// How many bytes the header of a note of GNU has with its name, which ends with a zero.
+/// The size in bytes of the header of a GNU note, with its zero-terminated name.
 const GNU_NOTE_SIZE: usize = NoteHeader::SIZE + 4;
 
-/// How many bytes a length of zero has, which ends the frames.
+/// The size in bytes of the zero length that ends the frames.
 const TERMINATOR_SIZE: u64 = 4;
 
-/// How many bytes the search table of frames has, at most 2^64 - 1.
+/// The size of the search table of frames in bytes, at most 2^64 - 1.
 pub(crate) fn search_table_room(layout: &Layout) -> u64
     ensures { result ≡ min (2 ^ 64 - 1) (search_table_room layout.now) }
 {
@@ -28,7 +28,7 @@ pub(crate) fn search_table_room(layout: &Layout) -> u64
     }
 }
 
-/// How many bytes of frames a file keeps, at most 2^64 - 1.
+/// The bytes of frames that a file keeps, at most 2^64 - 1.
 fn kept_of(layout: &Layout, file: &File) -> u64
     ensures { result ≡ min (2 ^ 64 - 1) (file_frames layout.now file.now) }
 {
@@ -39,7 +39,7 @@ fn kept_of(layout: &Layout, file: &File) -> u64
     sum
 }
 
-/// How many bytes of the length of zero that ends all frames a file has to write.
+/// The size of the zero length that ends all frames, if the file writes it; else 0.
 fn end_of(layout: &Layout, file: &File) -> u64
     ensures is { result ≡ (if layout.now.options.terminator then last_of file.now.role 4 else 0) }
     ensures few { result ≤ 4 }
@@ -51,7 +51,7 @@ fn end_of(layout: &Layout, file: &File) -> u64
     }
 }
 
-/// How many bytes of frames a file has to write, at most 2^64 - 1.
+/// The bytes of frames that a file writes, at most 2^64 - 1.
 #[tactic(auto, using(crate::proofs::RoomLemmas::frames_kept))]
 pub(crate) fn frames_room(layout: &Layout, file: &File) -> u64
     ensures { (at : ℕ) → result ≡ min (2 ^ 64 - 1) (frames_room layout.now (laid_file layout.now at file.now)) }
@@ -59,7 +59,7 @@ pub(crate) fn frames_room(layout: &Layout, file: &File) -> u64
     kept_of(layout, file).saturating_add(end_of(layout, file))
 }
 
-/// How many bytes the note of a build id has, at most 2^64 - 1.
+/// The size of the build id's note in bytes, at most 2^64 - 1.
 fn build_id_room(layout: &Layout) -> u64
     ensures { result ≡ min (2 ^ 64 - 1) (build_id_room layout.now.build_id) }
 {
@@ -69,7 +69,7 @@ fn build_id_room(layout: &Layout) -> u64
     }
 }
 
-/// How many bytes of the note of the build id a file has to write, at most 2^64 - 1.
+/// The bytes of the build id's note that a file writes, at most 2^64 - 1.
 pub(crate) fn build_id_share(layout: &Layout, file: &File) -> u64
     ensures { result ≡ min (2 ^ 64 - 1) (last_of file.now.role (build_id_room layout.now.build_id)) }
 {
@@ -80,7 +80,7 @@ pub(crate) fn build_id_share(layout: &Layout, file: &File) -> u64
     }
 }
 
-/// How many bytes a property has, with its type and size.
+/// The size of a property in bytes, with its type and size.
 fn property_room(property: &Property) -> u64
     ensures is { result ≡ property_room property.now }
     ensures few { result ≤ 24 }
@@ -91,7 +91,7 @@ fn property_room(property: &Property) -> u64
     }
 }
 
-/// How many bytes the note of some properties has, at most 2^64 - 1.
+/// The size of the note of these properties in bytes, at most 2^64 - 1.
 fn properties_room(properties: &[Property]) -> u64
     ensures { result ≡ min (2 ^ 64 - 1) (properties_room properties.now) }
 {
@@ -105,7 +105,7 @@ fn properties_room(properties: &[Property]) -> u64
     room
 }
 
-/// How many bytes of the note of properties a file has to write, at most 2^64 - 1.
+/// The bytes of the note of properties that a file writes, at most 2^64 - 1.
 pub(crate) fn property_share(layout: &Layout, file: &File) -> u64
     ensures { result ≡ min (2 ^ 64 - 1) (last_of file.now.role (properties_room layout.now.properties)) }
 {

@@ -1,11 +1,11 @@
-//! How many symbols of sections a relocatable object has (gABI, "Symbol Table": `STT_SECTION`).
+//! Counts the section symbols of a relocatable object (gABI, "Symbol Table": `STT_SECTION`).
 ghost use Rattle.std.specs.Prelude.{◌≡◌, ◌-◌, ◌^◌, ◌≤◌, min, length};
 ghost use Rattle.wild_needs.specs.TableSymbols.{asked_from, section_symbols};
 ghost use Rattle.wild_needs.specs.SectionSymbols.{alone_of, alone_of_group, alone_count};
 
 use wild_types::{File, Group, Layout, Section};
 
-/// How many sections ask for a symbol.
+/// The number of sections that have a section symbol by the layout.
 fn asked_count(sections: &[Section]) -> usize
     ensures { result ≡ length (asked_from 0 sections.now) }
 {
@@ -18,7 +18,7 @@ fn asked_count(sections: &[Section]) -> usize
     count
 }
 
-/// How many sections of a file the object keeps by themselves.
+/// The number of input sections of a file that the object keeps as sections of their own.
 fn alone_of(file: &File) -> usize
     ensures { result ≡ alone_of file.now }
 {
@@ -31,7 +31,7 @@ fn alone_of(file: &File) -> usize
     count
 }
 
-/// How many of a group, at most 2^64 - 1.
+/// The number of such sections of a group, at most 2^64 - 1.
 fn alone_of_group(group: &Group) -> usize
     ensures { result ≡ min (2 ^ 64 - 1) (alone_of_group group.now) }
 {
@@ -42,7 +42,7 @@ fn alone_of_group(group: &Group) -> usize
     count
 }
 
-/// How many of all files, at most 2^64 - 1.
+/// The number of such sections of all files, at most 2^64 - 1.
 fn alone_count(layout: &Layout) -> usize
     ensures { result ≡ min (2 ^ 64 - 1) (alone_count layout.now) }
 {
@@ -53,7 +53,7 @@ fn alone_count(layout: &Layout) -> usize
     count
 }
 
-/// How many sections a relocatable object has symbols for, at most 2^64 - 1.
+/// The number of section symbols of a relocatable object, at most 2^64 - 1.
 #[tactic(auto, unfolding(crate::specs::TableSymbols::section_symbols), using(crate::proofs::SectionSymbolLemmas::section_symbols_counted))]
 pub fn section_symbol_count(layout: &Layout) -> usize
     ensures { result ≡ min (2 ^ 64 - 1) (length (section_symbols layout.now)) }

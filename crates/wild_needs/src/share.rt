@@ -1,4 +1,4 @@
-//! How many bytes of a part a group needs.
+//! The bytes that a group needs of a part: its share.
 ghost use Rattle.std.specs.Prelude.{◌≡◌, ℕ, ◌+◌, ◌-◌, ◌^◌, min, true, false, if◌then◌else◌};
 ghost use Rattle.std.specs.List.{list_all};
 ghost use Rattle.wild_types.specs.declared.part.Role.{Role};
@@ -25,10 +25,10 @@ use wild_records::{
 };
 use wild_types::{File, GnuHash, Group, IsWithout, Layout, Role, SysvHash, Test, all_pass};
 
-/// The size of a section index of 32 bits.
+/// The size of a 32-bit section index in bytes.
 const LONG_INDEX_SIZE: u64 = 4;
 
-/// The bytes of the names of the sections, each with a zero behind it.
+/// The size of the section names in bytes, each with its terminating zero.
 pub fn name_bytes(layout: &Layout) -> u128
     ensures { result ≡ name_bytes layout.now }
 {
@@ -39,7 +39,7 @@ pub fn name_bytes(layout: &Layout) -> u128
     sum
 }
 
-/// How many bytes stand once in an image, by role, at most 2^64 - 1.
+/// The bytes of a role that appear once in an image, at most 2^64 - 1.
 pub fn whole_of(layout: &Layout, role: Role) -> u64
     ensures { result ≡ min (2 ^ 64 - 1) (whole_of layout.now role) }
 {
@@ -55,7 +55,7 @@ pub fn whole_of(layout: &Layout, role: Role) -> u64
     u128::from(u64::MAX).min(bytes) as u64
 }
 
-/// How many entries a file has in the dynamic symbol table, at most 2^64 - 1.
+/// The number of entries of a file in the dynamic symbol table, at most 2^64 - 1.
 fn dynsym_count(layout: &Layout, file: &File) -> u64
     ensures { result ≡ min (2 ^ 64 - 1) (dynsym_count layout.now file.now) }
 {
@@ -67,7 +67,7 @@ fn dynsym_count(layout: &Layout, file: &File) -> u64
     }
 }
 
-/// How many entries the last file has in the dynamic section, at most 2^64 - 1.
+/// The number of entries of the dynamic section that the last file writes, at most 2^64 - 1; 0 for another file.
 fn last_count(layout: &Layout, file: &File) -> u64
     ensures { result ≡ min (2 ^ 64 - 1) (last_of file.now.role (dynamic_count layout.now)) }
 {
@@ -78,7 +78,7 @@ fn last_count(layout: &Layout, file: &File) -> u64
     }
 }
 
-/// How many entries a file has in the dynamic section, at most 2^64 - 1.
+/// The number of entries of a file in the dynamic section, at most 2^64 - 1.
 fn section_count(layout: &Layout, file: &File) -> u64
     ensures { result ≡ min (2 ^ 64 - 1) (needed_count layout.now file.now + last_of file.now.role (dynamic_count layout.now)) }
 {
@@ -86,7 +86,7 @@ fn section_count(layout: &Layout, file: &File) -> u64
     needed.saturating_add(last_count(layout, file))
 }
 
-/// How many symbols of a file have a version, at most 2^64 - 1.
+/// The number of symbols of a file that have a version, at most 2^64 - 1.
 fn version_count(layout: &Layout, file: &File) -> u64
     ensures { result ≡ min (2 ^ 64 - 1) (version_count layout.now file.now) }
 {
@@ -97,7 +97,7 @@ fn version_count(layout: &Layout, file: &File) -> u64
     }
 }
 
-/// How many bytes a hash table of that shape has, at most 2^64 - 1.
+/// The size of a hash table of that shape in bytes, at most 2^64 - 1.
 fn sysv_room(layout: &Layout, shape: Option<SysvHash>) -> u64
     ensures { result ≡ min (2 ^ 64 - 1) (sysv_room layout.now shape) }
 {
@@ -109,7 +109,7 @@ fn sysv_room(layout: &Layout, shape: Option<SysvHash>) -> u64
     }
 }
 
-/// How many bytes a GNU hash table of that shape has, at most 2^64 - 1.
+/// The size of a GNU hash table of that shape in bytes, at most 2^64 - 1.
 fn gnu_room(layout: &Layout, shape: Option<GnuHash>) -> u64
     ensures { result ≡ min (2 ^ 64 - 1) (gnu_room layout.now shape) }
 {
@@ -124,14 +124,14 @@ fn gnu_room(layout: &Layout, shape: Option<GnuHash>) -> u64
     }
 }
 
-/// Whether the file is the last one, of an output with dynamic symbols.
+/// Whether the file is the last one, and the output has dynamic symbols.
 fn ends_symbols(layout: &Layout, file: &File) -> bool
     ensures { (n : ℕ) → (if result then n else 0) ≡ last_dynamic layout.now file.now.role n }
 {
     layout.kind.needs_dynsym() && file.role.is_epilogue()
 }
 
-/// How many bytes a file has to write of the hash table, at most 2^64 - 1.
+/// The bytes of the hash table that a file writes, at most 2^64 - 1.
 fn sysv_share(layout: &Layout, file: &File) -> u64
     ensures { result ≡ min (2 ^ 64 - 1) (last_dynamic layout.now file.now.role (sysv_room layout.now layout.now.sysv_hash)) }
 {
@@ -142,7 +142,7 @@ fn sysv_share(layout: &Layout, file: &File) -> u64
     }
 }
 
-/// How many bytes a file has to write of the GNU hash table, at most 2^64 - 1.
+/// The bytes of the GNU hash table that a file writes, at most 2^64 - 1.
 fn gnu_share(layout: &Layout, file: &File) -> u64
     ensures { result ≡ min (2 ^ 64 - 1) (last_dynamic layout.now file.now.role (gnu_room layout.now layout.now.gnu_hash)) }
 {
@@ -153,7 +153,7 @@ fn gnu_share(layout: &Layout, file: &File) -> u64
     }
 }
 
-/// Whether what a file has to write in parts of that role is told by its sections.
+/// Whether the share of a file in parts of that role depends on its sections.
 fn reads_sections(role: Role) -> bool
     ensures { result ≡ reads_sections role }
 {
@@ -163,7 +163,7 @@ fn reads_sections(role: Role) -> bool
     )
 }
 
-/// Whether it is told by where they stand.
+/// Whether it depends on the addresses of the sections.
 fn reads_places(layout: &Layout, role: Role) -> bool
     ensures { result ≡ reads_places layout.now role }
 {
@@ -175,7 +175,7 @@ fn reads_places(layout: &Layout, role: Role) -> bool
     }
 }
 
-/// What a file, whose frames begin at an address, has to write by its sections, at most 2^64 - 1.
+/// The share of a file that depends on its sections, at most 2^64 - 1. The file's frames begin at address `at`.
 fn told_by_sections(layout: &Layout, at: u64, role: Role, file: &File) -> u64
     ensures { reads_sections role ≡ true → result ≡ min (2 ^ 64 - 1) (own_of layout.now role (laid_file layout.now at file.now)) }
 {
@@ -188,7 +188,7 @@ fn told_by_sections(layout: &Layout, at: u64, role: Role, file: &File) -> u64
     }
 }
 
-/// What a file has to write for a loader, and of the table of all symbols, that its sections do not tell, at most 2^64 - 1.
+/// The share of a file in tables for a loader and in `.symtab` that does not depend on its sections, at most 2^64 - 1.
 fn told_otherwise(layout: &Layout, role: Role, file: &File) -> u64
     ensures { reads_sections role ≡ false → result ≡ min (2 ^ 64 - 1) (own_of layout.now role file.now) }
 {
@@ -216,7 +216,7 @@ fn told_otherwise(layout: &Layout, role: Role, file: &File) -> u64
     }
 }
 
-/// What a file, whose frames begin at an address, has to write for a loader and other readers, at most 2^64 - 1.
+/// The share of a file in tables for a loader and other readers, at most 2^64 - 1. The file's frames begin at address `at`.
 #[tactic(auto, using(crate::proofs::StandingShares::own_stands))]
 fn own_of(layout: &Layout, at: u64, role: Role, file: &File) -> u64
     ensures { result ≡ min (2 ^ 64 - 1) (own_of layout.now role (laid_file layout.now at file.now)) }
@@ -228,9 +228,12 @@ fn own_of(layout: &Layout, at: u64, role: Role, file: &File) -> u64
     }
 }
 
-/// A file writes nothing in any part but raw ones: it is neither the first nor the last, in an output without a dynamic section
-/// and a table of all symbols, and no slots of its symbols, no entries and no frames tell otherwise. Relocations are read only where
-/// the rest is so. Where its frames begin changes nothing of it.
+/// The test that a file writes only input sections. It passes if:
+/// - the file is neither the first nor the last,
+/// - the output has no dynamic section and no `.symtab`,
+/// - the file writes no slots, no entries and no frames.
+///
+/// Relocations are read only if the other conditions hold. The address of the file's frames does not matter.
 #[derive(Clone, Copy)]
 struct IsPlain<'a> {
     layout: &'a Layout,
@@ -251,7 +254,8 @@ impl Test<File> for IsPlain<'_> {
     }
 }
 
-/// Whether a group is known to need nothing, of an output that is bare where `bare` says so: then its files' relocations are not read.
+/// Whether a group is known to need nothing. `bare` is true only if `is_bare` holds for the output; then relocations of files that pass
+/// the fast test are not read.
 pub fn needs_nothing_in(layout: &Layout, bare: bool, group: &Group) -> bool
     requires { bare ≡ true → is_bare layout.now ≡ true }
     ensures { result ≡ true → (r : Role) → group_share layout.now r group.now ≡ 0 }
@@ -259,7 +263,7 @@ pub fn needs_nothing_in(layout: &Layout, bare: bool, group: &Group) -> bool
     bare && is_bare_group(group) || is_plain_group(layout, group)
 }
 
-/// Whether all files of a group are plain, as their sections stand. Then the group needs nothing.
+/// Whether all files of a group, with their sections as placed, write only input sections. Then the group needs nothing.
 pub fn is_plain_group(layout: &Layout, group: &Group) -> bool
     ensures plain { result ≡ list_all (is_plain layout.now) (laid_files layout.now group.now) }
     ensures none { result ≡ true → (r : Role) → group_share layout.now r group.now ≡ 0 }
@@ -267,7 +271,7 @@ pub fn is_plain_group(layout: &Layout, group: &Group) -> bool
     all_pass(&IsPlain { layout }, group.files.as_slice())
 }
 
-/// What stands once, where the file is the first one, at most 2^64 - 1.
+/// The bytes that appear once in an image, if the file is the first one, at most 2^64 - 1.
 fn first_share(layout: &Layout, role: Role, file: &File) -> u64
     ensures { result ≡ min (2 ^ 64 - 1) (if is_prelude file.now.role then first_share layout.now role else 0) }
 {
@@ -278,7 +282,7 @@ fn first_share(layout: &Layout, role: Role, file: &File) -> u64
     }
 }
 
-/// What a file, whose frames begin at an address, has to write in a part of that role, at most 2^64 - 1.
+/// The share of a file in a part of that role, at most 2^64 - 1. The file's frames begin at address `at`.
 #[tactic(auto, using(crate::proofs::StandingShares::slots_stand))]
 fn share(layout: &Layout, at: u64, role: Role, file: &File) -> u64
     ensures { result ≡ min (2 ^ 64 - 1) (share layout.now role (laid_file layout.now at file.now)) }
@@ -288,7 +292,7 @@ fn share(layout: &Layout, at: u64, role: Role, file: &File) -> u64
         .saturating_add(slot_share(layout, role, file))
 }
 
-/// Where the frames behind those of a file begin, as far as parts of that role ask.
+/// The address of the frames after those of a file, if the share in parts of that role depends on it.
 fn behind_frames(layout: &Layout, at: u64, role: Role, file: &File) -> u64
     ensures { reads_places layout.now role ≡ true → result ≡ behind at (file_frames layout.now file.now) }
 {
@@ -313,7 +317,7 @@ fn total_of(layout: &Layout, role: Role, group: &Group) -> u64
     sum
 }
 
-/// Whether the group has the last file.
+/// Whether the group contains the last file.
 pub fn has_last(group: &Group) -> bool
     ensures { result ≡ has_last group.now }
 {
@@ -324,7 +328,7 @@ pub fn has_last(group: &Group) -> bool
         .any(|file| file.role.is_epilogue())
 }
 
-/// How many bytes stand behind all else of the group with the last file, at most 2^64 - 1.
+/// The bytes that follow all else of the group with the last file, at most 2^64 - 1.
 fn last_share(layout: &Layout, role: Role, group: &Group) -> u64
     ensures { result ≡ min (2 ^ 64 - 1) (last_share layout.now role group.now) }
 {
@@ -336,7 +340,7 @@ fn last_share(layout: &Layout, role: Role, group: &Group) -> u64
     }
 }
 
-/// What a group has to write in a part of that role, at most 2^64 - 1.
+/// The share of a group in a part of that role, at most 2^64 - 1.
 pub(crate) fn group_share(layout: &Layout, role: Role, group: &Group) -> u64
     ensures { result ≡ min (2 ^ 64 - 1) (group_share layout.now role group.now) }
 {
@@ -354,7 +358,7 @@ fn needs_of(layout: &Layout, role: Role, part: usize, group: &Group) -> u64
     }
 }
 
-/// How many bytes of a part a group needs, at most 2^64 - 1; 0 where there is no such part or group.
+/// The bytes that a group needs of a part, at most 2^64 - 1; 0 if there is no such part or group.
 #[tactic(auto, unfolding(crate::specs::Needs::needs))]
 pub fn needs(layout: &Layout, part: usize, group: usize) -> u64
     ensures { result ≡ needs layout.now part group }
@@ -368,8 +372,8 @@ pub fn needs(layout: &Layout, part: usize, group: usize) -> u64
     }
 }
 
-/// Whether an output that no loader relocates may have something in a part of that role beside slots: entries for resolvers, and frames,
-/// which its sections tell, and notes.
+/// Whether an output that no loader relocates may need bytes of that role besides slots: entries for resolvers, frames, which depend on
+/// the sections, or notes.
 fn is_static(layout: &Layout, role: Role) -> bool
     ensures { result ≡ is_static layout.now role }
 {
@@ -381,8 +385,8 @@ fn is_static(layout: &Layout, role: Role) -> bool
     }
 }
 
-/// Whether no group has anything to write in a part of that role, as far as that is known without a look at the files, of an output that is
-/// bare where `bare` says so.
+/// Whether no group has a share in a part of that role, as far as this is known without reading the files. `bare` is true only if
+/// `is_bare` holds for the output.
 #[tactic(auto, using(crate::proofs::ShareLemmas::no_share))]
 fn needs_nothing(layout: &Layout, bare: bool, role: Role) -> bool
     requires { bare ≡ true → is_bare layout.now ≡ true }
@@ -395,7 +399,7 @@ fn needs_nothing(layout: &Layout, bare: bool, role: Role) -> bool
         && whole_of(layout, role) == 0
 }
 
-/// What a group has to write in a part of that role, at most 2^64 - 1, of an output that is bare where `bare` says so.
+/// The share of a group in a part of that role, at most 2^64 - 1. `bare` is true only if `is_bare` holds for the output.
 fn share_of_group(layout: &Layout, bare: bool, role: Role, group: &Group) -> u64
     requires { bare ≡ true → is_bare layout.now ≡ true }
     ensures { result ≡ min (2 ^ 64 - 1) (group_share layout.now role group.now) }
@@ -407,7 +411,7 @@ fn share_of_group(layout: &Layout, bare: bool, role: Role, group: &Group) -> u64
     }
 }
 
-/// The same over all groups, where those between the first and the last need nothing.
+/// The shares of all groups, if those between the first and the last need nothing.
 fn share_of_ends(layout: &Layout, role: Role) -> u64
     requires { is_bare_inside layout.now ≡ true }
     ensures { result ≡ min (2 ^ 64 - 1) (total_share layout.now role) }
@@ -421,7 +425,8 @@ fn share_of_ends(layout: &Layout, role: Role) -> u64
     }
 }
 
-/// How many bytes all groups have to write in a part of that role, at most 2^64 - 1, of an output that is bare inside where `inside` says so.
+/// The sum of the shares of all groups in a part of that role, at most 2^64 - 1. `inside` is true only if `is_bare_inside` holds for the
+/// output.
 #[tactic(auto, using(crate::proofs::BareLemmas::bare_by_inside))]
 pub fn total_share_of(layout: &Layout, inside: bool, role: Role) -> u64
     requires { inside ≡ true → is_bare_inside layout.now ≡ true }
@@ -441,7 +446,7 @@ pub fn total_share_of(layout: &Layout, inside: bool, role: Role) -> u64
     sum
 }
 
-/// How many bytes all groups have to write in a part of that role, at most 2^64 - 1.
+/// The sum of the shares of all groups in a part of that role, at most 2^64 - 1.
 pub fn total_share(layout: &Layout, role: Role) -> u64
     ensures { result ≡ min (2 ^ 64 - 1) (total_share layout.now role) }
 {

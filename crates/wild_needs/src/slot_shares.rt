@@ -1,4 +1,4 @@
-//! What the slots and stubs of symbols take of the parts (x86-64 psABI, "Global Offset Table (GOT)", "Procedure Linkage
+//! What the slots and stubs of symbols need of the parts (x86-64 psABI, "Global Offset Table (GOT)", "Procedure Linkage
 //! Table").
 ghost use Rattle.std.specs.Prelude.{◌≡◌, ℕ, ◌+◌, ◌-◌, ◌*◌, ◌^◌, ◌≤◌, List, [], ◌∷◌, ◌++◌, length, min, ◌&&◌, true};
 ghost use Rattle.std.specs.List.{flat_map, list_all};
@@ -19,7 +19,7 @@ use wild_slot::{
 };
 use wild_types::{File, Group, IsWithout, Layout, Role, Symbol, all_pass, is_without};
 
-/// How many words a symbol has in a part.
+/// The number of words of a symbol in a part.
 pub fn words_in(part: WordPart, layout: &Layout, symbol: &Symbol) -> usize
     ensures is { result ≡ length (words_in part layout.now symbol.now) }
     ensures few { result ≤ 5 }
@@ -28,7 +28,7 @@ pub fn words_in(part: WordPart, layout: &Layout, symbol: &Symbol) -> usize
     count_words(part, layout.options.relr, symbol.slots_at(), slots.words())
 }
 
-/// How many entries a symbol has in a part.
+/// The number of entries of a symbol in a part.
 fn entries_in(part: EntryPart, layout: &Layout, symbol: &Symbol) -> usize
     ensures is { result ≡ entries_in part layout.now symbol.now }
     ensures few { result ≤ 5 }
@@ -38,7 +38,7 @@ fn entries_in(part: EntryPart, layout: &Layout, symbol: &Symbol) -> usize
     count_entries(part, layout.machine, relr, symbol.slots_at(), slots.words())
 }
 
-/// How many packed words a symbol's slots have of their own.
+/// The number of RELR words that a symbol's slots have of their own.
 fn flat_in(layout: &Layout, symbol: &Symbol) -> usize
     ensures is { result ≡ length (flat_places layout.now.options.relr (slots_at symbol.now) (slots_of layout.now symbol.now).words) }
     ensures few { result ≤ 5 }
@@ -47,7 +47,7 @@ fn flat_in(layout: &Layout, symbol: &Symbol) -> usize
     count_flat(layout.options.relr, symbol.slots_at(), slots.words())
 }
 
-/// The bytes of a symbol's stub.
+/// The size of a symbol's stub in bytes; 0 without one.
 fn stub_in(layout: &Layout, symbol: &Symbol) -> usize
     ensures is { result ≡ symbol_share layout.now PltGot symbol.now }
     ensures few { result ≤ 16 }
@@ -59,7 +59,7 @@ fn stub_in(layout: &Layout, symbol: &Symbol) -> usize
     }
 }
 
-/// How many bytes a symbol takes of the part of a role.
+/// The bytes that a symbol needs of the part of a role.
 #[tactic(auto, using(crate::proofs::SlotShareLemmas::share_without))]
 fn symbol_share(layout: &Layout, role: Role, symbol: &Symbol) -> u64
     ensures is { result ≡ symbol_share layout.now role symbol.now }
@@ -81,7 +81,7 @@ fn symbol_share(layout: &Layout, role: Role, symbol: &Symbol) -> u64
     bytes as u64
 }
 
-/// Whether slots and stubs take something of parts of that role.
+/// Whether parts of that role hold slots or stubs, or entries for them.
 pub(crate) fn is_of_slots(role: Role) -> bool
     ensures { result ≡ is_of_slots role }
 {
@@ -97,7 +97,7 @@ pub(crate) fn is_of_slots(role: Role) -> bool
     )
 }
 
-/// How many bytes the slots of a file's symbols take of the part of a role, at most 2^64 - 1.
+/// The bytes that the slots of a file's symbols need of the part of a role, at most 2^64 - 1.
 #[tactic(auto, unfolding(crate::specs::SlotShares::slot_share))]
 pub(crate) fn slot_share(layout: &Layout, role: Role, file: &File) -> u64
     ensures { result ≡ min (2 ^ 64 - 1) (slot_share layout.now role file.now) }
@@ -111,7 +111,7 @@ pub(crate) fn slot_share(layout: &Layout, role: Role, file: &File) -> u64
     sum
 }
 
-/// How many words the pair of the output's own thread-local data has.
+/// The number of words of the module pair for the output's own thread-local data.
 #[tactic(auto, using(crate::proofs::SlotShareLemmas::header_length))]
 pub fn pair_words(layout: &Layout) -> u64
     ensures is { length (header_words layout.now) ≡ layout.now.got_header + result }
@@ -120,7 +120,7 @@ pub fn pair_words(layout: &Layout) -> u64
     if layout.tlsld.is_some() { 2 } else { 0 }
 }
 
-/// How many bytes the words that stand once have, at most 2^64 - 1.
+/// The size of the GOT words that appear once, at most 2^64 - 1.
 fn header_bytes(layout: &Layout) -> u64
     ensures { result ≡ min (2 ^ 64 - 1) (8 * length (header_words layout.now)) }
 {
@@ -130,7 +130,7 @@ fn header_bytes(layout: &Layout) -> u64
         .saturating_mul(WORD_SIZE as u64)
 }
 
-/// How many entries the pair of the output's own thread-local data has.
+/// The number of entries for the module pair of the output's own thread-local data.
 fn header_entries(layout: &Layout) -> usize
     ensures is { result ≡ header_entries layout.now }
     ensures few { result ≤ 2 }
@@ -147,7 +147,7 @@ fn header_entries(layout: &Layout) -> usize
     }
 }
 
-/// How many bytes what stands once takes of the part of a role, at most 2^64 - 1.
+/// The bytes of the part of a role that appear once, at most 2^64 - 1.
 pub(crate) fn header_share(layout: &Layout, role: Role) -> u64
     ensures { result ≡ min (2 ^ 64 - 1) (header_share layout.now role) }
 {
@@ -158,7 +158,7 @@ pub(crate) fn header_share(layout: &Layout, role: Role) -> u64
     }
 }
 
-/// Whether no symbol has a slot, of an output that is bare where `bare` says so.
+/// Whether no symbol has a slot. `bare` is true only if `is_bare` holds for the output.
 #[tactic(auto, using(crate::proofs::BareLemmas::bare_without))]
 fn are_without(layout: &Layout, bare: bool) -> bool
     requires { bare ≡ true → is_bare layout.now ≡ true }
@@ -167,8 +167,8 @@ fn are_without(layout: &Layout, bare: bool) -> bool
     bare || all_pass(&IsWithout, layout.symbols.as_slice())
 }
 
-/// Whether slots take nothing of parts of that role, as far as that is known without a look at the files, of an output that is bare where
-/// `bare` says so.
+/// Whether slots need no bytes of parts of that role, as far as this is known without reading the files. `bare` is true only if
+/// `is_bare` holds for the output.
 pub(crate) fn takes_none(layout: &Layout, bare: bool, role: Role) -> bool
     requires { bare ≡ true → is_bare layout.now ≡ true }
     ensures { result ≡ takes_none layout.now role }
@@ -176,17 +176,17 @@ pub(crate) fn takes_none(layout: &Layout, bare: bool, role: Role) -> bool
     !is_of_slots(role) || (header_share(layout, role) == 0 && are_without(layout, bare))
 }
 
-/// Slots of eight bytes, one behind the other, whose places a group packs at once.
+/// A group's run of consecutive GOT words that are packed as RELR together.
 #[derive(Clone, Copy)]
 pub struct Block {
-    /// Where they begin; 0 where there is none.
+    /// The address of the first word; 0 if there is none.
     pub base: u64,
-    /// How many there are, at most 2^64 - 1.
+    /// The number of words, at most 2^64 - 1.
     pub count: u64,
 }
 
 impl Block {
-    /// The block with a slot at `place` behind the others.
+    /// The block with one more slot, at `place`.
     fn with(self, place: u64) -> Block
         ensures { (ps : List ℕ) → self ≡ block_of ps → result ≡ block_of (ps ++ place ∷ []) }
     {
@@ -197,7 +197,7 @@ impl Block {
     }
 }
 
-/// Whether the first slot of a symbol is one of the block.
+/// Whether the first slot of a symbol belongs to the block.
 #[tactic(auto, using(crate::proofs::SlotShareLemmas::no_slots))]
 fn is_in_block(layout: &Layout, symbol: &Symbol) -> bool
     ensures { result ≡ begins_block (slots_of layout.now symbol.now).words }
@@ -205,7 +205,7 @@ fn is_in_block(layout: &Layout, symbol: &Symbol) -> bool
     !is_without(symbol) && begins_block(SymbolSlots::of(layout, symbol).words())
 }
 
-/// The block with the word of a symbol behind the others, where it has one there.
+/// The block with the word of a symbol added, if it has one there.
 fn with_symbol(layout: &Layout, block: Block, symbol: &Symbol) -> Block
     ensures { (ps : List ℕ) → block ≡ block_of ps → result ≡ block_of (ps ++ block_places layout.now symbol.now) }
 {
@@ -216,7 +216,7 @@ fn with_symbol(layout: &Layout, block: Block, symbol: &Symbol) -> Block
     }
 }
 
-/// The block with the words of a file's symbols behind the others.
+/// The block with the words of a file's symbols added.
 fn with_file(layout: &Layout, block: Block, file: &File) -> Block
     ensures { (ps : List ℕ) → block ≡ block_of ps → result ≡ block_of (ps ++ flat_map (block_places layout.now) (own_symbols layout.now file.now)) }
 {
@@ -227,14 +227,14 @@ fn with_file(layout: &Layout, block: Block, file: &File) -> Block
     block
 }
 
-/// Whether addresses that move are packed, so that slots may be in a block.
+/// Whether addresses that change with the load bias are packed, so that slots may be in a block.
 fn packs_slots(layout: &Layout) -> bool
     ensures { result ≡ (layout.now.options.relr && is_position_independent layout.now.kind) }
 {
     layout.options.relr && layout.kind.is_position_independent()
 }
 
-/// The slots of a group that are in its block.
+/// The block of a group.
 #[tactic(auto, unfolding(crate::specs::SlotShares::group_block))]
 pub fn group_block(layout: &Layout, group: &Group) -> Block
     ensures { result ≡ block_of (group_block layout.now group.now) }
@@ -248,7 +248,7 @@ pub fn group_block(layout: &Layout, group: &Group) -> Block
     block
 }
 
-/// How many bytes the packed words of a group's block take of the part of a role, at most 2^64 - 1.
+/// The size of the RELR words for a group's block, in the part of a role, at most 2^64 - 1.
 pub(crate) fn block_share(layout: &Layout, role: Role, group: &Group) -> u64
     ensures { result ≡ min (2 ^ 64 - 1) (block_share layout.now role group.now) }
 {

@@ -1,4 +1,4 @@
-//! The strings of the dynamic string table, and where they stand (gABI, "String Table", "Symbol Table", "Dynamic Section").
+//! The sizes and offsets of strings in the dynamic string table (gABI, "String Table", "Symbol Table", "Dynamic Section").
 ghost use Rattle.std.specs.Prelude.{◌≡◌, ◌+◌, ◌-◌, ◌^◌, ◌<◌, ◌≤◌, length, min};
 ghost use Rattle.std.specs.List.{filter};
 ghost use Rattle.wild_types.specs.declared.layout.Layout.{Layout};
@@ -11,7 +11,7 @@ use crate::versions::version_room;
 use wild_types::{DynamicSymbol, File, FileRole, Layout, Symbol};
 use wild_words::Bytes;
 
-/// How many entries name strings.
+/// The number of entries of the dynamic section that refer to strings.
 #[tactic(auto, unfolding(crate::specs::DynamicStrings::named_strings))]
 pub(crate) fn string_count(layout: &Layout) -> usize
     ensures count { result ≡ length (named_strings layout.now) }
@@ -26,7 +26,7 @@ pub(crate) fn string_count(layout: &Layout) -> usize
         + options.auxiliary.as_slice().len()
 }
 
-/// How many bytes a string has with its zero.
+/// The size of a string with its terminating zero, in bytes; 0 without a string.
 fn room_of(text: &Option<Bytes>) -> u128
     ensures value { result ≡ room_of text.now }
     ensures small { result ≤ 2 ^ 64 }
@@ -37,7 +37,7 @@ fn room_of(text: &Option<Bytes>) -> u128
     }
 }
 
-/// How many bytes strings have, each with its zero.
+/// The size of strings in bytes, each with its terminating zero.
 fn rooms_of(texts: &[Bytes]) -> u128
     ensures value { result ≡ total text_room texts.now }
     ensures small { result ≤ 2 ^ 127 }
@@ -49,7 +49,7 @@ fn rooms_of(texts: &[Bytes]) -> u128
     sum
 }
 
-/// How many bytes of the string table the strings have that entries name, each with its zero.
+/// The size of the strings to which entries of the dynamic section refer, in bytes, each with its terminating zero.
 #[tactic(auto, unfolding(crate::specs::DynamicStrings::named_strings), using(crate::proofs::StringLemmas::rooms))]
 pub fn epilogue_string_bytes(layout: &Layout) -> u128
     ensures { result ≡ epilogue_string_bytes layout.now }
@@ -61,21 +61,20 @@ pub fn epilogue_string_bytes(layout: &Layout) -> u128
     room_of(&options.rpath) + room_of(&options.soname) + rooms_of(options.auxiliary.as_slice())
 }
 
-/// What stands in the string table for the strings that entries name is as long as they need.
+/// That size is the length of the bytes that are written for these strings.
 #[tactic(auto, using(crate::proofs::StringLemmas::length_strings))]
 pub fn strings_have_their_room()
     ensures { (l : Layout) → length (epilogue_strings l) ≡ epilogue_string_bytes l }
 {}
 
-/// How many bytes a string has with its zero, at most 2^64 - 1.
+/// The size of a string with its terminating zero, in bytes, at most 2^64 - 1.
 pub fn text_room(text: &Bytes) -> u64
     ensures { result ≡ min (2 ^ 64 - 1) (text_room text.now) }
 {
     (text.len() as u64).saturating_add(1)
 }
 
-/// How many bytes the names of the symbols have that give an undefined entry, of some of a file of that role, at most
-/// 2^64 - 1.
+/// The size of the names of the symbols that have an undefined entry, among symbols of a file of that role, at most 2^64 - 1.
 fn undefined_room(role: FileRole, symbols: &[Symbol]) -> u64
     ensures { result ≡ min (2 ^ 64 - 1) (total text_room (symbol_names (filter (is_undefined_entry role) symbols.now))) }
 {
@@ -88,7 +87,7 @@ fn undefined_room(role: FileRole, symbols: &[Symbol]) -> u64
     sum
 }
 
-/// How many bytes the names of listed symbols have, at most 2^64 - 1.
+/// The size of the names of the layout's dynamic symbols (`dynsyms`), at most 2^64 - 1.
 fn listed_room(listed: &[DynamicSymbol]) -> u64
     ensures { result ≡ min (2 ^ 64 - 1) (total text_room (listed_names listed.now)) }
 {
@@ -99,7 +98,7 @@ fn listed_room(listed: &[DynamicSymbol]) -> u64
     sum
 }
 
-/// How many bytes the strings of a file have that no symbol has for its name, at most 2^64 - 1.
+/// The size of a file's strings that are not the name of a symbol or version, at most 2^64 - 1.
 pub fn lead_room(layout: &Layout, file: &File) -> u64
     ensures { result ≡ min (2 ^ 64 - 1) (total text_room (lead_strings layout.now file.now)) }
 {
@@ -111,7 +110,7 @@ pub fn lead_room(layout: &Layout, file: &File) -> u64
     }
 }
 
-/// How many bytes the names of a file's entries in the dynamic symbol table have, at most 2^64 - 1.
+/// The size of the names of a file's entries in the dynamic symbol table, at most 2^64 - 1.
 pub fn entry_room(layout: &Layout, file: &File) -> u64
     ensures { result ≡ min (2 ^ 64 - 1) (total text_room (entry_names layout.now file.now)) }
 {
@@ -122,7 +121,7 @@ pub fn entry_room(layout: &Layout, file: &File) -> u64
     }
 }
 
-/// How many bytes the strings of a file have, at most 2^64 - 1.
+/// The size of a file's strings, at most 2^64 - 1.
 #[tactic(auto, unfolding(crate::specs::DynamicStrings::file_strings), using(crate::proofs::StringLemmas::total_joined))]
 pub fn strings_room(layout: &Layout, file: &File) -> u64
     ensures { result ≡ min (2 ^ 64 - 1) (strings_room layout.now file.now) }
@@ -136,7 +135,7 @@ pub fn strings_room(layout: &Layout, file: &File) -> u64
     }
 }
 
-/// How many entries a file has in the dynamic symbol table, but for the null symbol's.
+/// The number of a file's entries in the dynamic symbol table, without the null symbol.
 #[tactic(auto, using(crate::proofs::StringLemmas::length_undefined, crate::proofs::StringLemmas::length_listed))]
 pub fn entry_name_count(layout: &Layout, file: &File) -> usize
     ensures { result ≡ length (entry_names layout.now file.now) }
@@ -148,14 +147,14 @@ pub fn entry_name_count(layout: &Layout, file: &File) -> usize
     }
 }
 
-/// The offset in the table behind the strings of a file that begin at `start`, at most 2^64 - 1.
+/// The offset after the strings of a file that begin at `start`, at most 2^64 - 1.
 pub fn behind_file(layout: &Layout, start: u64, file: &File) -> u64
     ensures { result ≡ behind_file layout.now start file.now }
 {
     start.saturating_add(strings_room(layout, file))
 }
 
-/// How many entries of the dynamic section a file has for a library: its own, if it is one.
+/// The number of `DT_NEEDED` entries of a file: 1 for a library.
 pub fn needed_count(layout: &Layout, file: &File) -> usize
     ensures is { result ≡ needed_count layout.now file.now }
     ensures few { result ≤ 1 }
@@ -163,7 +162,7 @@ pub fn needed_count(layout: &Layout, file: &File) -> usize
     usize::from(layout.kind.needs_dynamic() && file.role.is_library())
 }
 
-/// Where the strings of the first last file begin, of files whose strings begin at `start`.
+/// The offset of the strings of the first epilogue file, if the strings of the files begin at `start`.
 fn start_among(layout: &Layout, start: u64, files: &[File]) -> u64
     ensures { result ≡ start_among layout.now start files.now }
 {
@@ -177,7 +176,7 @@ fn start_among(layout: &Layout, start: u64, files: &[File]) -> u64
     start
 }
 
-/// Where the strings of the last file begin in the table.
+/// The offset of the last file's strings in the table.
 #[tactic(auto, unfolding(crate::specs::DynamicStrings::string_start))]
 pub fn string_start(layout: &Layout) -> u64
     ensures { result ≡ string_start layout.now }

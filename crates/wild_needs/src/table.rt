@@ -1,4 +1,4 @@
-//! Which symbols `.symtab` has, and how much its parts take of them (gABI, "Symbol Table").
+//! The symbols of `.symtab`, and the size of its parts (gABI, "Symbol Table").
 ghost use Rattle.std.specs.Prelude.{◌≡◌, ℕ, ◌-◌, ◌^◌, ◌≤◌, length, min};
 ghost use Rattle.wild_needs.specs.DynamicStrings.{text_room};
 ghost use Rattle.wild_types.specs.Lists.{total};
@@ -13,7 +13,7 @@ use wild_records::abi::section::SHN_LORESERVE;
 use wild_records::abi::symbol::STB_LOCAL;
 use wild_types::{File, FileRole, Layout, OutputKind, Place, Role, Symbol, is_there};
 
-/// What of a symbol has a name in `.symtab`.
+/// The kind of a name in `.symtab` that a symbol of the layout has.
 #[derive(Clone, Copy)]
 pub enum Named {
     /// The symbol itself.
@@ -22,11 +22,11 @@ pub enum Named {
     Slot,
     /// Its stub: `NAME$plt`.
     Stub,
-    /// The thunk at an address that goes on to it: `__wild_thunk_NAME`.
+    /// A thunk to it, at this address: `__wild_thunk_NAME`.
     Thunk(u64),
 }
 
-/// Which symbols themselves a walk gives.
+/// The symbols that a pass takes under their own names.
 #[derive(Clone, Copy)]
 pub enum Own {
     Every,
@@ -36,7 +36,7 @@ pub enum Own {
 }
 
 impl Own {
-    /// Whether the symbol is one of those.
+    /// Whether the pass takes the symbol.
     pub fn takes(self, symbol: &Symbol) -> bool
         ensures { result ≡ is_of_pass self symbol.now }
     {
@@ -49,16 +49,16 @@ impl Own {
     }
 }
 
-/// What a walk over the symbols of a file gives to `.symtab`.
+/// One pass over the symbols of a file, for `.symtab`.
 #[derive(Clone, Copy)]
 pub struct Pass {
-    /// The names of slots and stubs.
+    /// Whether it takes the names of slots and stubs.
     pub slots: bool,
-    /// The symbols themselves.
+    /// The symbols that it takes under their own names.
     pub own: Own,
 }
 
-/// The walks over the symbols of a file of that role, in their order: in a relocatable object undefined symbols follow the others.
+/// The passes over the symbols of a file of that role, in order. In a relocatable object undefined symbols follow the others.
 pub fn passes(kind: OutputKind, role: FileRole) -> &'static [Pass]
     ensures { result.now ≡ passes kind role }
 {
@@ -94,21 +94,21 @@ pub fn passes(kind: OutputKind, role: FileRole) -> &'static [Pass]
     }
 }
 
-/// Whether each symbol of a part of that role has a section index of 32 bits.
+/// Whether parts of that role have a 32-bit section index for each symbol.
 pub fn has_long(layout: &Layout, role: Role) -> bool
     ensures { result ≡ has_long layout.now role }
 {
     is_there(role, layout.parts.as_slice()) || layout.sections.len() > SHN_LORESERVE as usize
 }
 
-/// Whether the symbol's binding is local, or was made so.
+/// Whether the symbol's binding is local, or was downgraded to local.
 fn is_local_symbol(symbol: &Symbol) -> bool
     ensures { result ≡ is_local_symbol symbol.now }
 {
     symbol.info / 16 == STB_LOCAL || symbol.flags.is_downgraded_to_local()
 }
 
-/// Whether that name of a symbol stands among the local symbols.
+/// Whether that name of a symbol is a local symbol of `.symtab`.
 pub fn is_local(named: Named, symbol: &Symbol) -> bool
     ensures { result ≡ is_local_by named symbol.now }
 {
@@ -118,7 +118,7 @@ pub fn is_local(named: Named, symbol: &Symbol) -> bool
     }
 }
 
-/// Whether that name of a symbol stands among the local symbols, or among the others.
+/// Whether that name of a symbol is a local symbol, or with `local` false, a global one.
 pub fn is_on(local: bool, named: Named, symbol: &Symbol) -> bool
     ensures { (i : ℕ) → result ≡ is_on local (item named i symbol.now) }
 {
@@ -129,7 +129,7 @@ pub fn is_on(local: bool, named: Named, symbol: &Symbol) -> bool
     }
 }
 
-/// What a name has in front of the symbol's.
+/// The text before the symbol's name.
 pub fn prefix(named: Named) -> &'static [u8]
     ensures is { result.now ≡ prefix named }
     ensures few { length result.now ≤ 13 }
@@ -140,7 +140,7 @@ pub fn prefix(named: Named) -> &'static [u8]
     }
 }
 
-/// What a name has behind the symbol's.
+/// The text after the symbol's name.
 pub fn suffix(named: Named) -> &'static [u8]
     ensures is { result.now ≡ suffix named }
     ensures few { length result.now ≤ 4 }
@@ -155,15 +155,15 @@ pub fn suffix(named: Named) -> &'static [u8]
 /// A part of `.symtab`.
 #[derive(Clone, Copy)]
 pub enum TablePart {
-    /// The entries of the local symbols, or those of the others.
+    /// The entries of the local symbols, or those of the global ones.
     Side(bool),
-    /// The longer section indexes, of the same.
+    /// The 32-bit section indexes of the same.
     Long(bool),
     /// The names.
     Strings,
 }
 
-/// What a part takes of a symbol, at most 2^64 - 1.
+/// The amount that a part needs for a symbol: 1 entry or index, or the bytes of the name. At most 2^64 - 1.
 #[tactic(auto, using(crate::proofs::TableLemmas::name_room))]
 fn taken(part: TablePart, named: Named, symbol: &Symbol) -> u64
     ensures { (i : ℕ) → result ≡ min (2 ^ 64 - 1) (taken part (item named i symbol.now)) }
@@ -179,7 +179,7 @@ fn taken(part: TablePart, named: Named, symbol: &Symbol) -> u64
     }
 }
 
-/// How much a part takes of symbols, at most 2^64 - 1.
+/// The amount that a part needs for symbols, at most 2^64 - 1.
 #[derive(Drop)]
 struct Count {
     part: TablePart,
@@ -203,7 +203,7 @@ impl TableSink for Count {
     }
 }
 
-/// How much a part takes of a file's symbols, at most 2^64 - 1.
+/// The amount that a part needs for a file's symbols, at most 2^64 - 1.
 #[tactic(auto, using(crate::proofs::TableLemmas::counts))]
 fn count_of(layout: &Layout, part: TablePart, file: &File) -> u64
     ensures { result ≡ min (2 ^ 64 - 1) (total (taken part) (file_items layout.now file.now)) }
@@ -215,7 +215,7 @@ fn count_of(layout: &Layout, part: TablePart, file: &File) -> u64
     }
 }
 
-/// The entry of zeros and those of sections, with which the first file's begin, at most 2^64 - 1.
+/// The number of the null symbol and the section symbols, with which the first file's entries begin, at most 2^64 - 1; 0 for another file.
 fn null_count(layout: &Layout, file: &File) -> u64
     ensures { result ≡ min (2 ^ 64 - 1) (null_count layout.now file.now) }
 {
@@ -226,7 +226,7 @@ fn null_count(layout: &Layout, file: &File) -> u64
     }
 }
 
-/// How many entries a file has among the local symbols, at most 2^64 - 1.
+/// The number of local symbols of a file, at most 2^64 - 1.
 #[tactic(auto, using(crate::proofs::TableLemmas::sides_taken))]
 pub fn local_count(layout: &Layout, file: &File) -> u64
     ensures { result ≡ min (2 ^ 64 - 1) (local_count layout.now file.now) }
@@ -234,7 +234,7 @@ pub fn local_count(layout: &Layout, file: &File) -> u64
     null_count(layout, file).saturating_add(count_of(layout, TablePart::Side(true), file))
 }
 
-/// How many entries a file has among the other symbols, at most 2^64 - 1.
+/// The number of global symbols of a file, at most 2^64 - 1.
 #[tactic(auto, using(crate::proofs::TableLemmas::sides_taken))]
 pub fn global_count(layout: &Layout, file: &File) -> u64
     ensures { result ≡ min (2 ^ 64 - 1) (global_count layout.now file.now) }
@@ -242,7 +242,7 @@ pub fn global_count(layout: &Layout, file: &File) -> u64
     count_of(layout, TablePart::Side(false), file)
 }
 
-/// How many bytes the strings of a file have in the table of all symbols, at most 2^64 - 1.
+/// The size of a file's strings in `.strtab`, at most 2^64 - 1.
 #[tactic(auto, unfolding(crate::specs::TableSymbols::table_strings), using(crate::proofs::TableLemmas::strings_taken))]
 pub fn table_room(layout: &Layout, file: &File) -> u64
     ensures { result ≡ min (2 ^ 64 - 1) (total text_room (table_strings layout.now file.now)) }

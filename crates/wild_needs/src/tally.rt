@@ -1,4 +1,4 @@
-//! How many entries and words for a loader the sections of a file have, as they stand in the output.
+//! Counts the dynamic relocations and RELR words of a file's placed sections.
 ghost use Rattle.std.specs.Prelude.{◌≡◌, ℕ, ◌+◌, ◌-◌, ◌^◌, ◌≤◌, ◌∷◌, true, min, map, List};
 ghost use Rattle.wild_types.specs.declared.file.File.{File};
 ghost use Rattle.wild_types.specs.declared.input.InputRelocation.{InputRelocation};
@@ -17,19 +17,19 @@ use wild_relr::{Run, runs_are_counted};
 use wild_types::{File, InputRelocation, InputSection, Layout, SortedSection, is_allocated};
 use wild_walk::Sink;
 
-/// What is counted.
+/// The kind of item that is counted.
 #[derive(Clone, Copy)]
 pub(crate) enum Counted {
-    /// The addresses that move and have an entry with an addend.
+    /// Relative entries with addends.
     Listed,
-    /// The words that pack the others.
+    /// RELR words, which pack the other relative relocations.
     Packed,
-    /// The fields that are left to entries which name a symbol or a resolver.
+    /// Entries that name a symbol or a resolver.
     Left,
 }
 
 impl Counted {
-    /// Whether where a section stands tells how many it has: places are packed, or have an entry where they are odd.
+    /// Whether the count depends on the addresses of sections: with RELR even places are packed, and odd ones have an entry.
     fn reads_places(self, layout: &Layout) -> bool
         ensures { result ≡ reads_places self layout.now }
     {
@@ -42,7 +42,7 @@ impl Counted {
     }
 }
 
-/// What is asked of a section as it stands.
+/// The properties of a placed section on which the count depends.
 #[derive(Clone, Copy)]
 struct Standing {
     flags: u64,
@@ -51,7 +51,7 @@ struct Standing {
 }
 
 impl Standing {
-    /// Of a section of a file, whose next frames stand at an address.
+    /// The properties of a section of a file whose next frames begin at an address.
     #[tactic(auto, using(crate::proofs::TallyLemmas::stands))]
     fn of(at: u64, section: &InputSection) -> Standing
         ensures { (l : Layout) (f : File) → result ≡ standing_of (laid_section l f at section.now) }
@@ -71,7 +71,7 @@ impl Standing {
         }
     }
 
-    /// Of a section that stands in a given order.
+    /// The properties of a sorted section.
     #[tactic(auto, using(crate::proofs::TallyLemmas::stands))]
     fn sorted(section: &InputSection) -> Standing
         ensures { (l : Layout) → result ≡ standing_of (as_turned (as_loaded (unread l section.now))) }
@@ -84,7 +84,7 @@ impl Standing {
     }
 }
 
-/// Whether a section may have some.
+/// Whether a section may have items of that kind.
 #[inline(always)]
 fn asks(kind: Counted, layout: &Layout, standing: Standing) -> bool
     ensures { result ≡ asks kind layout.now standing }
@@ -97,19 +97,19 @@ fn asks(kind: Counted, layout: &Layout, standing: Standing) -> bool
     }
 }
 
-/// What is counted of the relocations of a section, at most 2^64 - 1.
+/// The count of the relocations of a section, at most 2^64 - 1.
 #[derive(Drop)]
 struct Tally<'a> {
     layout: &'a Layout,
     kind: Counted,
     standing: Standing,
-    /// Where the words stand that pack the section's places.
+    /// The state of the RELR run that packs the section's places.
     run: Run,
     count: u64,
 }
 
 impl<'a> Tally<'a> {
-    /// Nothing is counted so far.
+    /// A count of 0.
     #[inline(always)]
     fn new(kind: Counted, layout: &'a Layout, standing: Standing) -> Tally<'a>
         ensures none { result.count ≡ 0 }
@@ -124,7 +124,7 @@ impl<'a> Tally<'a> {
         }
     }
 
-    /// What a relocation adds, and where the words stand behind it.
+    /// The amount that a relocation adds, and the RELR run after it.
     #[inline(always)]
     #[tactic(auto, using(crate::proofs::TallyLemmas::steps))]
     fn step(&self, relocation: &InputRelocation) -> (usize, Run)
@@ -166,7 +166,7 @@ impl Sink<InputRelocation> for Tally<'_> {
     }
 }
 
-/// How many entries or words of that kind a section has, at most 2^64 - 1.
+/// The number of items of that kind in a section, at most 2^64 - 1.
 #[inline(always)]
 #[tactic(auto, using(crate::proofs::TallyLemmas::tallies))]
 fn count_section(
@@ -190,7 +190,7 @@ fn count_section(
     }
 }
 
-/// The same of a section that stands in a given order.
+/// The number of items of that kind in a sorted section, at most 2^64 - 1.
 #[tactic(auto, using(crate::proofs::TallyLemmas::tallies))]
 fn count_turned(kind: Counted, layout: &Layout, section: &InputSection) -> u64
     ensures { result ≡ min (2 ^ 64 - 1) (counted_in kind layout.now (as_turned (as_loaded (unread layout.now section.now)))) }
@@ -207,7 +207,7 @@ fn count_turned(kind: Counted, layout: &Layout, section: &InputSection) -> u64
     }
 }
 
-/// Where the frames behind those of a section begin, as far as it is asked where sections stand.
+/// The address of the frames after those of a section, if the count depends on the addresses of sections.
 #[inline(always)]
 fn behind_section(
     kind: Counted,
@@ -225,7 +225,7 @@ fn behind_section(
     }
 }
 
-/// The sum over the sections of a file whose frames begin at an address, at most 2^64 - 1.
+/// The sum over the sections of a file, at most 2^64 - 1. The file's frames begin at address `at`.
 #[inline(always)]
 #[tactic(auto, using(crate::proofs::TallyLemmas::section_loops))]
 pub(crate) fn count_sections(kind: Counted, layout: &Layout, at: u64, file: &File) -> u64
@@ -240,7 +240,7 @@ pub(crate) fn count_sections(kind: Counted, layout: &Layout, at: u64, file: &Fil
     sum
 }
 
-/// The same of the section that is named, where it is one that stands in a given order.
+/// The number of items for an entry of the sort order, if it refers to a sorted section.
 fn count_named(kind: Counted, layout: &Layout, entry: SortedSection) -> u64
     ensures { result ≡ min (2 ^ 64 - 1) (total (counted_in kind layout.now) (map (λ (x : Input). as_turned x.section) (sorted_input layout.now entry))) }
 {
@@ -250,7 +250,7 @@ fn count_named(kind: Counted, layout: &Layout, entry: SortedSection) -> u64
     }
 }
 
-/// The sum over the sections that stand in a given order, at most 2^64 - 1.
+/// The sum over the sorted sections, at most 2^64 - 1.
 #[tactic(auto, using(crate::proofs::TallyLemmas::sorted_loops))]
 pub(crate) fn count_sorted(kind: Counted, layout: &Layout) -> u64
     ensures { result ≡ min (2 ^ 64 - 1) (total (counted_in kind layout.now) (sorted_sections layout.now)) }
@@ -262,8 +262,8 @@ pub(crate) fn count_sorted(kind: Counted, layout: &Layout) -> u64
     sum
 }
 
-/// How many entries or words of that kind a file has whose frames begin at an address, at most 2^64 - 1: the last one has those of
-/// the sections besides that stand in a given order.
+/// The number of items of that kind in a file, at most 2^64 - 1. The file's frames begin at address `at`. The last file also has those of
+/// the sorted sections.
 #[inline(always)]
 #[tactic(auto, using(crate::proofs::TallyLemmas::sums))]
 pub(crate) fn count_processed(kind: Counted, layout: &Layout, at: u64, file: &File) -> u64

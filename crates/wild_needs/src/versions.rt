@@ -1,4 +1,4 @@
-//! How many bytes tables of versions have, and their strings (LSB, "Symbol Versioning").
+//! The sizes of version tables and of their strings (LSB, "Symbol Versioning").
 ghost use Rattle.std.specs.Prelude.{◌≡◌, ◌+◌, ◌*◌, ◌-◌, ◌^◌, ◌≤◌, length, min};
 ghost use Rattle.std.specs.List.{filter};
 ghost use Rattle.std.specs.Option.{option_copied};
@@ -11,7 +11,7 @@ use crate::strings::text_room;
 use wild_records::{Verdaux, Verdef, Vernaux, Verneed};
 use wild_types::{File, Layout, NeededVersion, VersionDefinition, VersionNeeds};
 
-/// How many bytes the record of a version that the output defines has, with its names.
+/// The size of the record of a version that the output defines, with its names, in bytes.
 pub fn definition_size(definition: &VersionDefinition) -> usize
     ensures size { result ≡ definition_size definition.now }
     ensures small { result ≤ 36 }
@@ -22,7 +22,7 @@ pub fn definition_size(definition: &VersionDefinition) -> usize
     }
 }
 
-/// How many bytes versions that the output defines have, at most 2^64 - 1.
+/// The size of the records of versions that the output defines, in bytes, at most 2^64 - 1.
 pub fn definitions_size(definitions: &[VersionDefinition]) -> usize
     ensures size { result ≡ min (2 ^ 64 - 1) (definitions_size definitions.now) }
     ensures small { result ≤ 36 * length definitions.now }
@@ -34,7 +34,7 @@ pub fn definitions_size(definitions: &[VersionDefinition]) -> usize
     size
 }
 
-/// How many bytes a file has to write of the versions that the output defines, at most 2^64 - 1.
+/// The bytes of version definitions that a file writes, at most 2^64 - 1.
 pub(crate) fn definitions_room(layout: &Layout, file: &File) -> u64
     ensures { result ≡ min (2 ^ 64 - 1) (definitions_room layout.now file.now) }
 {
@@ -45,7 +45,7 @@ pub(crate) fn definitions_room(layout: &Layout, file: &File) -> u64
     }
 }
 
-/// How many bytes the record of a library has, with the versions that are needed of it, at most 2^64 - 1.
+/// The size of a library's record, with the versions that are needed from it, in bytes, at most 2^64 - 1.
 pub fn need_size(needs: &VersionNeeds) -> usize
     ensures { result ≡ min (2 ^ 64 - 1) (need_size needs.now) }
 {
@@ -54,7 +54,7 @@ pub fn need_size(needs: &VersionNeeds) -> usize
         .saturating_add(Verneed::SIZE)
 }
 
-/// The versions that are needed of a file: it is a library.
+/// The versions that are needed from a file, if it is a library.
 pub fn needs_of(file: &File) -> Option<&VersionNeeds>
     ensures { option_copied result ≡ needs_of file.now }
 {
@@ -65,7 +65,7 @@ pub fn needs_of(file: &File) -> Option<&VersionNeeds>
     }
 }
 
-/// How many bytes a file has to write of the versions that are needed of it, at most 2^64 - 1.
+/// The bytes that a file writes for the versions needed from it, at most 2^64 - 1.
 pub(crate) fn needs_room(layout: &Layout, file: &File) -> u64
     ensures { result ≡ min (2 ^ 64 - 1) (needs_room layout.now file.now) }
 {
@@ -78,14 +78,14 @@ pub(crate) fn needs_room(layout: &Layout, file: &File) -> u64
     }
 }
 
-/// Whether versions are needed of a file.
+/// Whether versions are needed from a file.
 pub(crate) fn has_needs(file: &File) -> bool
     ensures { result ≡ has_needs file.now }
 {
     file.role.is_library() && file.verneed.is_some()
 }
 
-/// Of how many of some files versions are needed, at most 2^64 - 1.
+/// The number of these files from which versions are needed, at most 2^64 - 1.
 fn needed_among(files: &[File]) -> u64
     ensures { result ≡ min (2 ^ 64 - 1) (length (filter has_needs files.now)) }
 {
@@ -98,7 +98,7 @@ fn needed_among(files: &[File]) -> u64
     count
 }
 
-/// Of how many libraries versions are needed, at most 2^64 - 1.
+/// The number of libraries from which versions are needed, at most 2^64 - 1.
 #[tactic(auto, unfolding(crate::specs::DynamicPlaces::need_number), using(crate::proofs::StringLemmas::length_needed))]
 pub fn need_count(layout: &Layout) -> u64
     ensures { result ≡ need_number layout.now }
@@ -112,7 +112,7 @@ pub fn need_count(layout: &Layout) -> u64
 
 // ---- their strings
 
-/// How many bytes the names of versions that are needed have, at most 2^64 - 1.
+/// The size of the names of needed versions, at most 2^64 - 1.
 fn needed_room(versions: &[NeededVersion]) -> u64
     ensures { result ≡ min (2 ^ 64 - 1) (total text_room (needed_names versions.now)) }
 {
@@ -123,7 +123,7 @@ fn needed_room(versions: &[NeededVersion]) -> u64
     room
 }
 
-/// How many bytes the names of versions that the output defines have, at most 2^64 - 1.
+/// The size of the names of versions that the output defines, at most 2^64 - 1.
 fn defined_room(definitions: &[VersionDefinition]) -> u64
     ensures { result ≡ min (2 ^ 64 - 1) (total text_room (definition_names definitions.now)) }
 {
@@ -134,7 +134,7 @@ fn defined_room(definitions: &[VersionDefinition]) -> u64
     room
 }
 
-/// The versions whose names are strings of their own: not the first, where the output's own name has one.
+/// The versions whose names have strings of their own: not the first, if the output's soname is already its string.
 fn named_definitions(layout: &Layout) -> &[VersionDefinition]
     ensures { definition_names result.now ≡ own_names layout.now.options.soname layout.now.verdefs }
 {
@@ -146,7 +146,7 @@ fn named_definitions(layout: &Layout) -> &[VersionDefinition]
     }
 }
 
-/// How many bytes the strings of a file's versions have, at most 2^64 - 1.
+/// The size of the strings of a file's versions, at most 2^64 - 1.
 pub fn version_room(layout: &Layout, file: &File) -> u64
     ensures { result ≡ min (2 ^ 64 - 1) (total text_room (version_names layout.now file.now)) }
 {

@@ -1,5 +1,5 @@
-//! The one walk over the symbols that `.symtab` has of a file (gABI, "Symbol Table"). What is done with each is a sink's: it is counted,
-//! written, or looked at for what it lacks.
+//! The one walk over the symbols of a file for `.symtab` (gABI, "Symbol Table"). It passes each symbol to a sink, which counts, writes or
+//! checks it.
 ghost use Rattle.std.specs.Prelude.{[], if◌then◌else◌};
 ghost use Rattle.std.specs.List.{flat_map};
 ghost use Rattle.wild_types.specs.FileSymbols.{loaded_symbols};
@@ -9,7 +9,7 @@ ghost use Rattle.wild_walk.specs.Runs.{Ran};
 use crate::table::{Named, Pass, passes};
 use wild_types::{File, Layout, Symbol, Thunk};
 
-/// Where the symbols of `.symtab` go, one after another.
+/// A sink for the symbols of `.symtab`, which arrive one by one.
 pub trait TableSink {
     ghost use Rattle.std.specs.Prelude.{[], ◌∷◌};
     ghost use Rattle.wild_needs.specs.TableSymbols.{TableSymbol, item};
@@ -18,18 +18,18 @@ pub trait TableSink {
     /// Why a symbol is refused.
     type Error: Drop;
 
-    /// From one state to another, with the symbol taken.
+    /// The relation between the state before and after a symbol is accepted.
     ghost goes: { Self → TableSymbol → Self → Type 0 };
 
-    /// In a state the symbol is refused for a reason, which leaves a state.
+    /// The relation between the state before a symbol is refused, the reason, and the state after it.
     ghost refuses: { Self → TableSymbol → Self.Error → Self → Type 0 };
 
-    /// Takes the symbol of that number, or the name of its slot, its stub or a thunk to it, or refuses it.
+    /// Accepts or refuses the symbol with that number, or the name of its slot, its stub or a thunk to it.
     fn take(&mut self, named: Named, index: usize, symbol: &Symbol) -> Result<(), Self::Error>
         ensures { Ran goes refuses self.old (item named index symbol.now ∷ []) result self.new };
 }
 
-/// Gives a symbol, or the name of its slot or its stub, where that is asked for.
+/// Passes a symbol, or the name of its slot or its stub, if `.symtab` contains it.
 #[inline(always)]
 #[tactic(auto, using(wild_walk::proofs::RunLemmas::runs))]
 fn give_asked<S: TableSink>(
@@ -48,7 +48,7 @@ fn give_asked<S: TableSink>(
     }
 }
 
-/// Gives the names of a symbol's slot and its stub.
+/// Passes the names of a symbol's slot and its stub.
 #[inline(always)]
 #[tactic(auto, using(wild_walk::proofs::RunLemmas::runs))]
 fn give_slots<S: TableSink>(
@@ -65,7 +65,7 @@ fn give_slots<S: TableSink>(
     give_asked(stub, Named::Stub, index, symbol, sink)
 }
 
-/// The same, where the pass has them.
+/// As `give_slots`, if the pass takes them.
 #[inline(always)]
 #[tactic(auto, using(wild_walk::proofs::RunLemmas::runs))]
 fn give_slots_in<S: TableSink>(
@@ -84,7 +84,7 @@ fn give_slots_in<S: TableSink>(
     }
 }
 
-/// Gives the symbol itself, where the pass has those.
+/// Passes the symbol itself, if the pass takes it.
 #[inline(always)]
 #[tactic(auto, using(wild_walk::proofs::RunLemmas::runs))]
 fn give_own_in<S: TableSink>(
@@ -99,7 +99,7 @@ fn give_own_in<S: TableSink>(
     give_asked(asked, Named::Itself, index, symbol, sink)
 }
 
-/// Gives all that a symbol has in a pass.
+/// Passes all names of a symbol that a pass takes.
 #[inline(always)]
 #[tactic(auto, using(wild_walk::proofs::RunLemmas::runs))]
 fn give_symbol<S: TableSink>(
@@ -115,7 +115,7 @@ fn give_symbol<S: TableSink>(
     give_own_in(pass, index, symbol, sink)
 }
 
-/// Gives all that the symbols of a file have in a pass.
+/// Passes all names of a file's symbols that a pass takes.
 #[inline(always)]
 #[tactic(auto, using(wild_walk::proofs::RunLemmas::numbered_loops))]
 fn give_pass<S: TableSink>(
@@ -134,7 +134,7 @@ fn give_pass<S: TableSink>(
     Ok(())
 }
 
-/// Gives all that the symbols of a file have, pass by pass.
+/// Passes all names of a file's symbols, pass by pass.
 #[inline(always)]
 #[tactic(auto, using(wild_walk::proofs::RunLemmas::runs, wild_walk::proofs::RunLemmas::copied_loops))]
 fn give_symbols<S: TableSink>(layout: &Layout, file: &File, sink: &mut S) -> Result<(), S::Error>
@@ -146,7 +146,7 @@ fn give_symbols<S: TableSink>(layout: &Layout, file: &File, sink: &mut S) -> Res
     Ok(())
 }
 
-/// Gives the name of a thunk, where its symbol is there.
+/// Passes the name of a thunk, if its symbol is in the list of symbols.
 #[tactic(auto, using(wild_walk::proofs::RunLemmas::runs))]
 fn give_thunk<S: TableSink>(layout: &Layout, thunk: Thunk, sink: &mut S) -> Result<(), S::Error>
     ensures { Ran S.goes S.refuses sink.old (thunk_item layout.now thunk) result sink.new }
@@ -157,7 +157,7 @@ fn give_thunk<S: TableSink>(layout: &Layout, thunk: Thunk, sink: &mut S) -> Resu
     }
 }
 
-/// Gives the names of the thunks that a file writes.
+/// Passes the names of the thunks that a file writes.
 #[tactic(auto, using(wild_walk::proofs::RunLemmas::runs, wild_walk::proofs::RunLemmas::listed_loops))]
 fn give_thunks<S: TableSink>(layout: &Layout, file: &File, sink: &mut S) -> Result<(), S::Error>
     ensures { Ran S.goes S.refuses sink.old (thunk_items layout.now file.now) result sink.new }
@@ -168,7 +168,7 @@ fn give_thunks<S: TableSink>(layout: &Layout, file: &File, sink: &mut S) -> Resu
     Ok(())
 }
 
-/// Gives the symbols that `.symtab` has of a file, until one is refused.
+/// Passes the symbols of a file for `.symtab`, until one is refused.
 #[inline]
 #[tactic(auto, using(wild_walk::proofs::RunLemmas::runs), unfolding(crate::specs::TableSymbols::file_items))]
 pub fn give_table<S: TableSink>(layout: &Layout, file: &File, sink: &mut S) -> Result<(), S::Error>

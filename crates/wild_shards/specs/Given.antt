@@ -1,4 +1,4 @@
--- Offsets and sizes of relocations that lie in memory, by place.
+-- Offsets and sizes of relocations in memory, by index.
 use Rattle.std.specs.Prelude.{ℕ, List, Option, None, false, slice_index_or}
 use lib.IntN.{pos}
 use Rattle.wild_types.specs.declared.input.InputRelocation.{InputRelocation}
@@ -7,7 +7,7 @@ use Rattle.wild_shards.specs.InOrder.{Rule}
 abbrev pub nothing : InputRelocation
 nothing = record { offset = 0; number = 0; symbol = None; addend = pos 0; malformed = false }
 
--- the relocation at a place
+-- the relocation with that index
 abbrev pub relocation_at : List InputRelocation → ℕ → InputRelocation
 relocation_at rs i = slice_index_or rs i nothing
 

@@ -1,23 +1,23 @@
--- Relocations applied in order.
---   Rule                        how wide fields are, and what their bytes become
---   in_order rule base rs xs    the bytes xs, which begin at offset base, with each relocation applied, one after
---                               another; or the first fault
---   Came result ys outcome      a call answered this outcome, and left its bytes in ys where there is no fault
---   FieldWithin rule a e r      the field of a relocation lies from a on and ends at e or before
---   Tiles rule ranges rs base end   the ranges follow one another from base to end, each takes the next relocations, and
---                               each field of a range lies in its part of the output
+-- Relocations applied in sequence.
+--   Rule                        the widths of fields, and the bytes that are written to them
+--   in_order rule base rs xs    the bytes xs, which begin at offset base, with the relocations applied one by one; or the first
+--                               fault
+--   Came result ys outcome      a call returned this outcome, and left its bytes in ys if there is no fault
+--   FieldWithin rule a e r      the field of a relocation begins at or after a and ends at or before e
+--   Tiles rule ranges rs base end   the ranges are consecutive from base to end, each takes the next relocations, and each field of a
+--                               range is within its part of the output
 use Rattle.std.specs.Prelude.{◌≡◌, ℕ, ◌+◌, ◌-◌, ◌≤◌, ◌<◌, ◌⊎◌, List, [], ◌∷◌, length, take, drop, All, Option, Some, None, Result, Ok, Err, IfOk, slice_index, slice_range}
 use Rattle.wild_words.specs.Words.{place}
 use Rattle.wild_types.specs.declared.input.InputRelocation.{InputRelocation}
 use Rattle.wild_types.specs.declared.fault.Error.{Error}
 use Rattle.wild_shards.specs.declared.ranges.DebugRelocationShardRange.{DebugRelocationShardRange}
 
--- how wide the field of a relocation is, where that can be told, and what its bytes become
+-- the width of a relocation's field, if it is known, and the bytes that are written to it
 pub record Rule : Type 0 where
   pub sized : InputRelocation → Option ℕ
   pub written : InputRelocation → List ℕ → Result (List ℕ) Error
 
--- a width that cannot be told is 0
+-- an unknown width counts as 0
 abbrev pub width_of : Option ℕ → ℕ
 width_of None = 0
 width_of (Some n) = n
@@ -25,51 +25,51 @@ width_of (Some n) = n
 abbrev pub width : Rule → InputRelocation → ℕ
 width rule r = width_of (rule.sized r)
 
--- fields are at most 10 wide
+-- fields are at most 10 bytes wide
 abbrev pub AreSmall : Rule → Type 0
 AreSmall rule = (r : InputRelocation) → width rule r ≤ 10
 
--- a field has as many bytes as before
+-- a step does not change the width of a field
 abbrev pub KeepsLength : Rule → Type 0
 KeepsLength rule = (r : InputRelocation) (xs : List ℕ) → length xs ≡ width rule r → IfOk (rule.written r xs) (λ ys. length ys ≡ length xs)
 
--- the next step on the value; a fault stays
+-- the next step on the value; a fault is passed on
 abbrev pub then_on : {A B : Type 0} → Result A Error → (A → Result B Error) → Result B Error
 then_on (Ok x) f = f x
 then_on (Err e) f = Err e
 
--- the bytes of the field that begins there
+-- the bytes of the field that begins at that index
 abbrev pub field_at : Rule → ℕ → InputRelocation → List ℕ → List ℕ
 field_at rule at r xs = slice_range xs at (at + width rule r)
 
--- one relocation over bytes that begin at offset base
+-- one relocation applied to bytes that begin at offset base
 abbrev pub step_on : Rule → ℕ → InputRelocation → List ℕ → Result (List ℕ) Error
 step_on rule base r xs = then_on (rule.written r (field_at rule (r.offset - base) r xs)) (λ ys. Ok (place (r.offset - base) ys xs))
 
--- each relocation in order, or the first fault
+-- the relocations applied one by one, or the first fault
 abbrev pub in_order : Rule → ℕ → List InputRelocation → List ℕ → Result (List ℕ) Error
 in_order rule base [] xs = Ok xs
 in_order rule base (r ∷ rs) xs = then_on (step_on rule base r xs) (in_order rule base rs)
 
--- a call answered this outcome, and left its bytes in ys where there is no fault
+-- a call returned this outcome, and left its bytes in ys if there is no fault
 abbrev pub Came : Result (Unit {0}) Error → List ℕ → Result (List ℕ) Error → Type 0
 Came (Ok _) ys outcome = outcome ≡ Ok ys
 Came (Err e) ys outcome = outcome ≡ Err e
 
--- what two parts came to: the fault of the first, else what the second came to
+-- the combined result of two parts: the fault of the first, else the result of the second
 abbrev pub first_of : Result (Unit {0}) Error → Result (Unit {0}) Error → Result (Unit {0}) Error
 first_of (Err e) b = Err e
 first_of (Ok _) b = b
 
--- the field of a relocation lies from a on and ends at e or before
+-- the field of a relocation begins at or after a and ends at or before e
 abbrev pub FieldWithin : Rule → ℕ → ℕ → InputRelocation → Type 0
 FieldWithin rule a e r = (a ≤ r.offset) × (r.offset + width rule r ≤ e)
 
--- how many relocations a range takes
+-- the number of relocations of a range
 abbrev pub count_of : DebugRelocationShardRange → ℕ
 count_of s = s.relocations.end - s.relocations.start
 
--- a range stands at base and takes the first of the relocations, whose fields lie in its part of the output
+-- a range begins at base and takes the first of the relocations, whose fields are within its part of the output
 pub record Takes (rule : Rule) (s : DebugRelocationShardRange) (rs : List InputRelocation) (base end : ℕ) : Type 0 where
   pub begins : s.output.start ≡ base
   pub low : base ≤ s.output.end
@@ -78,12 +78,12 @@ pub record Takes (rule : Rule) (s : DebugRelocationShardRange) (rs : List InputR
   pub many : count_of s ≤ length rs
   pub fields : All (FieldWithin rule base s.output.end) (take (count_of s) rs)
 
--- the ranges follow one another from base to end and take all relocations, each with its fields in its part of the output
+-- the ranges are consecutive from base to end and take all relocations, each with its fields in its part of the output
 abbrev pub Tiles : Rule → List DebugRelocationShardRange → List InputRelocation → ℕ → ℕ → Type 0
 Tiles rule [] rs base end = (rs ≡ []) × (base ≡ end)
 Tiles rule (s ∷ ss) rs base end = Takes rule s rs base end × Tiles rule ss (drop (count_of s) rs) s.output.end end
 
--- a byte in no field stays as it was
+-- a byte outside all fields does not change
 abbrev pub OthersStay : Type 0
 OthersStay = (rule : Rule) (base : ℕ) (rs : List InputRelocation) (xs ys : List ℕ) (k : ℕ) → KeepsLength rule → All (FieldWithin rule base (base + length xs)) rs → in_order rule base rs xs ≡ Ok ys
     → All (λ r. (base + k < r.offset) ⊎ (r.offset + width rule r ≤ base + k)) rs → slice_index ys k ≡ slice_index xs k

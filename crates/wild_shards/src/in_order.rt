@@ -1,11 +1,11 @@
-//! Relocations applied in order.
+//! Relocations applied in sequence.
 ghost use Rattle.std.specs.Prelude.{◌≡◌, ◌+◌, ◌≤◌, length, All, true};
 ghost use Rattle.wild_shards.specs.InOrder.{in_order, step_on, width, Came, FieldWithin, OthersStay};
 
 use crate::step::{Step, steps_stay_in_fields};
 use wild_types::{Error, InputRelocation};
 
-/// Applies a relocation over bytes that begin at offset `base`.
+/// Applies a relocation to bytes that begin at offset `base`.
 fn apply<S: Step>(
     step: &S,
     relocation: &InputRelocation,
@@ -21,7 +21,7 @@ fn apply<S: Step>(
     step.write(relocation, &mut out[at..at + width])
 }
 
-/// Applies relocations one after another over the bytes, which begin at offset `base`, or answers the first fault.
+/// Applies relocations one by one to the bytes, which begin at offset `base`. Stops at the first fault and returns it.
 pub fn apply_in_order<S: Step>(
     step: &S,
     relocations: &[InputRelocation],
@@ -37,7 +37,7 @@ pub fn apply_in_order<S: Step>(
     Ok(())
 }
 
-/// Whether each field lies in an output of that length.
+/// Whether each field is within an output of that length.
 pub fn fields_lie<S: Step>(step: &S, relocations: &[InputRelocation], output: usize) -> bool
     ensures { result ≡ true → All (FieldWithin (S.rule step.now) 0 output) relocations.now }
 {
@@ -50,7 +50,7 @@ pub fn fields_lie<S: Step>(step: &S, relocations: &[InputRelocation], output: us
     true
 }
 
-/// A byte that is in no field stays as it was.
+/// A byte outside all fields does not change.
 pub fn other_bytes_stay()
     ensures { OthersStay }
 {}

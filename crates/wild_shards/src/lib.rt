@@ -1,4 +1,4 @@
-//! Relocations of a debug section applied in order, and in shards beside each other.
+//! Applies the relocations of a debug section, in sequence or in parallel shards.
 #![tactic(auto)]
 
 mod in_order;

@@ -5,7 +5,7 @@ ghost use Rattle.wild_shards.specs.Ranges.{cut, shard, output_end, output_start,
 use std::alloc::{AllocError, Global};
 use std::ops::Range;
 
-/// No relocation is told to be wider.
+/// The greatest width of a relocation's field, in bytes.
 const WIDEST: u64 = 10;
 
 /// The relocations of a shard, and its part of the output.
@@ -15,31 +15,31 @@ pub struct DebugRelocationShardRange {
     pub output: Range<usize>,
 }
 
-/// The offsets of relocations.
+/// The offsets of relocations, by index.
 pub trait Offsets {
     ghost count: { Self → ℕ };
 
     ghost offset: { Self → ℕ → ℕ };
 
-    /// The offset of the relocation at that place.
+    /// The offset of the relocation with that index.
     fn offset_at(&self, index: usize) -> u64
         requires { index < count self.now }
         ensures { result ≡ offset self.now index };
 }
 
-/// The sizes of what relocations write.
+/// The sizes of the fields that relocations write, by index.
 pub trait Sizes {
     ghost count: { Self → ℕ };
 
     ghost size: { Self → ℕ → Option ℕ };
 
-    /// The size of the relocation at that place, where it can be read.
+    /// The size of the field of the relocation with that index; none if it cannot be determined.
     fn write_size_at(&self, index: usize) -> Option<usize>
         requires { index < count self.now }
         ensures { result ≡ size self.now index };
 }
 
-/// Whether offsets do not fall, and none is past the end of the output.
+/// Whether the offsets ascend, and none is past the end of the output.
 fn are_in_order<O: Offsets>(offsets: &O, count: usize, output: usize) -> bool
     requires { count ≤ O.count offsets.now }
     ensures sorted { result ≡ true → AreSorted (O.offset offsets.now) count }
@@ -57,7 +57,7 @@ fn are_in_order<O: Offsets>(offsets: &O, count: usize, output: usize) -> bool
     true
 }
 
-/// Whether the field of the relocation at that place is known to be small and to end at the limit or before.
+/// Whether the size of the field is known, is at most 10, and the field ends at or before the limit.
 fn fits<S: Sizes>(sizes: &S, index: usize, offset: u64, limit: u64) -> bool
     requires { index < S.count sizes.now }
     ensures yes { result ≡ true → Fits limit offset (S.size sizes.now index) }
@@ -69,7 +69,7 @@ fn fits<S: Sizes>(sizes: &S, index: usize, offset: u64, limit: u64) -> bool
     }
 }
 
-/// Whether the tail of a shard fits: sizes are asked there alone.
+/// Whether the last fields of a shard fit. Sizes are read only there.
 fn tail_fits<O: Offsets, S: Sizes>(
     offsets: &O,
     sizes: &S,
@@ -97,7 +97,7 @@ fn tail_fits<O: Offsets, S: Sizes>(
     true
 }
 
-/// The first relocation of shard `index` of `shards`.
+/// The index of the first relocation of shard `index` of `shards`.
 #[tactic(auto, using(crate::proofs::CutLemmas::cuts))]
 fn first_of(count: usize, shards: usize, index: usize) -> usize
     requires some { 0 < shards }
@@ -107,7 +107,7 @@ fn first_of(count: usize, shards: usize, index: usize) -> usize
     (count as u128 * index as u128 / shards as u128) as usize
 }
 
-/// Where the output of a shard begins.
+/// The offset at which the output of a shard begins.
 #[tactic(auto, using(crate::proofs::CutLemmas::cuts))]
 fn start_of<O: Offsets>(offsets: &O, count: usize, shards: usize, index: usize) -> u64
     requires some { shards ≤ count }
@@ -122,7 +122,7 @@ fn start_of<O: Offsets>(offsets: &O, count: usize, shards: usize, index: usize) 
     }
 }
 
-/// Where the output of a shard ends.
+/// The offset at which the output of a shard ends.
 #[tactic(auto, using(crate::proofs::CutLemmas::cuts))]
 fn end_of<O: Offsets>(offsets: &O, count: usize, output: usize, shards: usize, index: usize) -> u64
     requires some { shards ≤ count }
@@ -158,7 +158,7 @@ fn shard_of<O: Offsets>(
     }
 }
 
-/// Whether the tail of a shard fits.
+/// Whether the last fields of a shard fit.
 #[tactic(auto, using(crate::proofs::CutLemmas::cuts))]
 fn shard_fits<O: Offsets, S: Sizes>(
     offsets: &O,
@@ -181,7 +181,7 @@ fn shard_fits<O: Offsets, S: Sizes>(
     tail_fits(offsets, sizes, start, end, limit)
 }
 
-/// The ranges of several shards of offsets in order, or none where a tail does not fit.
+/// The ranges of several shards of ascending offsets, or none if the last fields of a shard do not fit.
 fn fitting_ranges<O: Offsets, S: Sizes>(
     alloc: Global,
     count: usize,
@@ -208,8 +208,10 @@ fn fitting_ranges<O: Offsets, S: Sizes>(
     Ok(Some(ranges))
 }
 
-/// The ranges of the shards, or none where they may not run beside each other: where fewer than two are left, offsets
-/// fall or are past the end of the output, or in a tail a size is not known, above 10, or too large for the field.
+/// The ranges of the shards, or none if they must not run in parallel:
+/// - there are fewer than two shards,
+/// - offsets descend, or one is past the end of the output,
+/// - among the last fields of a shard a size is unknown, above 10, or too large for the shard's output.
 pub fn debug_relocation_shard_ranges_parallel<O: Offsets, S: Sizes>(
     alloc: Global,
     count: usize,

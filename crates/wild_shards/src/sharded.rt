@@ -1,4 +1,4 @@
-//! Relocations applied in shards beside each other.
+//! Relocations applied in parallel shards.
 ghost use Rattle.std.specs.Prelude.{◌≡◌, ◌+◌, ◌≤◌, length, All, Some, IfOk, min, option_map, IfSome};
 ghost use Rattle.std.specs.Thread.{IsSync};
 ghost use Rattle.wild_shards.specs.Given.{offset_in, size_in};
@@ -14,7 +14,7 @@ use std::alloc::{AllocError, Global};
 use std::thread::{Threads, join_mut};
 use wild_types::{Error, InputRelocation};
 
-/// What two parts came to: the fault of the first, else what the second came to.
+/// The combined result of two parts: the fault of the first, else the result of the second.
 fn first_of(one: Result<(), Error>, two: Result<(), Error>) -> Result<(), Error>
     ensures { result ≡ first_of one two }
 {
@@ -24,8 +24,8 @@ fn first_of(one: Result<(), Error>, two: Result<(), Error>) -> Result<(), Error>
     }
 }
 
-/// Applies the relocations of each range in its part of the output, which begins at offset `base`, beside each other;
-/// or answers the first fault in the order of the ranges.
+/// Applies the relocations of each range in its part of the output, which begins at offset `base`, in parallel. Returns the first
+/// fault in the order of the ranges.
 pub(crate) fn run_shards<R: Threads + Sync, S: Step + Sync>(
     rt: &R,
     step: &S,
@@ -58,7 +58,7 @@ pub(crate) fn run_shards<R: Threads + Sync, S: Step + Sync>(
     first_of(one, two)
 }
 
-/// The offsets of relocations that lie in memory.
+/// The offsets of relocations in memory.
 #[derive(Drop)]
 struct InMemory<'a>(&'a [InputRelocation]);
 
@@ -75,7 +75,7 @@ impl Offsets for InMemory<'_> {
     }
 }
 
-/// The sizes of relocations that lie in memory.
+/// The sizes of the fields of relocations in memory.
 #[derive(Drop)]
 struct Told<'a, S>(&'a S, &'a [InputRelocation]);
 
@@ -92,8 +92,8 @@ impl<S: Step> Sizes for Told<'_, S> {
     }
 }
 
-/// The ranges of so many shards of relocations that lie in memory: they follow one another from the first relocation and
-/// byte to the last, and each field lies in its shard's part.
+/// The ranges of the shards of relocations in memory. They are consecutive from the first relocation and byte to the last, and each
+/// field is within its shard's part of the output.
 pub fn ranges_of<S: Step>(
     alloc: Global,
     step: &S,
@@ -117,8 +117,8 @@ pub fn ranges_of<S: Step>(
     )
 }
 
-/// Applies relocations in so many shards beside each other, or in order where shards may not run so: the bytes and the
-/// first fault are those of the pass in order, for every number of shards.
+/// Applies relocations in parallel shards, or in sequence if shards must not run in parallel. The bytes and the first fault are
+/// those of the sequential pass, for every number of shards.
 pub fn apply_sharded<R: Threads + Sync, S: Step + Sync>(
     rt: &R,
     alloc: Global,
@@ -140,11 +140,11 @@ pub fn apply_sharded<R: Threads + Sync, S: Step + Sync>(
     }
 }
 
-/// A section of fewer relocations is not cut.
+/// A section with fewer relocations is not split.
 const LEAST: usize = 65536;
 
-/// Applies relocations with so many workers: from 65,536 on in shards, of which there are no more than one for each
-/// 65,536 begun.
+/// Applies relocations with that number of workers. From 65,536 relocations on it uses shards: at most one per worker, and at most
+/// one for each 65,536 relocations or part of them.
 pub fn apply_by_workers<R: Threads + Sync, S: Step + Sync>(
     rt: &R,
     alloc: Global,

@@ -1,8 +1,8 @@
--- What words of slots give to the parts of an image, one list a part. A word stands 8 bytes behind the one before it.
+-- What slots contribute to the parts of an image, one list a part. A word is 8 bytes after the one before it.
 --   slot_words t relr at ws     the words of `got` or `got_relr`
 --   slot_entries t m relr at ws the entries of `rela_plt`, `rela_dyn_relative` or `rela_dyn_general`, each with its word's place
 --   flat_places relr at ws      the places that have a RELR word of their own
---   begins_block ws    the first word is one of the block of packed words
+--   begins_block ws    the first word belongs to the group's run of words that are packed together
 use Rattle.std.specs.Prelude.{ℕ, ◌+◌, ◌%◌, ◌^◌, ◌==◌, ◌&&◌, Bool, if◌then◌else◌, List, [], ◌∷◌, ◌++◌, Option, Some, None, option_to_list, true, false}
 use Rattle.std.specs.Int.{cast_signed, w64}
 use Rattle.wild_records.specs.declared.relocations.Rela.{Rela}
@@ -19,11 +19,11 @@ use Rattle.wild_slot.specs.declared.slot_parts.WordPart.TheVariants as words
 use Rattle.wild_slot.specs.declared.slot_parts.EntryPart.{EntryPart}
 use Rattle.wild_slot.specs.declared.slot_parts.EntryPart.TheVariants as entries
 
--- the place of the next word
+-- the address of the next word
 abbrev pub next : ℕ → ℕ
 next at = (at + 8) % 2 ^ 64
 
--- what each word gives, in order
+-- the items that f yields for the words, in order, given each word's place
 abbrev pub at_places : {X : Type 0} → (ℕ → SlotWord → Option X) → ℕ → List SlotWord → List X
 at_places f at [] = []
 at_places f at (w ∷ ws) = option_to_list (f at w) ++ at_places f (next at) ws
@@ -34,7 +34,7 @@ at_places f at (w ∷ ws) = option_to_list (f at w) ++ at_places f (next at) ws
 abbrev pub is_packed : Bool → ℕ → Bool
 is_packed relr at = relr && at % 2 == 0
 
--- a word that a loader adds the base to stands as it is; one that an entry fills is 0
+-- the contents of a word in the file: an address if RELR or the block packs it; 0 if an entry fills it
 abbrev pub word_of : WordPart → Bool → ℕ → SlotWord → Option ℕ
 word_of words.Got relr at (Number n) = Some n
 word_of words.Got relr at (Address a) = Some (if is_packed relr at then a else 0)
@@ -49,7 +49,7 @@ slot_words part relr at ws = at_places (word_of part relr) at ws
 
 -- ---- entries
 
--- the number of a kind (x86-64 psABI and aaelf64, "Relocation Types")
+-- the relocation type of a kind (x86-64 psABI and aaelf64, "Relocation Types")
 abbrev pub type_of : Machine → DynamicRelocationKind → ℕ
 type_of machine.X86_64 kind = x86_64_type kind
 type_of machine.AArch64 kind = aarch64_type kind
@@ -58,7 +58,7 @@ type_of machine.AArch64 kind = aarch64_type kind
 abbrev pub entry_at : Machine → ℕ → SlotEntry → Rela
 entry_at m at e = record { offset = at; number = type_of m e.kind; symbol = e.symbol % 2 ^ 32; addend = cast_signed w64 e.addend }
 
--- the entry by which a loader stores base plus value
+-- the relative entry with which a loader stores load bias plus value
 abbrev pub address_entry : Machine → ℕ → ℕ → Rela
 address_entry m at value = record { offset = at; number = type_of m Relative; symbol = 0; addend = cast_signed w64 value }
 
@@ -80,7 +80,7 @@ flat_place relr at other = None
 abbrev pub flat_places : Bool → ℕ → List SlotWord → List ℕ
 flat_places relr at ws = at_places (flat_place relr) at ws
 
--- the first word is one of the block of packed words
+-- the first word belongs to the group's run of words that are packed together
 abbrev pub begins_block : List SlotWord → Bool
 begins_block (InBlock a ∷ ws) = true
 begins_block other = false

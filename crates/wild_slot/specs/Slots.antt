@@ -1,10 +1,10 @@
--- What the slots of a symbol in the global offset table have, by cases (x86-64 psABI, "Global Offset Table (GOT)",
+-- The contents of a symbol's slots in the global offset table, by cases (x86-64 psABI, "Global Offset Table (GOT)",
 -- "Procedure Linkage Table", "Relocation Types"; aaelf64, "Dynamic relocations"; ELF Handling For Thread-Local Storage).
---   setting_of l               what slots ask of a layout
---   slot_items s far r         the words of the slots of a resolution, 8 bytes apart from its `got_address` on, with its stub and what fails
---   slot s far r               the words before the first fault, whether the stub stands before it, and the fault
+--   setting_of l               the properties of a layout on which the contents of slots depend
+--   slot_items s far r         the words of a resolution's slots, 8 bytes each from its `got_address` on, its stub, and the faults
+--   slot s far r               the words before the first fault, whether the stub is before it, and the fault
 --   storage_pair s             the module pair of the output's own thread-local data
--- `far` is the distance of the stub from its slot where that is too far for it; `Some d` is an index in the dynamic symbol table.
+-- `far` is the distance of the stub from its slot if that is too large; `Some d` is an index in the dynamic symbol table.
 use Rattle.std.specs.Prelude.{ℕ, ◌==◌, ◌&&◌, ◌||◌, Bool, true, false, not, if◌then◌else◌, List, [], ◌∷◌, ◌++◌, Option, Some, None}
 use Rattle.wild_reloc.specs.declared.dynamic.DynamicRelocationKind.{DynamicRelocationKind}
 use Rattle.wild_reloc.specs.declared.dynamic.DynamicRelocationKind.TheVariants.{GotEntry, JumpSlot, DtpMod, DtpOff, TpOff, TlsDesc, Irelative}
@@ -24,40 +24,43 @@ use Rattle.wild_slot.specs.declared.slot.SlotItem.TheVariants.{Word, Stub, Fault
 use Rattle.wild_types.specs.SymbolSlots.{has_dynamic_symbol, has_thread_slot}
 use Rattle.wild_slot.specs.Storage.{less, thread_pointer, is_outside}
 
--- what slots ask of a layout
+-- the properties of a layout on which the contents of slots depend
 abbrev pub setting_of : Layout → Setting
 setting_of l = record { kind = l.kind; relr = l.options.relr; tls = l.tls; thread_pointer = thread_pointer l.machine l.tls }
 
--- ---- what is asked of a symbol
+-- ---- properties of a symbol
 
--- another module's definition stands in this one's place where there is one: a symbol of another module that is not copied,
--- or one of a shared object that other modules see (gABI, "Shared Object Dependencies")
+-- another module's definition, if there is one, replaces this one at run time: the symbol is another module's and not copied, or it is
+-- one of a shared object that other modules see (gABI, "Shared Object Dependencies")
 abbrev pub is_replaceable : OutputKind → ValueFlags → Bool
 is_replaceable kind f = (has_flag f dynamic && not (has_flag f copy_relocation)) || (is_shared_object kind && (has_flag f export_dynamic && interposable f))
 
 -- ---- words
 
--- a number that stands as it is
+-- a number that no loader changes
 abbrev pub number : ℕ → SlotItem
 number n = Word (Number n)
 
--- 0, filled by an entry of that kind, symbol index and addend: in `rela_dyn_general`
+-- 0, filled by an entry of `rela_dyn_general` with that kind, symbol index and addend
 abbrev pub general : DynamicRelocationKind → ℕ → ℕ → SlotItem
 general kind symbol addend = Word (General (record { kind = kind; symbol = symbol; addend = addend }))
 
--- the same in `rela_plt`
+-- 0, filled by an entry of `rela_plt` with that kind, symbol index and addend
 abbrev pub plt : DynamicRelocationKind → ℕ → ℕ → SlotItem
 plt kind symbol addend = Word (Plt (record { kind = kind; symbol = symbol; addend = addend }))
 
--- an entry that names the symbol
+-- an item that needs the symbol's dynamic index
 abbrev pub named : Option ℕ → (ℕ → SlotItem) → SlotItem
 named None by = Fault NoDynamicSymbol
 named (Some d) by = by d
 
 -- ---- thread-local slots
 
--- the offset from the thread pointer: another module's may be another one; a symbol at 0 is one that nothing defines, and
--- has offset 0; an executable's own is known, and any other's a loader finds (section 4.3, Initial Exec)
+-- the offset from the thread pointer (section 4.3, Initial Exec); the cases:
+--   a symbol that the loader looks up: a TPOFF entry for it
+--   address 0, that is an undefined symbol: 0
+--   an executable: the offset is known at link time
+--   else: a TPOFF entry without a symbol
 abbrev pub offset_item : Setting → Resolution → SlotItem
 offset_item s r =
     if has_dynamic_symbol r.flags then named r.dynamic_symbol_index (λ d. general TpOff d 0)
@@ -77,7 +80,7 @@ abbrev pub module_offset : Setting → ℕ → Option ℕ → SlotItem
 module_offset s raw (Some d) = general DtpOff d 0
 module_offset s raw None = number (less raw s.tls.start)
 
--- the offset in the module's data
+-- the offset in the module's thread-local data
 abbrev pub module_offset_item : Setting → Resolution → SlotItem
 module_offset_item s r = module_offset s r.raw_value (if interposable r.flags then r.dynamic_symbol_index else None)
 
@@ -89,7 +92,7 @@ described s f raw None =
     else if is_static_executable s.kind then Fault StaticTlsDesc
     else general TlsDesc 0 (less raw s.tls.start)
 
--- the descriptor, whose two words one entry fills
+-- the TLS descriptor, whose two words one entry fills
 abbrev pub descriptor_item : Setting → Resolution → SlotItem
 descriptor_item s r = described s r.flags r.raw_value r.dynamic_symbol_index
 
@@ -106,10 +109,14 @@ module_items s r = where_so (has_flag r.flags got_tls_module) (module_item s r �
 abbrev pub descriptor_items : Setting → Resolution → List SlotItem
 descriptor_items s r = where_so (has_flag r.flags got_tls_descriptor) (descriptor_item s r ∷ number 0 ∷ [])
 
--- ---- the slot of an address, and the stub that jumps to it
+-- ---- the slot for an address, and the stub that jumps to it
 
--- the address: of the function that the stub stands for in every module, of the symbol that a loader finds, of the function
--- that a resolver chooses, one that moves with the base, or one that does not
+-- the slot for the symbol's address; the cases:
+--   a function whose stub is its address in every module: a JUMP_SLOT entry
+--   a symbol that the loader looks up: a GLOB_DAT entry
+--   an IFUNC: an IRELATIVE entry
+--   an address that changes with the load bias: packed as RELR, or a relative entry
+--   else: a number
 abbrev pub plain_item : Setting → Resolution → SlotItem
 plain_item s r =
     if has_flag r.flags canonical_plt then named r.dynamic_symbol_index (λ d. plt JumpSlot d 0)
@@ -130,11 +137,11 @@ abbrev pub stub_address : Setting → Option ℕ → SlotItem
 stub_address s None = Fault NoStub
 stub_address s (Some stub) = if is_position_independent s.kind then Word (Address stub) else number stub
 
--- a second word, for references to the address: of an IFUNC it is the stub's, so that each reference finds the same
+-- a second word, for references to the address of an IFUNC: it is the stub's, so that all references agree
 abbrev pub ifunc_address_items : Setting → Resolution → List SlotItem
 ifunc_address_items s r = where_so (has_flag r.flags ifunc_got_for_address) (stub_address s r.plt_address ∷ [])
 
--- of a function whose stub is canonical a loader finds it
+-- a second word, for references to the address of a function with a canonical stub: the loader looks it up
 abbrev pub canonical_address_items : Setting → Resolution → List SlotItem
 canonical_address_items s r = where_so (has_flag r.flags canonical_plt_got_for_address) (named r.dynamic_symbol_index (λ d. general GotEntry d 0) ∷ [])
 
@@ -150,11 +157,11 @@ abbrev pub items_at : Setting → Option ℕ → Resolution → Option ℕ → L
 items_at s far r None = []
 items_at s far r (Some got) = if has_thread_slot r.flags then thread_items s r else address_items s far r
 
--- in the order of their places; nothing without a place
+-- the items in the order of their places; none if the resolution has no `got_address`
 abbrev pub slot_items : Setting → Option ℕ → Resolution → List SlotItem
 slot_items s far r = items_at s far r r.got_address
 
--- words, whether there is a stub, and what kept the rest from being written
+-- the words, whether there is a stub, and the fault that ended them
 pub record SlotContent : Type 0 where
   pub words : List SlotWord
   pub has_stub : Bool
@@ -172,7 +179,7 @@ abbrev pub with_item_by : Option SlotFault → SlotContent → SlotItem → Slot
 with_item_by None c x = add_item c x
 with_item_by (Some f) c x = c
 
--- one item more, unless something failed
+-- adds an item, unless there is a fault already
 abbrev pub with_item : SlotContent → SlotItem → SlotContent
 with_item c x = with_item_by c.fault c x
 
@@ -180,14 +187,14 @@ abbrev pub with_items : SlotContent → List SlotItem → SlotContent
 with_items c [] = c
 with_items c (x ∷ xs) = with_items (with_item c x) xs
 
--- what is written for a resolution: all up to the first fault
+-- the slots of a resolution, up to the first fault
 unfoldable pub slot : Setting → Option ℕ → Resolution → SlotContent
 slot s far r = with_items no_slot (slot_items s far r)
 
--- ---- what stands once
+-- ---- once in an output
 
--- the pair that local-dynamic references use: the output's own module, and where offsets in its data count from; code of
--- x86-64 executables is rewritten to count from the thread pointer (section 5.5, Local Dynamic to Local Exec)
+-- the pair for local-dynamic references: the output's own module, and the start of offsets in its data. Code of x86-64 executables is
+-- rewritten to count from the thread pointer (section 5.5, Local Dynamic to Local Exec)
 abbrev pub storage_pair : Setting → List SlotWord
 storage_pair s =
     if is_executable s.kind then Number 1 ∷ Number (less s.thread_pointer s.tls.start) ∷ []

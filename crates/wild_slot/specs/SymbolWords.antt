@@ -1,5 +1,5 @@
--- What is written for a symbol: the words of its slots, its stub, and what kept the rest from being written.
---   slots_of l s       its words, its stub, and the fault
+-- The slots of a symbol: the words, the stub, and the fault that ended them.
+--   slots_of l s       the words, the stub, and the fault
 use Rattle.std.specs.Prelude.{Option, Some, None}
 use Rattle.wild_types.specs.declared.symbol.Resolution.{Resolution}
 use Rattle.wild_types.specs.declared.symbol.Symbol.{Symbol}
@@ -11,6 +11,6 @@ abbrev pub resolved_slots : Layout → Option Resolution → SlotContent
 resolved_slots l None = no_slot
 resolved_slots l (Some r) = slot (setting_of l) (far_of l r) r
 
--- what is written for a symbol
+-- the slots of a symbol; none without a resolution
 unfoldable pub slots_of : Layout → Symbol → SlotContent
 slots_of l s = resolved_slots l s.resolution

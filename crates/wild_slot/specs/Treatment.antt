@@ -1,13 +1,13 @@
--- What is done with a relocation, as far as the layout alone says it: no value is taken.
---   flags_at l i          what is known of the value of the symbol that defines symbol i
---   is_left l flags row i     the address of symbol i is left to a dynamic entry
---   is_barred l flags n i     the field of type n cannot hold symbol i's address or distance, which another module may define
---   moves l i             the address of symbol i moves with the base
---   is_chosen l flags i       the address of symbol i is what a resolver answers, stored by a loader
+-- The treatment of each relocation, as far as the layout alone decides it: no value is computed.
+--   flags_at l i          the flags of the symbol that defines symbol i
+--   is_left l flags row i     a dynamic relocation against symbol i fills in its address
+--   is_barred l flags n i     the field of type n cannot hold symbol i's address or distance: another module may define the symbol
+--   moves l i             the address of symbol i changes with the load bias
+--   is_chosen l flags i       symbol i is an IFUNC whose address a loader stores
 --   is_narrow l flags n       the field of type n cannot hold an address of a library
---   is_sized l flags i        the size of symbol i is left to a dynamic entry
---   suited m r row        the row, where it takes the relocation's symbol and addend
---   treatment l flags r   what is done with relocation r of bytes with these flags (sh_flags)
+--   is_sized l flags i        a dynamic relocation against symbol i fills in its size
+--   suited m r row        the row, if it accepts the relocation's symbol and addend
+--   treatment l flags r   the treatment of relocation r in a section with these flags (sh_flags)
 use Rattle.std.specs.Prelude.{ℕ, Bool, true, false, not, ◌&&◌, ◌||◌, ◌==◌, nat_lt, if◌then◌else◌, length, Option, Some, None, option_map, unwrap_or, slice_get, is_none}
 use Rattle.wild_types.specs.declared.kind.Machine.{Machine}
 use Rattle.wild_types.specs.declared.kind.Machine.TheVariants as machine
@@ -32,55 +32,56 @@ use Rattle.wild_reloc.specs.declared.expression.Class.{Class}
 use Rattle.wild_reloc.specs.declared.expression.Class.TheVariants as class
 use Rattle.wild_reloc.specs.declared.info.RelocationKindInfo.{RelocationKindInfo}
 
--- what is known of the definition's value
+-- the flags of the symbol's definition
 abbrev pub flags_at : Layout → ℕ → ValueFlags
 flags_at l i = unwrap_or (option_map (λ (s : Symbol). s.flags) (slice_get l.symbols (canonical l i))) (record { 0 = 0 })
 
--- the address of a symbol that another module may define is left to a dynamic entry, where that can fill the field:
--- 8 bytes that the program has in memory and may write to (gABI, "Relocation", "Symbol Visibility")
+-- a dynamic relocation fills in the address of an interposable symbol, if it can: the field has 8 bytes in writable memory (gABI,
+-- "Relocation", "Symbol Visibility")
 abbrev pub is_left : Layout → (flags : ℕ) → RelocationKindInfo → ℕ → Bool
 is_left l flags row i = allocated flags && writable flags && field_width row == 8 && interposable (flags_at l i)
 
--- another module may define the symbol, and neither a copy of it nor a stub has an address of this output (gABI,
+-- another module may define the symbol, and neither a copy relocation nor a stub gives it an address in this output (gABI,
 -- "Symbol Visibility")
 abbrev pub is_elsewhere : ValueFlags → Bool
 is_elsewhere f = (interposable f || has_flag f dynamic) && not (has_flag f copy_relocation || has_flag f plt_stub)
 
--- the relocation types of a machine that are listed for such a symbol
+-- the relocation types of a machine that cannot refer to such a symbol
 abbrev pub is_barred_type : Machine → ℕ → Bool
 is_barred_type machine.X86_64 n = is_listed n barred_x86_64
 is_barred_type machine.AArch64 n = is_listed n barred_aarch64
 
--- and those that are listed for shared objects
+-- the relocation types of a machine that cannot occur in a shared object
 abbrev pub is_barred_in_shared : Machine → ℕ → Bool
 is_barred_in_shared machine.X86_64 n = is_listed n barred_in_shared_x86_64
 is_barred_in_shared machine.AArch64 n = is_listed n barred_in_shared_aarch64
 
--- an address of another module is not known when the output is linked, and a field of such a type cannot be left to a
--- loader (x86-64 psABI, "Position-Independent Code")
+-- an address of another module is unknown at link time, and no dynamic relocation can fill a field of such a type (x86-64 psABI,
+-- "Position-Independent Code")
 abbrev pub is_barred : Layout → (flags n i : ℕ) → Bool
 is_barred l flags n i = allocated flags && is_position_independent l.kind && is_barred_type l.machine n && is_elsewhere (flags_at l i)
 
--- an address in a library is known only where it is loaded, and a field of such a type has no room for it (x86-64 psABI,
+-- an address in a library is known only at load time, and a field of such a type is too narrow for it (x86-64 psABI,
 -- "Position-Independent Code")
 abbrev pub is_narrow : Layout → (flags n : ℕ) → Bool
 is_narrow l flags n = allocated flags && is_shared_object l.kind && is_barred_in_shared l.machine n
 
--- the address moves with the base: the output does, and the value is not absolute (gABI, "Symbol Table", SHN_ABS)
+-- the address changes with the load bias: the output is position-independent, and the value is not absolute (gABI, "Symbol Table",
+-- SHN_ABS)
 abbrev pub moves : Layout → ℕ → Bool
 moves l i = is_position_independent l.kind && not (has_flag (flags_at l i) absolute)
 
--- an address that moves is stored by a loader: in a field of 8 bytes (x86-64 psABI, "Relocation Types",
+-- a loader stores an address that changes with the load bias, if the field has 8 bytes (x86-64 psABI, "Relocation Types",
 -- R_X86_64_RELATIVE)
 abbrev pub moved_treatment : RelocationKindInfo → Treatment
 moved_treatment row = if field_width row == 8 then BaseRelative else Recompile
 
--- the function that a resolver chooses is stored by a loader, in data of an output that moves (x86-64 psABI, "Relocation
+-- a loader stores the result of an IFUNC's resolver in writable data of a position-independent output (x86-64 psABI, "Relocation
 -- Types", R_X86_64_IRELATIVE)
 abbrev pub is_chosen : Layout → (flags i : ℕ) → Bool
 is_chosen l flags i = allocated flags && writable flags && is_position_independent l.kind && has_flag (flags_at l i) ifunc
 
--- that fills a field of 8 bytes
+-- the field must have 8 bytes
 abbrev pub chosen_treatment : RelocationKindInfo → ℕ → Treatment
 chosen_treatment row i = if field_width row == 8 then Indirect i else Recompile
 
@@ -93,28 +94,30 @@ address_treatment l flags n row i =
     else if allocated flags && moves l i then moved_treatment row
     else Value row
 
--- a value that needs a symbol
+-- a relocation that needs a symbol
 abbrev pub named : Option ℕ → (ℕ → Treatment) → Treatment
 named None by = Unsupported
 named (Some i) by = by i
 
--- S + A - P: without a symbol it is the distance from address 0, which moves
+-- S + A - P: without a symbol it is the distance from address 0, which changes with the load bias
 abbrev pub distance_treatment : Layout → (flags n : ℕ) → RelocationKindInfo → Option ℕ → Treatment
 distance_treatment l flags n row None = if allocated flags && is_position_independent l.kind then Recompile else Value row
 distance_treatment l flags n row (Some i) = if is_barred l flags n i then Recompile else Value row
 
--- an offset from the thread pointer is known in an executable alone (ELF Handling For Thread-Local Storage, "Local Exec")
+-- an offset from the thread pointer is known at link time only in an executable (ELF Handling For Thread-Local Storage, "Local Exec")
 abbrev pub pointer_treatment : Layout → (flags : ℕ) → RelocationKindInfo → Treatment
 pointer_treatment l flags row = if allocated flags && is_shared_object l.kind then Recompile else Value row
 
--- the size of a symbol that another module may define is that module's (x86-64 psABI, "Relocation Types", R_X86_64_SIZE64)
+-- the size of an interposable symbol is that of the definition which the loader finds (x86-64 psABI, "Relocation Types",
+-- R_X86_64_SIZE64)
 abbrev pub is_sized : Layout → (flags i : ℕ) → Bool
 is_sized l flags i = allocated flags && interposable (flags_at l i) && (has_flag (flags_at l i) dynamic || is_shared_object l.kind)
 
 abbrev pub size_treatment : Layout → (flags : ℕ) → RelocationKindInfo → ℕ → Treatment
 size_treatment l flags row i = if is_sized l flags i then Extent row i else Value row
 
--- a symbol that is not there, or whose definition is not, has no share of what is left to a loader: clauses refuse it later than shares
+-- a relocation whose symbol, or its definition, is missing from the list has no dynamic relocation: clauses refuse it, after the shares
+-- are checked
 abbrev pub where_there : Layout → RelocationKindInfo → ℕ → Treatment → Treatment
 where_there l row i t = if nat_lt (canonical l i) (length l.symbols) then t else Value row
 
@@ -143,7 +146,7 @@ abbrev pub is_slot : Term → Bool
 is_slot (term.Slot sort) = true
 is_slot other = false
 
--- on AArch64 nothing is added to the address of a slot, and a page is a symbol's (aaelf64, "Relocation operations": GDAT, Page)
+-- on AArch64 the address of a slot has no addend, and a page is that of a symbol (aaelf64, "Relocation operations": GDAT, Page)
 abbrev pub suits : Machine → InputRelocation → RelocationKindInfo → Bool
 suits machine.X86_64 r row = true
 suits machine.AArch64 r row = (cast_unsigned w64 r.addend == 0 || not (is_slot (expression_of row.kind).term)) && not (is_none r.symbol && not (is_none row.mask))
@@ -152,6 +155,6 @@ abbrev pub suited : Machine → InputRelocation → Option RelocationKindInfo �
 suited m r None = None
 suited m r (Some row) = if suits m r row then Some row else None
 
--- what is done with a relocation, by its row
+-- the treatment of a relocation, by its row
 unfoldable pub treatment : Layout → (flags : ℕ) → InputRelocation → Treatment
 treatment l flags r = row_treatment l flags r.number r.symbol (suited l.machine r (row_of l.machine r.number))

@@ -1,4 +1,4 @@
-//! What stands in the slots of a symbol, by cases.
+//! The contents of a symbol's GOT slots, by cases over its flags.
 ghost use Rattle.std.specs.Prelude.{◌≡◌, ◌+◌, ◌<◌, ◌≤◌, length};
 ghost use Rattle.wild_slot.specs.Storage.{less, rounded_up, thread_pointer, is_outside};
 ghost use Rattle.wild_slot.specs.Slots.{setting_of, is_replaceable, number, general, plt, named, offset_item, module_item, module_offset_item, descriptor_item, offset_items, module_items, descriptor_items, plain_item, stub_item, stub_items, stub_address, ifunc_address_items, canonical_address_items, thread_items, address_items, with_items, slot, storage_pair};
@@ -10,7 +10,7 @@ use wild_types::{
     Layout, Machine, OutputKind, Resolution, Tls, ValueFlags, has_dynamic_symbol, has_thread_slot,
 };
 
-/// One address less another.
+/// The difference of two addresses, modulo 2^64.
 fn less(address: u64, start: u64) -> u64
     ensures { result ≡ less address start }
 {
@@ -28,8 +28,8 @@ fn rounded_up(number: u64, align: u64) -> u64
     number.wrapping_add(gap)
 }
 
-/// Where the thread pointer stands: behind the thread-local data on x86-64, before it and 16 bytes of the system's on
-/// AArch64.
+/// The address of the thread pointer: after the thread-local data on x86-64 (TLS variant II); on AArch64 (variant I) before the data
+/// and 16 bytes that the system reserves.
 pub fn thread_pointer(machine: Machine, tls: Tls) -> u64
     ensures { result ≡ thread_pointer machine tls }
 {
@@ -39,7 +39,7 @@ pub fn thread_pointer(machine: Machine, tls: Tls) -> u64
     }
 }
 
-/// Whether the address is neither one of the thread-local data nor their end.
+/// Whether the address is neither in the thread-local data nor at their end.
 fn is_outside(tls: Tls, value: u64) -> bool
     ensures { result ≡ is_outside tls value }
 {
@@ -47,7 +47,7 @@ fn is_outside(tls: Tls, value: u64) -> bool
 }
 
 impl Setting {
-    /// What slots ask of a layout.
+    /// The properties of a layout on which the contents of slots depend.
     pub fn of(layout: &Layout) -> Setting
         ensures { result ≡ setting_of layout.now }
     {
@@ -60,7 +60,7 @@ impl Setting {
     }
 }
 
-/// Whether another module's definition stands in this one's place where there is one.
+/// Whether another module's definition, if there is one, replaces this one at run time.
 pub fn is_replaceable(kind: OutputKind, flags: ValueFlags) -> bool
     ensures { result ≡ is_replaceable kind flags }
 {
@@ -68,7 +68,7 @@ pub fn is_replaceable(kind: OutputKind, flags: ValueFlags) -> bool
         || (kind.is_shared_object() && (flags.needs_export_dynamic() && flags.is_interposable()))
 }
 
-/// A number that stands as it is.
+/// A number that no loader changes.
 fn number(value: u64) -> SlotItem
     ensures { result ≡ number value }
 {
@@ -97,7 +97,7 @@ fn plt(kind: DynamicRelocationKind, symbol: u64, addend: u64) -> SlotItem
     }))
 }
 
-/// 0, filled by an entry of `rela_dyn_general` that names the symbol.
+/// 0, filled by an entry of `rela_dyn_general` for the symbol with that index; a fault without an index.
 fn named_general(kind: DynamicRelocationKind, symbol: Option<u64>) -> SlotItem
     ensures { result ≡ named symbol (λ d. general kind d 0) }
 {
@@ -107,7 +107,7 @@ fn named_general(kind: DynamicRelocationKind, symbol: Option<u64>) -> SlotItem
     }
 }
 
-/// The offset from the thread pointer.
+/// The slot for the symbol's offset from the thread pointer.
 fn offset_item(setting: &Setting, resolution: &Resolution) -> SlotItem
     ensures { result ≡ offset_item setting.now resolution.now }
 {
@@ -132,7 +132,7 @@ fn offset_item(setting: &Setting, resolution: &Resolution) -> SlotItem
     }
 }
 
-/// The module.
+/// The slot for the symbol's module.
 fn module_item(setting: &Setting, resolution: &Resolution) -> SlotItem
     ensures { result ≡ module_item setting.now resolution.now }
 {
@@ -148,7 +148,7 @@ fn module_item(setting: &Setting, resolution: &Resolution) -> SlotItem
     }
 }
 
-/// The offset in the module's data.
+/// The slot for the symbol's offset in the module's thread-local data.
 fn module_offset_item(setting: &Setting, resolution: &Resolution) -> SlotItem
     ensures { result ≡ module_offset_item setting.now resolution.now }
 {
@@ -160,7 +160,7 @@ fn module_offset_item(setting: &Setting, resolution: &Resolution) -> SlotItem
     }
 }
 
-/// The descriptor.
+/// The first slot of the symbol's TLS descriptor.
 fn descriptor_item(setting: &Setting, resolution: &Resolution) -> SlotItem
     ensures { result ≡ descriptor_item setting.now resolution.now }
 {
@@ -183,7 +183,7 @@ fn descriptor_item(setting: &Setting, resolution: &Resolution) -> SlotItem
     general(DynamicRelocationKind::TlsDesc, symbol, addend)
 }
 
-/// The address.
+/// The slot for the symbol's address.
 fn plain_item(setting: &Setting, resolution: &Resolution) -> SlotItem
     ensures { result ≡ plain_item setting.now resolution.now }
 {
@@ -212,7 +212,7 @@ fn plain_item(setting: &Setting, resolution: &Resolution) -> SlotItem
     }
 }
 
-/// The stub, whose distance is given where it is too far from its slot.
+/// The stub; a fault if it is too far from its slot, by the distance `far`.
 fn stub_item(far: Option<u64>) -> SlotItem
     ensures { result ≡ stub_item far }
 {
@@ -222,7 +222,7 @@ fn stub_item(far: Option<u64>) -> SlotItem
     }
 }
 
-/// The address of the stub.
+/// The slot for the address of the stub.
 fn stub_address(setting: &Setting, stub: Option<u64>) -> SlotItem
     ensures { result ≡ stub_address setting.now stub }
 {
@@ -324,8 +324,8 @@ fn add_address_slots(
     add_canonical_address(slot, setting, resolution);
 }
 
-/// What is written for a resolution, up to the first fault; `far` is the distance of its stub from its slot where that
-/// is too far.
+/// The slots and the stub of a resolution, up to the first fault. `far` is the distance of the stub from its slot if that is too
+/// large.
 #[tactic(auto, unfolding(crate::specs::Slots::slot))]
 pub fn slot_of(setting: &Setting, far: Option<u64>, resolution: &Resolution) -> SymbolSlots
     ensures { result ≡ slot setting.now far resolution.now }

@@ -1,4 +1,4 @@
-//! What the slots and the stub of a symbol have, and what is done with a relocation, as far as the layout alone says it.
+//! The GOT slots and the PLT stub of a symbol, and how each relocation is treated, as far as the layout alone decides it.
 #![tactic(auto)]
 
 mod cases;

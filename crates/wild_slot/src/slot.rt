@@ -1,48 +1,48 @@
-//! What stands in the slots of symbols (x86-64 psABI, "Global Offset Table (GOT)", "Procedure Linkage Table"; ELF
-//! Handling For Thread-Local Storage).
+//! The contents of GOT slots (x86-64 psABI, "Global Offset Table (GOT)", "Procedure Linkage Table"; ELF Handling For Thread-Local
+//! Storage).
 use wild_reloc::DynamicRelocationKind;
 use wild_types::{OutputKind, Tls};
 
-/// The size of a word of a slot.
+/// The size of a slot in bytes.
 pub const WORD_SIZE: usize = 8;
 
-/// How many words the slots of a symbol have at most: an offset, a module pair and a descriptor.
+/// The greatest number of slots of a symbol: an offset, a module pair and a descriptor.
 pub const MAX_WORDS: usize = 5;
 
-/// What the slots of symbols ask of their output.
+/// The properties of the output on which the contents of slots depend.
 #[derive(Clone, Copy)]
 pub struct Setting {
     pub kind: OutputKind,
-    /// Addresses are packed as RELR words.
+    /// Relative relocations are packed as RELR words.
     pub relr: bool,
     pub tls: Tls,
-    /// The address of the thread pointer beside the initial thread-local data.
+    /// The address of the thread pointer, relative to the initial thread-local data.
     pub thread_pointer: u64,
 }
 
-/// The entry that fills a word.
+/// The dynamic relocation that fills a slot.
 #[derive(Clone, Copy)]
 pub struct SlotEntry {
     pub kind: DynamicRelocationKind,
-    /// The index in the dynamic symbol table; 0 for the output's own.
+    /// The index in the dynamic symbol table; 0 if the entry names no symbol.
     pub symbol: u64,
     /// The addend, modulo 2^64.
     pub addend: u64,
 }
 
-/// A word of a slot: what the file has there, and what a loader makes of it.
+/// One word of the GOT: its contents in the file, and how a loader changes it.
 #[derive(Clone, Copy)]
 pub enum SlotWord {
     /// A number, which no loader changes.
     Number(u64),
-    /// An address that moves with the base, recorded by itself: by a RELR word, or by a relative entry, which has 0 in
-    /// the file.
+    /// An address to which the loader adds the load bias. It has a relocation of its own: a RELR word, or a relative entry, for which
+    /// the file has 0.
     Address(u64),
-    /// An address that moves with the base, one of the block of words whose places the group packs at once.
+    /// An address to which the loader adds the load bias, in the group's run of consecutive words that are packed as RELR together.
     InBlock(u64),
-    /// 0, which an entry of `rela_dyn_general` fills.
+    /// 0 in the file; an entry of `rela_dyn_general` fills it.
     General(SlotEntry),
-    /// 0, which an entry of `rela_plt` fills.
+    /// 0 in the file; an entry of `rela_plt` fills it.
     Plt(SlotEntry),
 }
 
@@ -51,23 +51,23 @@ pub enum SlotWord {
 pub enum SlotFault {
     /// The symbol needs an index in the dynamic symbol table and has none.
     NoDynamicSymbol,
-    /// The slot holds the address of the symbol's stub, and there is none.
+    /// The slot holds the address of the symbol's stub, but there is no stub.
     NoStub,
-    /// The stub is too far from its slot: their distance.
+    /// The stub is too far from its slot: the distance.
     PltTooFar { value: u64 },
-    /// The symbol is not in the thread-local data.
+    /// The symbol's address is outside the thread-local data.
     TlsOutOfSegment { value: u64 },
-    /// A static executable has no code that a descriptor could name.
+    /// A static executable has no code that a descriptor could call.
     StaticTlsDesc,
 }
 
-/// What the slots of a symbol have, in order.
+/// The slots and the stub of a symbol, one item each, in order.
 #[derive(Clone, Copy)]
 pub enum SlotItem {
-    /// A word, 8 bytes behind the word before it.
+    /// A word, 8 bytes after the word before it.
     Word(SlotWord),
     /// The stub that jumps to the word before it.
     Stub,
-    /// Nothing more can be written.
+    /// A fault, after which nothing is written.
     Fault(SlotFault),
 }

@@ -1,4 +1,4 @@
-//! What the words of slots give to the parts of an image.
+//! What slots contribute to the parts of an image: GOT words, dynamic relocations and RELR words.
 ghost use Rattle.std.specs.Prelude.{◌≡◌, ◌%◌, ◌≤◌, true, length, IfSome};
 ghost use Rattle.wild_slot.specs.SlotParts.{begins_block, next, is_packed, word_of, slot_words, type_of, entry_at, address_entry, entry_of, slot_entries, flat_place, flat_places};
 
@@ -7,7 +7,7 @@ use wild_records::Rela;
 use wild_reloc::DynamicRelocationKind;
 use wild_types::Machine;
 
-/// A part that has words of slots.
+/// A part that contains slots.
 #[derive(Clone, Copy)]
 pub enum WordPart {
     /// `got`.
@@ -16,7 +16,7 @@ pub enum WordPart {
     Block,
 }
 
-/// A part that has entries of slots.
+/// A part that contains the dynamic relocations of slots.
 #[derive(Clone, Copy)]
 pub enum EntryPart {
     /// `rela_plt`.
@@ -27,7 +27,7 @@ pub enum EntryPart {
     General,
 }
 
-/// The number of a kind of dynamic entry.
+/// The machine's relocation type for a kind of dynamic relocation.
 pub fn type_of(machine: Machine, kind: DynamicRelocationKind) -> u32
     ensures { result ≡ type_of machine kind }
 {
@@ -37,14 +37,14 @@ pub fn type_of(machine: Machine, kind: DynamicRelocationKind) -> u32
     }
 }
 
-/// The place of the next word.
+/// The address of the next word.
 pub fn next_word(place: u64) -> u64
     ensures { result ≡ next place }
 {
     place.wrapping_add(8)
 }
 
-/// Whether a RELR word can name the place.
+/// Whether the place is packed: RELR is enabled and the place is even.
 fn is_packed(relr: bool, place: u64) -> bool
     ensures is { result ≡ is_packed relr place }
     ensures even { result ≡ true → place % 2 ≡ 0 }
@@ -52,7 +52,7 @@ fn is_packed(relr: bool, place: u64) -> bool
     relr && place % 2 == 0
 }
 
-/// The entry that fills the word at a place.
+/// The dynamic relocation that fills the word at a place.
 pub fn entry_at(machine: Machine, place: u64, entry: SlotEntry) -> Rela
     ensures { result ≡ entry_at machine place entry }
 {
@@ -64,7 +64,7 @@ pub fn entry_at(machine: Machine, place: u64, entry: SlotEntry) -> Rela
     }
 }
 
-/// The entry by which a loader stores base plus value.
+/// The relative entry with which a loader stores load bias plus value.
 pub fn address_entry(machine: Machine, place: u64, value: u64) -> Rela
     ensures { result ≡ address_entry machine place value }
 {
@@ -76,7 +76,7 @@ pub fn address_entry(machine: Machine, place: u64, value: u64) -> Rela
     }
 }
 
-/// What a word has in the part, where it is one of the part.
+/// The contents of a word in the file, if it belongs to the part.
 pub fn word_of(part: WordPart, relr: bool, place: u64, word: SlotWord) -> Option<u64>
     ensures { result ≡ word_of part relr place word }
 {
@@ -93,7 +93,7 @@ pub fn word_of(part: WordPart, relr: bool, place: u64, word: SlotWord) -> Option
     }
 }
 
-/// The entry of a word in the part, where it has one there.
+/// The dynamic relocation of a word, if it has one in the part.
 pub fn entry_of(
     part: EntryPart,
     machine: Machine,
@@ -113,7 +113,7 @@ pub fn entry_of(
     }
 }
 
-/// The place, where the word has a RELR word of its own.
+/// The place, if the word has a RELR word of its own.
 pub fn flat_place(relr: bool, place: u64, word: SlotWord) -> Option<u64>
     ensures is { result ≡ flat_place relr place word }
     ensures even { IfSome result (λ p. p % 2 ≡ 0) }
@@ -124,7 +124,7 @@ pub fn flat_place(relr: bool, place: u64, word: SlotWord) -> Option<u64>
     }
 }
 
-/// How many words a part has of them.
+/// The number of these words that belong to the part.
 pub fn count_words(part: WordPart, relr: bool, place: u64, words: &[SlotWord]) -> usize
     ensures is { result ≡ length (slot_words part relr place words.now) }
     ensures few { result ≤ length words.now }
@@ -140,7 +140,7 @@ pub fn count_words(part: WordPart, relr: bool, place: u64, words: &[SlotWord]) -
     count
 }
 
-/// How many entries a part has of them.
+/// The number of these words that have a dynamic relocation in the part.
 pub fn count_entries(
     part: EntryPart,
     machine: Machine,
@@ -162,7 +162,7 @@ pub fn count_entries(
     count
 }
 
-/// How many of them have a RELR word of their own.
+/// The number of these words that have a RELR word of their own.
 pub fn count_flat(relr: bool, place: u64, words: &[SlotWord]) -> usize
     ensures is { result ≡ length (flat_places relr place words.now) }
     ensures few { result ≤ length words.now }
@@ -178,7 +178,7 @@ pub fn count_flat(relr: bool, place: u64, words: &[SlotWord]) -> usize
     count
 }
 
-/// Whether the first word is one of the block of packed words.
+/// Whether the first word belongs to the group's run of words that are packed together.
 pub fn begins_block(words: &[SlotWord]) -> bool
     ensures { result ≡ begins_block words.now }
 {

@@ -1,4 +1,11 @@
-//! Stubs: code that goes on to the address in a slot (x86-64 psABI, "Procedure Linkage Table"; aaelf64, "Program Linkage Table").
+//! PLT stubs: code that jumps to the address in a GOT slot (x86-64 psABI, "Procedure Linkage Table"; aaelf64, "Program Linkage Table").
+//!
+//! This file has the stub of x86-64 and the choice by machine; `stub_aarch64.rt` has the other. Both stubs have 16 bytes.
+//! - The output is bound at load time (`DF_BIND_NOW`). So there is no PLT header, no lazy binding, and a stub pushes no index.
+//! - The x86-64 stub is `endbr64`, `bnd jmp [rip + disp32]` and a `nop` of five bytes, whatever properties the output has.
+//! - The displacement is at offset 7, and relative to the end of the jump, at offset 11. Its range is that of signed 32 bits.
+//! - `put_stub` writes any distance and truncates one that does not fit; `write_stub` refuses it and changes nothing.
+//! - A distance is modulo 2^64, so that a slot before the stub has a large one.
 ghost use Rattle.std.specs.Prelude.{◌≡◌, length, is_ok, IfErr, OnOk, OnErr};
 ghost use Rattle.wild_slot.specs.Stub.{displacement_x86_64, stub_x86_64};
 ghost use Rattle.wild_slot.specs.MachineStub.{stub_of, far_of};
@@ -7,14 +14,14 @@ use crate::stub_aarch64;
 use wild_reloc::{AllowedRange, RelocationSize, Sign, Width};
 use wild_types::{Layout, Machine, Resolution};
 
-/// The slot is farther from the stub than that can tell.
+/// The slot is out of the stub's range.
 #[derive(Clone, Copy, Debug, PartialEq, Eq)]
 pub struct PltTooFar {
-    /// The distance, as the stub counts, modulo 2^64.
+    /// The distance from the stub to the slot, as the machine counts it, modulo 2^64.
     pub value: u64,
 }
 
-/// The bytes of a stub.
+/// The size of a stub in bytes.
 pub const STUB_SIZE: usize = 16;
 
 // `endbr64`; `bnd jmp [rip + displacement]`; `nop` of five bytes.
@@ -22,12 +29,12 @@ const STUB: [u8; STUB_SIZE] = [
     0xf3, 0x0f, 0x1e, 0xfa, 0xf2, 0xff, 0x25, 0x00, 0x00, 0x00, 0x00, 0x0f, 0x1f, 0x44, 0x00, 0x00,
 ];
 
-// Where the displacement stands in a stub, and where the instruction ends from which it counts.
+// The offset of the displacement in the stub. It is relative to the end of the jump, which is the second offset.
 const DISPLACEMENT: usize = 7;
 
 const JUMP_END: u64 = 11;
 
-/// From the end of the jump to the slot, modulo 2^64.
+/// The distance from the end of the jump to the slot, modulo 2^64.
 fn displacement(got_address: u64, plt_address: u64) -> u64
     ensures { result ≡ displacement_x86_64 got_address plt_address }
 {
@@ -43,7 +50,7 @@ fn put_x86_64(plt_entry: &mut [u8], got_address: u64, plt_address: u64)
     RelocationSize::ByteSize(Width::Four).write_at(value, plt_entry, DISPLACEMENT);
 }
 
-/// How far the slot is from the stub, as the stub counts, modulo 2^64.
+/// The distance from the stub to the slot, as the machine counts it, modulo 2^64.
 fn distance(machine: Machine, bti: bool, got_address: u64, plt_address: u64) -> u64
     ensures { result ≡ (stub_of machine bti got_address plt_address).distance }
 {
@@ -53,7 +60,7 @@ fn distance(machine: Machine, bti: bool, got_address: u64, plt_address: u64) -> 
     }
 }
 
-/// Whether the stub can tell so much.
+/// Whether the slot is within the stub's range.
 fn reaches(machine: Machine, bti: bool, got_address: u64, plt_address: u64) -> bool
     ensures { result ≡ (stub_of machine bti got_address plt_address).reaches }
 {
@@ -66,8 +73,8 @@ fn reaches(machine: Machine, bti: bool, got_address: u64, plt_address: u64) -> b
     }
 }
 
-/// The stub of a machine at an address that goes on to the address in the slot, with as much of their distance as it can tell; with
-/// `bti`, for an output whose indirect branches have to land on a mark.
+/// Writes the stub at `plt_address` that jumps to the address in the slot; a distance out of range is truncated. With `bti` (AArch64)
+/// the stub begins with a landing pad for indirect branches.
 pub fn put_stub(
     machine: Machine,
     bti: bool,
@@ -84,7 +91,7 @@ pub fn put_stub(
     }
 }
 
-/// The same, refused where the slot is too far; a refused call changes nothing.
+/// As `put_stub`, but refuses a slot that is too far; a refused call changes nothing.
 pub fn write_stub(
     machine: Machine,
     bti: bool,
@@ -107,7 +114,7 @@ pub fn write_stub(
     Ok(())
 }
 
-/// How far the slot of a resolution is from its stub, where that is too far.
+/// The distance of a resolution's stub from its slot if that is too large.
 pub fn far_of(layout: &Layout, resolution: &Resolution) -> Option<u64>
     ensures { result ≡ far_of layout.now resolution.now }
 {

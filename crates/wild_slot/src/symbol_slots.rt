@@ -1,4 +1,4 @@
-//! The words of a symbol's slots, with its stub and what kept the rest from being written.
+//! The words of a symbol's slots, its stub, and the fault that ended them.
 ghost use Rattle.std.specs.Prelude.{◌≡◌, ◌+◌, ◌<◌, ◌≤◌, length};
 ghost use Rattle.wild_slot.specs.declared.slot.SlotItem.TheVariants.{Word};
 ghost use Rattle.wild_slot.specs.SymbolWords.{slots_of};
@@ -10,7 +10,7 @@ use crate::stub::far_of;
 use std::marker::Model;
 use wild_types::{Layout, Symbol};
 
-/// What is written for a resolution: its words, whether it has a stub, and why no more is written.
+/// The slots of a resolution: their words, whether there is a stub, and the fault that ended them.
 #[derive(Drop)]
 pub struct SymbolSlots {
     words: [SlotWord; MAX_WORDS],
@@ -31,7 +31,7 @@ impl Model for SymbolSlots {
 }
 
 impl SymbolSlots {
-    /// What is written for a symbol: the words of its slots, its stub, and what kept the rest from being written.
+    /// The words of a symbol's slots, its stub, and the fault that ended them.
     #[tactic(auto, unfolding(crate::specs::SymbolWords::slots_of))]
     pub fn of(layout: &Layout, symbol: &Symbol) -> SymbolSlots
         ensures { result ≡ slots_of layout.now symbol.now }
@@ -45,7 +45,7 @@ impl SymbolSlots {
         }
     }
 
-    /// No word.
+    /// No word and no stub.
     pub(crate) fn empty() -> SymbolSlots
         ensures { result ≡ no_slot }
     {
@@ -57,7 +57,7 @@ impl SymbolSlots {
         }
     }
 
-    /// A word more.
+    /// Adds a word.
     fn add_word(&mut self, word: SlotWord)
         requires few { length self.old.words < 5 }
         requires none { self.old.fault ≡ None }
@@ -67,7 +67,7 @@ impl SymbolSlots {
         self.count += 1;
     }
 
-    /// One item more, unless something failed.
+    /// Adds an item, unless there is a fault already.
     pub(crate) fn add(&mut self, item: SlotItem)
         requires { length self.old.words < 5 }
         ensures added { self.new ≡ with_item self.old item }
@@ -83,7 +83,7 @@ impl SymbolSlots {
         }
     }
 
-    /// The words, 8 bytes apart from the slot's place on.
+    /// The words. They are consecutive from the symbol's slot on, 8 bytes each.
     pub fn words(&self) -> &[SlotWord]
         ensures words { result.now ≡ self.now.words }
         ensures few { length result.now ≤ 5 }
@@ -91,14 +91,14 @@ impl SymbolSlots {
         &self.words[..self.count]
     }
 
-    /// Whether a stub is written.
+    /// Whether there is a stub.
     pub fn has_stub(&self) -> bool
         ensures { result ≡ self.now.has_stub }
     {
         self.has_stub
     }
 
-    /// Why no more is written.
+    /// The fault that ended the words.
     pub fn fault(&self) -> Option<SlotFault>
         ensures { result ≡ self.now.fault }
     {

@@ -1,4 +1,4 @@
-//! What is done with a relocation, as far as the layout alone says it: no value is taken.
+//! The treatment of each relocation, as far as the layout alone decides it: no value is computed.
 ghost use Rattle.std.specs.Prelude.{◌≡◌};
 ghost use Rattle.wild_slot.specs.Treatment.{flags_at, is_left, is_elsewhere, is_barred_type, is_barred_in_shared, is_barred, is_narrow, is_chosen, chosen_treatment, moves, moved_treatment, address_treatment, distance_treatment, pointer_treatment, is_sized, size_treatment, where_there, class_treatment, row_treatment, is_slot, suits, suited, treatment};
 
@@ -7,28 +7,28 @@ use wild_types::{
     InputRelocation, Layout, Machine, SymbolIndex, ValueFlags, is_allocated, is_writable, row_of,
 };
 
-/// What is done with a relocation.
+/// How a relocation is treated.
 #[derive(Clone, Copy)]
 pub enum Treatment {
     /// Nothing is written.
     Nothing,
     /// A value is written into the field of this row.
     Value(RelocationKindInfo),
-    /// An address that moves with the base is stored in 8 bytes by a loader.
+    /// An 8-byte address to which the loader adds the load bias, by a relative relocation.
     BaseRelative,
-    /// The address of this symbol, which another module may define, is left to a dynamic entry.
+    /// The address of this interposable symbol is filled in by a dynamic relocation against it.
     Symbolic(SymbolIndex),
-    /// A loader stores what the resolver of this symbol answers, by a dynamic entry.
+    /// The result of this IFUNC's resolver is filled in by an `IRELATIVE` relocation.
     Indirect(SymbolIndex),
-    /// The size of this symbol, which another module may define, is left to a dynamic entry, in the field of this row.
+    /// The size of this interposable symbol is filled in by a dynamic relocation against it, in the field of this row.
     Extent(RelocationKindInfo, SymbolIndex),
-    /// The field cannot hold an address that is known only where the image is loaded.
+    /// The code must be compiled as position-independent: the field cannot hold an address that is known only at load time.
     Recompile,
-    /// The type is not known, or needs a symbol and has none.
+    /// The type is unknown, or needs a symbol and the relocation has none.
     Unsupported,
 }
 
-/// What is known of the value of the symbol that defines a symbol.
+/// The flags of the symbol that defines a symbol.
 pub fn flags_at(layout: &Layout, symbol: SymbolIndex) -> ValueFlags
     ensures { result ≡ flags_at layout.now symbol }
 {
@@ -38,7 +38,7 @@ pub fn flags_at(layout: &Layout, symbol: SymbolIndex) -> ValueFlags
     }
 }
 
-/// Whether the address of the symbol is left to a dynamic entry.
+/// Whether a dynamic relocation against the symbol fills in its address.
 #[inline]
 fn is_left(
     layout: &Layout,
@@ -54,7 +54,7 @@ fn is_left(
         && flags_at(layout, symbol).is_interposable()
 }
 
-/// Whether another module may define the symbol, and neither a copy of it nor a stub has an address of this output.
+/// Whether another module may define the symbol, and neither a copy relocation nor a stub gives it an address in this output.
 fn is_elsewhere(flags: ValueFlags) -> bool
     ensures { result ≡ is_elsewhere flags }
 {
@@ -62,7 +62,7 @@ fn is_elsewhere(flags: ValueFlags) -> bool
         && !(flags.needs_copy_relocation() || flags.needs_plt())
 }
 
-/// Whether the field of that type cannot hold the address of a symbol that another module may define, or its distance.
+/// Whether a field of that type cannot hold the address of an interposable symbol, or the distance to it.
 #[inline]
 pub fn is_barred_type(machine: Machine, number: u32) -> bool
     ensures { result ≡ is_barred_type machine number }
@@ -73,7 +73,7 @@ pub fn is_barred_type(machine: Machine, number: u32) -> bool
     }
 }
 
-/// Whether the field of that type cannot hold an address of a shared object.
+/// Whether a field of that type cannot hold an address of a shared object.
 #[inline]
 pub fn is_barred_in_shared(machine: Machine, number: u32) -> bool
     ensures { result ≡ is_barred_in_shared machine number }
@@ -84,7 +84,7 @@ pub fn is_barred_in_shared(machine: Machine, number: u32) -> bool
     }
 }
 
-/// Whether the field of that type cannot hold what the symbol is, which another module may define.
+/// Whether the field cannot hold the symbol's address or distance, because another module may define the symbol.
 #[inline]
 fn is_barred(layout: &Layout, section_flags: u64, number: u32, symbol: SymbolIndex) -> bool
     ensures { result ≡ is_barred layout.now section_flags number symbol }
@@ -95,7 +95,7 @@ fn is_barred(layout: &Layout, section_flags: u64, number: u32, symbol: SymbolInd
         && is_elsewhere(flags_at(layout, symbol))
 }
 
-/// Whether the field of that type cannot hold an address of this library.
+/// Whether the output is a shared object, and a field of that type cannot hold an address in it.
 #[inline]
 fn is_narrow(layout: &Layout, section_flags: u64, number: u32) -> bool
     ensures { result ≡ is_narrow layout.now section_flags number }
@@ -105,7 +105,7 @@ fn is_narrow(layout: &Layout, section_flags: u64, number: u32) -> bool
         && is_barred_in_shared(layout.machine, number)
 }
 
-/// Whether the address of the symbol moves with the base.
+/// Whether the address of the symbol changes with the load bias.
 #[inline]
 fn moves(layout: &Layout, symbol: SymbolIndex) -> bool
     ensures { result ≡ moves layout.now symbol }
@@ -113,7 +113,7 @@ fn moves(layout: &Layout, symbol: SymbolIndex) -> bool
     layout.kind.is_position_independent() && !flags_at(layout, symbol).is_absolute()
 }
 
-/// What is done with an address that moves with the base.
+/// The treatment of an address that changes with the load bias.
 #[inline]
 fn moved_treatment(row: &RelocationKindInfo) -> Treatment
     ensures { result ≡ moved_treatment row.now }
@@ -125,7 +125,7 @@ fn moved_treatment(row: &RelocationKindInfo) -> Treatment
     }
 }
 
-/// Whether the address of the symbol is what a resolver answers, stored by a loader.
+/// Whether the symbol is an IFUNC whose address a loader stores.
 #[inline]
 fn is_chosen(layout: &Layout, section_flags: u64, symbol: SymbolIndex) -> bool
     ensures { result ≡ is_chosen layout.now section_flags symbol }
@@ -136,7 +136,7 @@ fn is_chosen(layout: &Layout, section_flags: u64, symbol: SymbolIndex) -> bool
         && flags_at(layout, symbol).is_ifunc()
 }
 
-/// What is done with an address that the resolver of the symbol answers.
+/// The treatment of an IFUNC's address that a loader stores.
 #[inline]
 fn chosen_treatment(row: &RelocationKindInfo, symbol: SymbolIndex) -> Treatment
     ensures { result ≡ chosen_treatment row.now symbol }
@@ -148,7 +148,7 @@ fn chosen_treatment(row: &RelocationKindInfo, symbol: SymbolIndex) -> Treatment
     }
 }
 
-/// What is done with a relocation that writes S + A of that symbol.
+/// The treatment of a relocation that writes S + A of that symbol.
 #[inline]
 fn address_treatment(
     layout: &Layout,
@@ -174,7 +174,7 @@ fn address_treatment(
     }
 }
 
-/// What is done with a relocation that writes S + A - P.
+/// The treatment of a relocation that writes S + A - P.
 #[inline]
 fn distance_treatment(
     layout: &Layout,
@@ -196,7 +196,7 @@ fn distance_treatment(
     }
 }
 
-/// What is done with a relocation that writes an offset from the thread pointer, which is known in an executable alone.
+/// The treatment of a relocation that writes an offset from the thread pointer, which is known at link time only in an executable.
 #[inline]
 fn pointer_treatment(layout: &Layout, section_flags: u64, row: RelocationKindInfo) -> Treatment
     ensures { result ≡ pointer_treatment layout.now section_flags row }
@@ -208,7 +208,7 @@ fn pointer_treatment(layout: &Layout, section_flags: u64, row: RelocationKindInf
     }
 }
 
-/// Whether the size of the symbol, which another module may define, is left to a dynamic entry.
+/// Whether a dynamic relocation against the symbol fills in its size.
 #[inline]
 fn is_sized(layout: &Layout, section_flags: u64, symbol: SymbolIndex) -> bool
     ensures { result ≡ is_sized layout.now section_flags symbol }
@@ -219,7 +219,7 @@ fn is_sized(layout: &Layout, section_flags: u64, symbol: SymbolIndex) -> bool
         && (flags.is_dynamic() || layout.kind.is_shared_object())
 }
 
-/// What is done with a relocation that writes the size of that symbol.
+/// The treatment of a relocation that writes the size of that symbol.
 #[inline]
 fn size_treatment(
     layout: &Layout,
@@ -236,8 +236,8 @@ fn size_treatment(
     }
 }
 
-/// What is done with a relocation that names that symbol, where its definition is there; else its value is written, which it
-/// has not.
+/// The treatment, if the symbol's definition is in the list of symbols. Else a value is written, which the symbol does not have, so
+/// that the relocation is refused later.
 #[inline]
 fn where_there(
     layout: &Layout,
@@ -254,7 +254,7 @@ fn where_there(
     }
 }
 
-/// What is done with a relocation of that type that names that symbol, by the class of its expression.
+/// The treatment of a relocation of that type and symbol, by the class of its expression.
 #[inline]
 fn class_treatment(
     layout: &Layout,
@@ -292,7 +292,7 @@ fn class_treatment(
     }
 }
 
-/// The same, by the row of the type.
+/// The treatment by the row of the relocation type.
 #[inline]
 #[tactic(auto, unfolding(crate::specs::Treatment::row_treatment))]
 pub fn row_treatment(
@@ -317,7 +317,7 @@ pub fn row_treatment(
     }
 }
 
-/// Whether A is added to the address of a slot.
+/// Whether the term is the address of a slot.
 #[inline]
 fn is_slot(term: Term) -> bool
     ensures { result ≡ is_slot term }
@@ -325,8 +325,8 @@ fn is_slot(term: Term) -> bool
     matches!(term, Term::Slot(_))
 }
 
-/// Whether the row takes the relocation's symbol and addend: on AArch64 nothing is added to the address of a slot, and a page
-/// is a symbol's.
+/// Whether the row accepts the relocation's symbol and addend. On AArch64 the address of a slot has no addend, and a page is that of a
+/// symbol.
 #[inline]
 fn suits(machine: Machine, relocation: &InputRelocation, row: &RelocationKindInfo) -> bool
     ensures { result ≡ suits machine relocation.now row.now }
@@ -340,7 +340,7 @@ fn suits(machine: Machine, relocation: &InputRelocation, row: &RelocationKindInf
     }
 }
 
-/// The row, where it takes the relocation's symbol and addend.
+/// The row, if it accepts the relocation's symbol and addend.
 #[inline]
 pub fn suited(
     machine: Machine,
@@ -355,7 +355,7 @@ pub fn suited(
     }
 }
 
-/// What is done with a relocation of bytes that have these flags (`sh_flags`).
+/// The treatment of a relocation in a section with these flags (`sh_flags`).
 #[tactic(auto, unfolding(crate::specs::Treatment::treatment))]
 pub fn treatment_of(layout: &Layout, section_flags: u64, relocation: &InputRelocation) -> Treatment
     ensures { result ≡ treatment layout.now section_flags relocation.now }

@@ -1,6 +1,6 @@
--- Where symbols stand.
---   placed_value l i   where symbol i stands: behind the address of its input section
---   raw_value l i      the address of symbol i as the layout has it; none where it has none
+-- The addresses of symbols.
+--   placed_value l i   the address of symbol i by its place: its value counted from the address of its input section
+--   raw_value l i      the address of symbol i in the layout; none if it has none
 use Rattle.std.specs.Prelude.{ℕ, ◌+◌, ◌%◌, ◌^◌, if◌then◌else◌, Option, Some, None, option_and_then, option_map, slice_get}
 use Rattle.wild_types.specs.declared.symbol.Place.{Place}
 use Rattle.wild_types.specs.declared.symbol.Place.TheVariants as at
@@ -22,7 +22,7 @@ abbrev pub address_at : Layout → ℕ → ℕ → Place → Option ℕ
 address_at l i value (at.Section k) = address_in_file l k value (file_of (files_of l.groups) i)
 address_at l i value other = None
 
--- where symbol i stands: behind the address of its input section
+-- the address of symbol i by its place: its value counted from the address of its input section
 abbrev pub placed_value : Layout → ℕ → Option ℕ
 placed_value l i = option_and_then (λ (s : Symbol). address_at l i s.value s.place) (slice_get l.symbols i)
 
@@ -30,6 +30,6 @@ abbrev pub resolved_or : Option ℕ → Option ℕ → Option ℕ
 resolved_or (Some v) placed = Some v
 resolved_or None placed = placed
 
--- the value that was decided of the symbol's definition, else where the symbol stands
+-- the resolved value of the symbol's definition, else the address of the symbol's place
 unfoldable pub raw_value : Layout → ℕ → Option ℕ
 raw_value l i = resolved_or (option_and_then (λ (s : Symbol). option_map (λ r. r.raw_value) s.resolution) (slice_get l.symbols (canonical l i))) (placed_value l i)

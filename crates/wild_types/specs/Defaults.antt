@@ -1,8 +1,8 @@
--- What an absent member of a plan is.
+-- The values of members that a plan leaves out.
 use Rattle.std.specs.Prelude.{false, None, []}
 use Rattle.wild_types.specs.declared.options.Options.{Options}
 
--- nothing asked for
+-- no option is set
 abbrev pub no_options : Options
 no_options = record {
   relax = false;

@@ -1,4 +1,4 @@
--- A layout of nothing: what absent members of a plan are.
+-- An empty layout: the values of members that a plan leaves out.
 --   no_tls         no thread-local data
 --   empty_layout   the layout
 use Rattle.std.specs.Prelude.{None, []}
@@ -13,7 +13,7 @@ use Rattle.wild_types.specs.declared.layout.Tls.{Tls}
 abbrev pub no_tls : Tls
 no_tls = record { start = 0; end = 0; align = 1 }
 
--- a layout of nothing, for an executable that is loaded at its own addresses
+-- an empty layout, for an executable that is loaded at fixed addresses
 abbrev pub empty_layout : Layout
 empty_layout = record {
   machine = machine.X86_64;

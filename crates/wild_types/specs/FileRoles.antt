@@ -1,4 +1,4 @@
--- What a file is, by its role.
+-- The role of a file.
 --   is_prelude, is_epilogue   the first file, and the last one
 --   is_library                a shared library
 --   is_loaded_file            one that goes into the output
@@ -7,7 +7,7 @@ use Rattle.std.specs.Prelude.{Bool, true, false}
 use Rattle.wild_types.specs.declared.file.FileRole.{FileRole}
 use Rattle.wild_types.specs.declared.file.FileRole.TheVariants as file_role
 
--- the first file, which writes what stands once in an image
+-- the first file, which writes what appears once in an image
 abbrev pub is_prelude : FileRole → Bool
 is_prelude file_role.Prelude = true
 is_prelude other = false
@@ -27,7 +27,7 @@ abbrev pub is_loaded_file : FileRole → Bool
 is_loaded_file file_role.NotLoaded = false
 is_loaded_file other = true
 
--- the file writes the slots of its symbols: it is loaded, and not the last one, which has none
+-- the file writes the slots of its symbols: it is loaded, and is not the last file, which has no slots
 abbrev pub writes_slots : FileRole → Bool
 writes_slots file_role.Epilogue = false
 writes_slots file_role.NotLoaded = false

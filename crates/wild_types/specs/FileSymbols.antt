@@ -1,9 +1,9 @@
--- The symbols of a file: its range, those whose slots it writes, those that it gives to tables, and its copies.
+-- The symbols of a file: its range, those whose slots it writes, those that it adds to tables, and its copies.
 --   range_of ss f         the symbols of a file
 --   own_symbols l f       those whose slots it writes
---   loaded_symbols l f    those of a file that is loaded
---   copies_of f           the symbols that a library has copied
---   copied_again l ..     the first group that copies a symbol again
+--   loaded_symbols l f    the symbols of a file, if it is loaded
+--   copies_of f           the symbols that are copied from a library
+--   copied_again l ..     the first group that copies a symbol a second time
 use Rattle.std.specs.Prelude.{ℕ, ◌+◌, ◌==◌, ◌&&◌, if◌then◌else◌, List, [], ◌∷◌, take, drop, Option, Some, None, Bool, true, not, ◌++◌, map, flat_map, slice_range}
 use Rattle.wild_types.specs.declared.symbol.Symbol.{Symbol}
 use Rattle.wild_types.specs.declared.file.File.{File}
@@ -21,24 +21,24 @@ range_of symbols f = take f.symbol_count (drop f.first_symbol symbols)
 abbrev pub own_symbols : Layout → File → List Symbol
 own_symbols l f = if writes_slots f.role then slice_range l.symbols f.first_symbol (f.first_symbol + f.symbol_count) else []
 
--- the symbols of a file that is loaded
+-- the symbols of a file, if it is loaded
 abbrev pub loaded_symbols : Layout → File → List Symbol
 loaded_symbols l f = if is_loaded_file f.role then range_of l.symbols f else []
 
--- the symbols that a library has copied into the output
+-- the symbols that are copied from a library into the output
 abbrev pub copies_of : File → List ℕ
 copies_of f = if is_library f.role then f.copies else []
 
--- the definitions of the symbols that files have copied
+-- the definitions of the symbols that the files of a group copy
 abbrev pub copied_in : Layout → Group → List ℕ
 copied_in l g = flat_map (λ (f : File). map (canonical l) f.copies) g.files
 
--- no two are one, nor is one among those of before
+-- the items are distinct, and none is in the first list
 abbrev pub are_new : List ℕ → List ℕ → Bool
 are_new earlier [] = true
 are_new earlier (c ∷ cs) = not (list_any (λ d. d == c) earlier) && are_new (earlier ++ c ∷ []) cs
 
--- the first group that has a definition copied which it, or one before it, has copied
+-- the first group that copies a definition which it, or a group before it, has copied already
 abbrev pub copied_again : Layout → List ℕ → ℕ → List Group → Option ℕ
 copied_again l earlier i [] = None
 copied_again l earlier i (g ∷ gs) = if are_new earlier (copied_in l g) then copied_again l (earlier ++ copied_in l g) (i + 1) gs else Some i

@@ -1,8 +1,8 @@
--- The thunks of files: code that carries branches of a file on to targets out of their range ("ELF for the Arm 64-bit Architecture",
+-- The thunks of files: code that continues branches of a file to targets out of their range ("ELF for the Arm 64-bit Architecture",
 -- "Call and Jump relocations").
 --   thunk_size       the bytes of a thunk
---   block_of l k     the thunks of a block; none where it is not there
---   thunks_of l f    those that the file writes behind its sections: all of its block, where it owns that
+--   block_of l k     the thunks of a block; empty if there is no such block
+--   thunks_of l f    those that the file writes after its sections: all thunks of its block if it owns the block
 use Rattle.std.specs.Prelude.{ℕ, if◌then◌else◌, List, [], unwrap_or, slice_get}
 use Rattle.wild_types.specs.declared.layout.Thunk.{Thunk}
 use Rattle.wild_types.specs.declared.file.File.{File}

@@ -1,7 +1,7 @@
--- What is not written of an image for debuggers alone.
---   is_hollow_role l r   nothing is written of the section in which the first part of a role lies
---   is_dropped l s       nothing of the input section is written
---   KeepsAll l           the image is for more than debuggers: all is written
+-- What a debug file (`--only-keep-debug`) leaves out of an image.
+--   is_hollow_role l r   the first part of a role is in a section of which only the header is written
+--   is_dropped l s       the input section is omitted
+--   KeepsAll l           the image is no debug file: all is written
 use Rattle.std.specs.Prelude.{◌≡◌, Bool, false, if◌then◌else◌}
 use Rattle.wild_types.specs.declared.input.InputSection.{InputSection}
 use Rattle.wild_types.specs.declared.layout.Layout.{Layout}
@@ -10,14 +10,14 @@ use Rattle.wild_types.specs.declared.part.Role.TheVariants as role
 use Rattle.wild_types.specs.Lookups.{section_of_part, is_hollow_at, is_hollow_part, is_frame}
 use Rattle.wild_types.specs.Parts.{part_with}
 
--- nothing is written of the section in which the first part of a role lies
+-- the first part of a role is in a section of which only the header is written
 abbrev pub is_hollow_role : Layout → Role → Bool
 is_hollow_role l r = is_hollow_at l (section_of_part (part_with r l.parts))
 
--- nor of an input section of such a part; frames stand in the part of frames
+-- only the header is written of the section that contains the input section's part; frames belong to the part of frames
 abbrev pub is_dropped : Layout → InputSection → Bool
 is_dropped l s = if is_frame s.slot then is_hollow_role l role.EhFrame else is_hollow_part l s.part
 
--- the image is for more than debuggers: all is written
+-- the image is no debug file: all is written
 abbrev pub KeepsAll : Layout → Type 0
 KeepsAll l = l.options.only_keep_debug ≡ false

@@ -1,8 +1,8 @@
--- What relocations are decided of: bytes of input files, with their relocations, at one address.
---   block_for l f s    the block of thunks that a section's branches go by
---   item_with k s      an input section with that block
---   item_of l f s      one of a file, as it is
---   item_now i         the item that code has before it
+-- The input of the decision on each relocation: bytes of input files, with their relocations, at one address.
+--   block_for l f s    the block of thunks that a section's branches use
+--   item_with k s      the item of an input section whose branches use thunk block k
+--   item_of l f s      the item of a file's section, with the block of its file
+--   item_now i         the item to which a reference in the code refers
 use Rattle.std.specs.Prelude.{ℕ, ◌==◌, if◌then◌else◌, List}
 use Rattle.wild_types.specs.declared.input.InputRelocation.{InputRelocation}
 use Rattle.wild_types.specs.declared.input.InputSection.{InputSection}
@@ -10,8 +10,8 @@ use Rattle.wild_types.specs.declared.item.ItemRef.{ItemRef}
 use Rattle.wild_types.specs.declared.file.File.{File}
 use Rattle.wild_types.specs.declared.layout.Layout.{Layout}
 
--- input bytes and their relocations, at an address of the layout; the flags are the input section's own (gABI, sh_flags), and the
--- branches go by the thunks of that block where a target is out of their range
+-- input bytes and their relocations, at an address of the layout; the flags are the input section's own (gABI, sh_flags); branches
+-- whose target is out of range use the thunks of the block
 pub record Item : Type 0 where
   pub address : ℕ
   pub flags : ℕ
@@ -19,7 +19,7 @@ pub record Item : Type 0 where
   pub relocations : List InputRelocation
   pub thunk_block : ℕ
 
--- its file's; outside the primary part block 0
+-- the block of the file; block 0 outside the primary part
 abbrev pub block_for : Layout → File → InputSection → ℕ
 block_for l f s = if s.part == l.primary_part then f.thunk_block else 0
 

@@ -1,4 +1,4 @@
--- What a kind of output is.
+-- The kinds of output.
 use Rattle.std.specs.Prelude.{Bool, true, false, ◌&&◌}
 use Rattle.wild_types.specs.declared.kind.RelocationModel.TheVariants.{NonRelocatable, Relocatable}
 use Rattle.wild_types.specs.declared.kind.OutputKind.{OutputKind}
@@ -41,7 +41,7 @@ is_position_independent (DynamicExecutable NonRelocatable) = false
 is_position_independent SharedObject = true
 is_position_independent PartialObject = false
 
--- loaded at its own addresses alone (gABI, "Program Loading")
+-- loaded only at its link-time addresses (gABI, "Program Loading")
 abbrev pub has_fixed_load_address : OutputKind → Bool
 has_fixed_load_address (StaticExecutable Relocatable) = false
 has_fixed_load_address (StaticExecutable NonRelocatable) = true
@@ -50,7 +50,7 @@ has_fixed_load_address (DynamicExecutable NonRelocatable) = true
 has_fixed_load_address SharedObject = false
 has_fixed_load_address PartialObject = false
 
--- with entries for dynamic linking (gABI, "Dynamic Section"): what a loader moves, or a dynamic linker loads
+-- with entries for dynamic linking (gABI, "Dynamic Section"): it is position-independent, or a dynamic linker loads it
 abbrev pub needs_dynamic : OutputKind → Bool
 needs_dynamic (StaticExecutable Relocatable) = true
 needs_dynamic (StaticExecutable NonRelocatable) = false
@@ -62,6 +62,6 @@ needs_dynamic PartialObject = false
 abbrev pub needs_dynsym : OutputKind → Bool
 needs_dynsym kind = needs_dynamic kind
 
--- an executable that is loaded at its own addresses, without a dynamic linker
+-- an executable without a dynamic linker that is loaded only at its link-time addresses
 abbrev pub is_fixed_static : OutputKind → Bool
 is_fixed_static kind = is_static_executable kind && has_fixed_load_address kind

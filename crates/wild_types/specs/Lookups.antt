@@ -1,23 +1,24 @@
--- What stands where in a layout.
+-- Look-ups in a layout.
 --   bit flags n            the flag is set
---   kind_at l k            the type of the section with header index k; SHT_NULL where there is none
---   is_allocated_part l p  the part lies in a section other than section 0 that is allocated (SHF_ALLOC)
+--   kind_at l k            the type of the section with header index k; SHT_NULL if there is none
+--   is_allocated_part l p  the part is in a section other than section 0 that is allocated (SHF_ALLOC)
 --   is_without_data s      the section's type is that of sections without bytes in the file
---   is_hollow l s          nothing of the section is written: the image is for debuggers, and a program would load the section
+--   is_hollow l s          only the section's header is written: the image is a debug file, and the section is allocated and no note
 --   fills_file l s         the section has bytes in the file
---   has_data l k           the type of the section with header index k is that of one with bytes in the file
---   takes_file_bytes l k   that section has some
---   is_given l s           the input section stands in its part's range, with bytes in the plan
---   is_filled l s          it owns bytes of the image
---   is_read s              a loader may apply its relocations, where it stands as it is or is one of frames; is_written s they are written into
---                          its bytes; is_counted s they are counted
+--   has_data l k           the type of the section with header index k is that of sections with bytes in the file
+--   takes_file_bytes l k   that section has bytes in the file
+--   is_given l s           the input section is placed in its part in file order, and contributes bytes
+--   is_filled l s          these bytes are in the image
+--   is_read s              the relocations are read: the section is loaded or holds frames, and has data
+--   is_written s           they are applied to its bytes
+--   is_counted s           they are counted
 --   image_size l           the greatest end of a file range of a part or a section
 --   has_address l s        the input section has an address
 --   canonical l i          the symbol that defines symbol i
---   file_of files i        the first file whose range of symbols has i
---   place_of address r   the address of the field of a relocation of bytes at an address, modulo 2^64
---   packs l at           the address at a place is recorded by a packed word
---   has_table l          the output has a table of all its symbols
+--   file_of files i        the first file whose range of symbols contains i
+--   place_of address r     the address of the field of a relocation, if the section's bytes are at address, modulo 2^64
+--   packs l at             a relative relocation of that place is packed as RELR
+--   has_table l            the output has a `.symtab`
 use Rattle.std.specs.Prelude.{ℕ, ◌+◌, ◌%◌, ◌^◌, ◌==◌, ◌&&◌, ◌||◌, Bool, true, false, not, if◌then◌else◌, List, [], length, Option, Some, None, nat_lt, nat_le, max, ◌∷◌, drop, option_and_then, unwrap_or, slice_get}
 use Rattle.std.specs.List.{flat_map}
 use Rattle.wild_types.specs.declared.input.InputRelocation.{InputRelocation}
@@ -41,7 +42,7 @@ bit flags n = bit_and flags n == n
 abbrev pub writable : ℕ → Bool
 writable flags = bit flags shf_write
 
--- the section has room in memory
+-- the section occupies memory
 abbrev pub allocated : ℕ → Bool
 allocated flags = bit flags shf_alloc
 
@@ -57,7 +58,7 @@ abbrev pub kind_of : Option Section → ℕ
 kind_of None = sht_null
 kind_of (Some s) = s.kind
 
--- the type of a section (sh_type); SHT_NULL where there is none
+-- the type of a section (sh_type); SHT_NULL if there is none
 abbrev pub kind_at : Layout → ℕ → ℕ
 kind_at l k = kind_of (slice_get l.sections k)
 
@@ -69,7 +70,7 @@ abbrev pub section_of_part : Option Part → ℕ
 section_of_part None = 0
 section_of_part (Some p) = p.section
 
--- the header index of the section of a part; 0 where there is none
+-- the header index of the section that contains a part; 0 if there is none
 abbrev pub section_of : Layout → ℕ → ℕ
 section_of l part = section_of_part (slice_get l.parts part)
 
@@ -77,11 +78,11 @@ section_of l part = section_of_part (slice_get l.parts part)
 abbrev pub is_allocated_section : Layout → ℕ → Bool
 is_allocated_section l k = not (k == 0) && allocated (flags_of (slice_get l.sections k))
 
--- the part lies in an allocated section
+-- the part is in an allocated section
 abbrev pub is_allocated_part : Layout → ℕ → Bool
 is_allocated_part l part = is_allocated_section l (section_of l part)
 
--- the section has room in memory alone, and no bytes in the file (gABI, "Section Header", sh_type: SHT_NOBITS)
+-- the section takes memory, but no bytes in the file (gABI, "Section Header", sh_type: SHT_NOBITS)
 abbrev pub is_without_data : Section → Bool
 is_without_data s = s.kind == sht_nobits
 
@@ -89,8 +90,8 @@ abbrev pub without_data : Option Section → Bool
 without_data None = false
 without_data (Some s) = is_without_data s
 
--- an image for debuggers alone has nothing of a section that a program would load, but notes, by which debuggers find it (gABI, "Sections":
--- SHF_ALLOC, SHT_NOTE)
+-- of an allocated section a debug file has the header only; notes are kept, because debuggers identify the image by them (gABI,
+-- "Sections": SHF_ALLOC, SHT_NOTE)
 abbrev pub is_hollow : Layout → Section → Bool
 is_hollow l s = l.options.only_keep_debug && (allocated s.flags && not (s.kind == sht_note))
 
@@ -98,11 +99,11 @@ abbrev pub hollow : Layout → Option Section → Bool
 hollow l None = false
 hollow l (Some s) = is_hollow l s
 
--- nothing is written of the section with header index k, which is another than section 0
+-- only the header is written of the section with index k; false for section 0
 abbrev pub is_hollow_at : Layout → ℕ → Bool
 is_hollow_at l k = not (k == 0) && hollow l (slice_get l.sections k)
 
--- the part lies in such a section
+-- the part is in a section of which only the header is written
 abbrev pub is_hollow_part : Layout → ℕ → Bool
 is_hollow_part l part = is_hollow_at l (section_of l part)
 
@@ -110,11 +111,11 @@ is_hollow_part l part = is_hollow_at l (section_of l part)
 abbrev pub fills_file : Layout → Section → Bool
 fills_file l s = not (is_without_data s) && not (is_hollow l s)
 
--- what stands in the section with header index k has bytes, which the file has where that section is written
+-- the section with header index k has data: its type is not SHT_NOBITS; the file has these bytes unless only the header is written
 abbrev pub has_data : Layout → ℕ → Bool
 has_data l k = not (without_data (slice_get l.sections k))
 
--- what stands there takes bytes of the file
+-- the contents of the section take bytes of the file
 abbrev pub takes_file_bytes : Layout → ℕ → Bool
 takes_file_bytes l k = has_data l k && not (is_hollow_at l k)
 
@@ -139,22 +140,23 @@ abbrev pub is_rela : Slot → Bool
 is_rela slot.Rela = true
 is_rela other = false
 
--- what is loaded, what is loaded in a given order, and what debuggers read: with data it has bytes or zeros, and its relocations are counted
+-- sections that are loaded, in file order or sorted, and those that debuggers read: their relocations are counted, if they have data
 abbrev pub has_counted : Slot → Bool
 has_counted slot.Loaded = true
 has_counted slot.Sorted = true
 has_counted slot.Debug = true
 has_counted other = false
 
--- there are bytes of the input section, or in a section with data zeros where it has none; those of a table of relocations are made
+-- the input section contributes bytes; without data it contributes zeros if its output section has data; the bytes of a table of
+-- relocations are generated
 abbrev pub has_bytes : Layout → InputSection → Bool
 has_bytes l s =
     if s.nobits then has_counted s.slot && (not (s.size == 0) && has_data l (section_of l s.part))
     else if is_rela s.slot then not (s.size == 0)
     else not (length s.bytes == 0)
 
--- the section stands in its part's range in the order of the files: what is loaded, what debuggers read, and in a relocatable object a
--- table of relocations and a group (gABI, "Sections": SHT_RELA, SHT_GROUP)
+-- the section is placed in its part in file order: a loaded section, a debug section, and in a relocatable object a table of
+-- relocations and a group (gABI, "Sections": SHT_RELA, SHT_GROUP)
 abbrev pub has_range : Slot → Bool
 has_range slot.Loaded = true
 has_range slot.Debug = true
@@ -162,25 +164,25 @@ has_range slot.Rela = true
 has_range slot.Group = true
 has_range other = false
 
--- the input section stands so, with bytes: its own, zeros where it has none, or what is made of it
+-- the input section is placed in file order and contributes bytes: its own, zeros, or generated ones
 abbrev pub is_given : Layout → InputSection → Bool
 is_given l s = has_range s.slot && has_bytes l s
 
--- and it owns these bytes of the image
+-- and these bytes are in the image
 abbrev pub is_filled : Layout → InputSection → Bool
 is_filled l s = is_given l s && not (is_hollow_part l s.part)
 
--- of a section that is loaded as it is, or of frames, a loader may apply relocations
+-- a loader may apply relocations to a loaded section and to frames
 abbrev pub has_relocations : Slot → Bool
 has_relocations slot.Loaded = true
 has_relocations slot.Frame = true
 has_relocations other = false
 
--- an input section's relocations are read where it has data
+-- an input section's relocations are read if it has data
 abbrev pub is_read : InputSection → Bool
 is_read s = has_relocations s.slot && not s.nobits
 
--- and those of a section that debuggers read are written into its bytes, as they are
+-- relocations are applied to the bytes of loaded sections, of frames and of debug sections
 abbrev pub has_fields : Slot → Bool
 has_fields slot.Loaded = true
 has_fields slot.Frame = true
@@ -190,15 +192,15 @@ has_fields other = false
 abbrev pub is_written : InputSection → Bool
 is_written s = has_fields s.slot && not s.nobits
 
--- they are counted for the output section
+-- the relocations are counted for the output section
 abbrev pub is_counted : InputSection → Bool
 is_counted s = has_counted s.slot && not s.nobits
 
--- a section that stands in its part's range, or in a given order, has bytes
+-- a section that is placed, in file order or in sort order, contributes bytes
 abbrev pub brings_bytes : Layout → InputSection → Bool
 brings_bytes l s = (has_range s.slot || has_counted s.slot) && has_bytes l s
 
--- and owns these bytes of the image
+-- and these bytes are in the image
 abbrev pub owns_bytes : Layout → InputSection → Bool
 owns_bytes l s = brings_bytes l s && not (is_hollow_part l s.part)
 
@@ -217,7 +219,7 @@ sections_end l (s ∷ ss) = max (file_end (fills_file l s) s.offset s.size) (sec
 unfoldable pub image_size : Layout → ℕ
 image_size l = max (parts_end l l.parts) (sections_end l (drop 1 l.sections))
 
--- an input section that is not discarded has an address where that is not 0 or its part is not allocated
+-- an input section has an address if it is not discarded, and the address is not 0 or the part is not allocated
 abbrev pub has_address : Layout → InputSection → Bool
 has_address l s = not (is_discarded s.slot) && (not (s.address == 0) || not (is_allocated_part l s.part))
 
@@ -229,7 +231,7 @@ canonical l i = unwrap_or (option_and_then (λ s. s.definition) (slice_get l.sym
 abbrev pub files_of : List Group → List File
 files_of groups = flat_map (λ g. g.files) groups
 
--- the first file whose range of symbols has i
+-- the first file whose range of symbols contains i
 abbrev pub file_of : List File → ℕ → Option File
 file_of [] i = None
 file_of (f ∷ fs) i = if nat_le f.first_symbol i && nat_lt i (f.first_symbol + f.symbol_count) then Some f else file_of fs i
@@ -238,18 +240,18 @@ file_of (f ∷ fs) i = if nat_le f.first_symbol i && nat_lt i (f.first_symbol + 
 abbrev pub place_of : ℕ → InputRelocation → ℕ
 place_of address r = (address + r.offset) % 2 ^ 64
 
--- words of packed relocations are asked for, and the place is one that they can name: an even one
+-- RELR is enabled, and the place is even, so that a RELR word can name it
 abbrev pub packs : Layout → ℕ → Bool
 packs l place = l.options.relr && place % 2 == 0
 
--- no address of a fixed output moves, and only relocations of loaded sections with data are read
+-- no address of a fixed output changes, and only the relocations of loaded sections and frames with data are read
 abbrev pub has_moved : Layout → InputSection → Bool
 has_moved l s = is_position_independent l.kind && is_read s
 
--- the output has a table of all its symbols: a relocatable object has one in any case (gABI, "Symbol Table")
+-- the output has a `.symtab`: a relocatable object always has one (gABI, "Symbol Table")
 abbrev pub has_table : Layout → Bool
 has_table l = is_partial_link l.kind || not l.options.strip_all
 
--- more sections than have an index of 16 bits (gABI, "Special Section Indexes", SHN_LORESERVE)
+-- more sections than a 16-bit index can number (gABI, "Special Section Indexes", SHN_LORESERVE)
 abbrev pub has_many_sections : Layout → Bool
 has_many_sections l = nat_lt shn_loreserve (length l.sections)

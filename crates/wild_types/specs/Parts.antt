@@ -1,9 +1,9 @@
--- Parts by their roles: which are loaded, which hold entries or tables, and what the first of a role has.
---   role_place r       the place of a role in the list of roles
---   has_role r p       the part is of that role
+-- Parts by their roles: which are loaded, which hold entries or tables, and properties of the first of a role.
+--   role_place r       the index of a role in the list of roles
+--   has_role r p       the part has that role
 --   part_with r ps     the first part of a role
---   is_loaded_role r   a program reads the part
---   bytes_in ..        how many bytes the part has of those in a section
+--   is_loaded_role r   a loader or the program reads the part
+--   bytes_in ..        the size of the part if it is in that section
 --   has_hashes l       the output has a hash table
 use Rattle.std.specs.Prelude.{ℕ, ◌==◌, Bool, true, false, ◌&&◌, if◌then◌else◌, List, [], ◌∷◌, Option, Some, None, nat_le, find}
 use Rattle.std.specs.List.{list_any}
@@ -12,7 +12,7 @@ use Rattle.wild_types.specs.declared.part.Part.{Part}
 use Rattle.wild_types.specs.declared.part.Role.{Role}
 use Rattle.wild_types.specs.declared.part.Role.TheVariants as role
 
--- the place of a role in the list of roles
+-- the index of a role in the list of roles
 abbrev pub role_place : Role → ℕ
 role_place role.Raw = 0
 role_place role.FileHeader = 1
@@ -67,7 +67,7 @@ is_entry_role other = false
 abbrev pub entry_parts : List Part → List (Option Part)
 entry_parts parts = part_with role.RelaPlt parts ∷ part_with role.RelaDynRelative parts ∷ part_with role.RelaDynGeneral parts ∷ []
 
--- the bytes of a part that stands in section k
+-- the size of a part if it is in section k, else 0
 abbrev pub bytes_in : ℕ → Option Part → ℕ
 bytes_in k None = 0
 bytes_in k (Some p) = if p.section == k then p.size else 0

@@ -1,6 +1,6 @@
--- What was decided of symbols has their flags.
---   HasItsFlags s       so it is of the symbol
---   HaveTheirFlags l    so it is of each symbol
+-- The flags of a resolution are those of its symbol.
+--   HasItsFlags s       this holds for the symbol
+--   HaveTheirFlags l    this holds for each symbol
 use Rattle.std.specs.Prelude.{◌≡◌, Some, All}
 use Rattle.wild_types.specs.declared.symbol.Resolution.{Resolution}
 use Rattle.wild_types.specs.declared.symbol.Symbol.{Symbol}

@@ -1,9 +1,9 @@
--- Which slots and stub a symbol has.
---   got_of s, plt_of s      the address of the first slot and of the stub, where they are there
---   has_dynamic_symbol f    a loader looks the symbol up
+-- The GOT slots and the PLT stub of a symbol.
+--   got_of s, plt_of s      the address of the first slot and of the stub; none if there is none
+--   has_dynamic_symbol f    a loader looks the symbol up by name
 --   has_thread_slot f       a slot or pair for a thread-local symbol
---   slots_at s           where the words of the symbol begin
---   is_without s         it has no slot
+--   slots_at s           the address of the symbol's first slot; 0 without one
+--   is_without s         the symbol has no slot
 --   names_slot, names_stub   its slot, or its stub, has a name in `.symtab`
 use Rattle.std.specs.Prelude.{ℕ, ◌==◌, Bool, true, not, ◌&&◌, ◌||◌, Option, Some, None, is_some, unwrap_or}
 use Rattle.wild_types.specs.declared.symbol.Symbol.{Symbol}
@@ -28,7 +28,7 @@ resolved_plt (Some r) = r.plt_address
 abbrev pub plt_of : Symbol → Option ℕ
 plt_of s = resolved_plt s.resolution
 
--- a loader finds the symbol in the dynamic symbol table, of this module or of another (gABI, "Symbol Visibility")
+-- a loader looks the symbol up in dynamic symbol tables: another module may define it (gABI, "Symbol Visibility")
 abbrev pub has_dynamic_symbol : ValueFlags → Bool
 has_dynamic_symbol f = has_flag f dynamic || (has_flag f export_dynamic && interposable f)
 
@@ -36,11 +36,11 @@ has_dynamic_symbol f = has_flag f dynamic || (has_flag f export_dynamic && inter
 abbrev pub has_thread_slot : ValueFlags → Bool
 has_thread_slot f = has_flag f got_tls_offset || (has_flag f got_tls_module || has_flag f got_tls_descriptor)
 
--- a symbol whose slots no file writes has none
+-- the symbol has no slot, so no file writes one for it
 abbrev pub is_without : Symbol → Bool
 is_without s = not (is_some (got_of s))
 
--- where its words begin
+-- the address of its first slot; 0 without one
 abbrev pub slots_at : Symbol → ℕ
 slots_at s = unwrap_or (got_of s) 0
 
@@ -49,10 +49,10 @@ abbrev pub is_own : Option ℕ → ℕ → Bool
 is_own None i = true
 is_own (Some j) i = j == i
 
--- its slot has a name, where the option asks for such names
+-- its slot has a name, if the option for such names is set
 abbrev pub names_slot : Layout → ℕ → Symbol → Bool
 names_slot l i s = l.options.got_plt_syms && (is_own s.definition i && (has_flag s.flags got_slot && is_some (got_of s)))
 
--- and its stub, where it has both
+-- its stub has a name, if it has both a slot and a stub
 abbrev pub names_stub : Layout → ℕ → Symbol → Bool
 names_stub l i s = names_slot l i s && (has_flag s.flags plt_stub && is_some (plt_of s))

@@ -1,4 +1,4 @@
-//! Where symbols stand (gABI, "Symbol Table").
+//! The addresses of symbols (gABI, "Symbol Table").
 ghost use Rattle.std.specs.Prelude.{◌≡◌, Some, option_and_then, option_copied, option_map, slice_get};
 ghost use Rattle.wild_types.specs.Addresses.{address_in_section, address_in_file, placed_value, raw_value};
 ghost use Rattle.wild_types.specs.Lookups.{canonical, files_of, file_of};
@@ -9,7 +9,7 @@ use crate::input::InputSection;
 use crate::layout::Layout;
 use crate::symbol::Place;
 
-/// The first of the files whose range of symbols has the symbol.
+/// The first file whose range of symbols contains the symbol.
 fn find_file(files: &[File], symbol: SymbolIndex) -> Option<&File>
     ensures { option_copied result ≡ file_of files.now symbol }
 {
@@ -22,7 +22,7 @@ fn find_file(files: &[File], symbol: SymbolIndex) -> Option<&File>
     None
 }
 
-/// So many bytes behind the address of an input section; none where it has no address.
+/// The address `value` bytes after the start of an input section; none if the section has no address.
 fn address_in_section(layout: &Layout, section: &InputSection, value: u64) -> Option<u64>
     ensures { result ≡ address_in_section layout.now value (Some section.now) }
 {
@@ -33,7 +33,7 @@ fn address_in_section(layout: &Layout, section: &InputSection, value: u64) -> Op
     }
 }
 
-/// The same of the file's input section at that place.
+/// As `address_in_section`, for the file's input section number `place`.
 fn address_in_file(layout: &Layout, file: &File, place: usize, value: u64) -> Option<u64>
     ensures { result ≡ address_in_file layout.now place value (Some file.now) }
 {
@@ -44,7 +44,7 @@ fn address_in_file(layout: &Layout, file: &File, place: usize, value: u64) -> Op
 }
 
 impl Layout {
-    /// The first file whose range of symbols has the symbol.
+    /// The first file whose range of symbols contains the symbol.
     fn file_of(&self, symbol: SymbolIndex) -> Option<&File>
         ensures { option_copied result ≡ file_of (files_of self.now.groups) symbol }
     {
@@ -57,7 +57,7 @@ impl Layout {
         None
     }
 
-    /// Where the symbol stands: behind the address of its input section.
+    /// The symbol's address by its place: its value counted from the address of its input section.
     fn placed_value(&self, symbol: SymbolIndex) -> Option<u64>
         ensures { result ≡ placed_value self.now symbol }
     {
@@ -71,7 +71,7 @@ impl Layout {
         }
     }
 
-    /// The value that was decided of the symbol's definition.
+    /// The resolved value of the symbol's definition.
     fn decided_value(&self, symbol: SymbolIndex) -> Option<u64>
         ensures { result ≡ option_and_then (λ s. option_map (λ r. r.raw_value) s.resolution) (slice_get self.now.symbols (canonical self.now symbol)) }
     {
@@ -79,8 +79,8 @@ impl Layout {
         Some(found.resolution?.raw_value)
     }
 
-    /// The address of a symbol, where it has one: the value that was decided of its definition, else where it stands. Its file is
-    /// looked for among all files.
+    /// The address of a symbol, if it has one: the resolved value of its definition, else the address of its place. Searches all files
+    /// for the symbol's file.
     #[tactic(auto, unfolding(crate::specs::Addresses::raw_value))]
     pub fn raw_value(&self, symbol: SymbolIndex) -> Option<u64>
         ensures { result ≡ raw_value self.now symbol }

@@ -1,4 +1,4 @@
-//! A layout of nothing, on which others are made.
+//! An empty layout, the start value from which others are built.
 ghost use Rattle.std.specs.Prelude.{◌≡◌};
 ghost use Rattle.wild_types.specs.Empty.{empty_layout};
 
@@ -18,7 +18,7 @@ impl Tls {
 }
 
 impl Layout {
-    /// A layout of nothing, for an executable that is loaded at its own addresses.
+    /// An empty layout, for an executable that is loaded at fixed addresses.
     pub fn empty(alloc: Global) -> Layout
         ensures { result ≡ empty_layout }
     {

@@ -1,4 +1,4 @@
-//! How long an image is.
+//! The size of an image.
 ghost use Rattle.std.specs.Prelude.{◌≡◌, ◌+◌, drop};
 ghost use Rattle.wild_types.specs.Lookups.{file_end, parts_end, sections_end, image_size};
 
@@ -6,7 +6,7 @@ use crate::layout::Layout;
 use crate::part::Part;
 use crate::section::Section;
 
-/// What stands behind the first item.
+/// All items but the first.
 pub fn behind_first<T>(items: &[T]) -> &[T]
     ensures { result.now ≡ drop 1 items.now }
 {
@@ -16,7 +16,7 @@ pub fn behind_first<T>(items: &[T]) -> &[T]
     }
 }
 
-/// The sum, which may be 2^64 or more.
+/// The sum, in 128 bits: it may be 2^64 or more.
 pub fn wide_sum(left: u64, right: u64) -> u128
     ensures { result ≡ left + right }
 {

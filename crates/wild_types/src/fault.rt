@@ -15,7 +15,7 @@ pub enum Missing {
     Slot,
     Stub,
     DynamicSymbol,
-    /// The output section of a symbol.
+    /// The output section in which the symbol is placed.
     Section,
 }
 
@@ -24,22 +24,22 @@ pub enum Missing {
 pub enum Why {
     /// The reader of the input failed at a relocation.
     Malformed,
-    /// A relocation stands before the one in front of it.
+    /// The offset of a relocation is below that of the relocation before it.
     Unsorted,
     /// An entry goes past the section's end.
     Cut,
-    /// An entry has no room for its id, or a kept FDE none for where its code begins.
+    /// An entry is too short for its id, or a kept FDE for its PC Begin.
     Short,
-    /// The code of an FDE is that of no symbol, or of one that stands in no input section.
+    /// The PC Begin of an FDE names no symbol, or one that is in no input section.
     PcBegin,
-    /// Where an FDE points there is no CIE.
+    /// The CIE pointer of an FDE leads to no CIE.
     Cie,
     /// A field goes past its entry.
     Field,
 }
 
-/// Why a layout has no image. Parts, groups and symbols are places in their lists, as they are printed; sizes are in
-/// bytes.
+/// Why a layout has no image. Parts, groups and symbols are indexes into their lists, in the form in which they are printed; sizes
+/// are in bytes.
 #[derive(Clone, Copy, Debug, PartialEq, Eq)]
 pub enum Fault {
     /// A clause of a well-formed layout fails.
@@ -47,21 +47,21 @@ pub enum Fault {
         clause: u32,
         index: usize,
     },
-    /// A group's share of a part is smaller than what it has to write there.
+    /// A group's share of a part is smaller than the bytes that it writes there.
     InsufficientAllocation {
         part: usize,
         group: usize,
         given: u64,
         needed: u64,
     },
-    /// A group's share of a part is larger than what it has to write there.
+    /// A group's share of a part is larger than the bytes that it writes there.
     ExcessiveAllocation {
         part: usize,
         group: usize,
         given: u64,
         needed: u64,
     },
-    /// No row for that relocation type, or it needs a symbol and has none.
+    /// The relocation type has no row, or needs a symbol and the relocation has none.
     UnsupportedRelocation {
         number: u32,
     },
@@ -70,48 +70,48 @@ pub enum Fault {
     RecompileWithPic {
         number: u32,
     },
-    /// The relocation's symbol lacks what the relocation needs.
+    /// The relocation's symbol lacks something that the relocation needs.
     MissingResolution {
         what: Missing,
         symbol: usize,
     },
-    /// An instruction is to be rewritten, and its bytes or the next relocation are not what that needs.
+    /// An instruction is to be rewritten, but its bytes or the next relocation do not match the expected sequence.
     UnknownSequence {
         number: u32,
     },
-    /// A loader stores what a resolver answers, and has nothing to add to it.
+    /// A reference to an IFUNC has an addend. The loader stores the resolver's result and cannot add to it.
     IfuncAddend {
         addend: i64,
     },
-    /// The target of a branch is out of its range, and no thunk goes there: their distance, modulo 2^64.
+    /// The target of a branch is out of its range, and no thunk leads to it: the distance, modulo 2^64.
     NoThunk {
         value: u64,
     },
-    /// A thunk is too far from a branch, or its target from it: the distance, of the target that of the pages, modulo 2^64.
+    /// A thunk is too far from a branch, or the target is too far from its thunk. The distance is modulo 2^64; that of a target is between pages.
     ThunkOutOfRange {
         value: u64,
     },
-    /// A branch goes by a thunk, which has nothing to add to its target.
+    /// A branch with an addend needs a thunk. A thunk leads to its target and cannot add to it.
     ThunkAddend {
         addend: i64,
     },
-    /// A stub is too far from its slot: their distance, modulo 2^64.
+    /// A PLT stub is too far from its GOT slot: the distance, modulo 2^64.
     PltTooFar {
         value: u64,
     },
-    /// The address of a thread-local symbol that has a slot is not in the thread-local data.
+    /// A thread-local symbol has a slot, but its address is outside the thread-local data.
     TlsOutOfSegment {
         value: u64,
     },
-    /// A static executable has no code that a descriptor could name.
+    /// A static executable needs a TLS descriptor, but has no code that a descriptor could call.
     StaticTlsDesc {
         symbol: usize,
     },
-    /// A section of frames cannot be read: its list of relocations, or the entry at that place.
+    /// A section of frames cannot be read: its list of relocations is bad, or the entry at that offset.
     BadFrameData {
         why: Why,
     },
-    /// An address is further from the search table of frames than four signed bytes tell.
+    /// The distance of an address from the search table of frames does not fit a signed 32-bit field.
     FrameOffsetOverflow {
         /// The distance, modulo 2^64.
         value: u64,
@@ -124,12 +124,12 @@ pub enum Fault {
     OverlappingSites {
         byte: u64,
     },
-    /// Memory was refused.
+    /// Out of memory.
     OutOfMemory,
 }
 
-/// Where a fault is, as far as it applies: the group, the place of the file in it, the place of the section in
-/// that, and the offset in the section.
+/// The location of a fault, as far as it applies: the group, the file's index in the group, the section's index in the file, and the
+/// offset in the section.
 #[derive(Clone, Copy, Debug, PartialEq, Eq)]
 pub struct At {
     pub group: Option<usize>,
@@ -139,7 +139,7 @@ pub struct At {
 }
 
 impl At {
-    /// No place.
+    /// No location.
     pub const NOWHERE: At = At {
         group: None,
         file: None,

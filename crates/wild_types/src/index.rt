@@ -1,7 +1,7 @@
-//! Indexes of output sections and of symbols. They are numbers to contracts; code takes neither for the other.
+//! Indexes of output sections and of symbols. Contracts see both as plain numbers; in code they are distinct types.
 use std::marker::Model;
 
-/// A header index: the place of an output section in the section header table (gABI, "Section Header"). 0, `SHN_UNDEF`,
+/// A header index: the index of an output section in the section header table (gABI, "Section Header"). 0, `SHN_UNDEF`,
 /// is no section.
 #[derive(Clone, Copy, Debug, PartialEq, Eq)]
 pub struct SectionIndex(pub usize);
@@ -16,7 +16,7 @@ impl Model for SectionIndex {
     ghost inverse = { λ number. record { 0 = number } };
 }
 
-/// The place of a symbol in the layout's list of symbols.
+/// The index of a symbol in the layout's list of symbols.
 #[derive(Clone, Copy, Debug, PartialEq, Eq)]
 pub struct SymbolIndex(pub usize);
 

@@ -10,18 +10,18 @@ pub struct InputRelocation {
     pub number: u32,
     pub symbol: Option<SymbolIndex>,
     pub addend: i64,
-    /// The reader of the input failed at it.
+    /// The reader of the input failed at this relocation.
     pub malformed: bool,
 }
 
-/// Where a string of a merged section went.
+/// Where a string of a merged section was placed.
 #[derive(Clone, Copy)]
 pub struct MergedString {
     pub offset: u64,
     pub address: u64,
 }
 
-/// What becomes of an input section.
+/// How an input section is written.
 #[derive(Clone, Copy)]
 pub enum Slot {
     Discard,
@@ -39,7 +39,7 @@ pub enum Slot {
 pub struct InputSection {
     pub slot: Slot,
     pub name: Bytes,
-    /// The part that it lies in.
+    /// The part in which it is placed.
     pub part: usize,
     pub address: u64,
     pub size: u64,
@@ -47,9 +47,9 @@ pub struct InputSection {
     pub nobits: bool,
     /// Its words are written in reverse order.
     pub reversed: bool,
-    /// Its header index, where a partial object keeps it by itself.
+    /// Its header index, if a partial object keeps it as a section of its own.
     pub singleton: Option<SectionIndex>,
-    /// The section that a "rela" section is about.
+    /// The section to which the relocations of a "rela" section apply.
     pub target: usize,
     /// The header indexes of a "group" section's members.
     pub members: Items<SectionIndex>,

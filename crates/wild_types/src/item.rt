@@ -1,4 +1,4 @@
-//! Bytes of input files with their relocations, at one address: what relocations are decided of.
+//! Bytes of input files with their relocations, at one address: the input of the decision on each relocation.
 ghost use Rattle.std.specs.Prelude.{◌≡◌};
 ghost use Rattle.wild_types.specs.Item.{item_of, item_now};
 
@@ -14,12 +14,12 @@ pub struct ItemRef<'a> {
     pub flags: u64,
     pub bytes: &'a [u8],
     pub relocations: &'a [InputRelocation],
-    /// The block of thunks that branches go by where a target is out of their range.
+    /// The block of thunks that branches use if their target is out of range.
     pub thunk_block: usize,
 }
 
 impl InputSection {
-    /// The item of a section of that file, as it is.
+    /// The item of a section of that file: its address, flags, bytes and relocations, and the block of thunks that it uses.
     #[inline]
     pub fn item(&self, layout: &Layout, file: &File) -> ItemRef<'_>
         ensures { item_now result ≡ item_of layout.now file.now self.now }

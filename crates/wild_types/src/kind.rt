@@ -1,4 +1,4 @@
-//! Which machine and which kind of output a layout is for.
+//! The machine and the kind of output of a layout.
 ghost use Rattle.std.specs.Prelude.{◌≡◌};
 ghost use Rattle.wild_types.specs.Kinds.{is_executable, is_static_executable, is_shared_object, is_partial_link, is_position_independent, has_fixed_load_address, needs_dynamic, needs_dynsym};
 
@@ -14,7 +14,7 @@ pub enum Machine {
 /// Whether an executable can be loaded at any address.
 #[derive(Clone, Copy, Debug, PartialEq, Eq)]
 pub enum RelocationModel {
-    /// At its own addresses alone.
+    /// Only at its link-time addresses.
     NonRelocatable,
     /// At any page-aligned base.
     Relocatable,
@@ -78,7 +78,7 @@ impl OutputKind {
         }
     }
 
-    /// Whether the output is loaded at its own addresses alone.
+    /// Whether the output is loaded only at its link-time addresses.
     pub fn has_fixed_load_address(self) -> bool
         ensures { result ≡ has_fixed_load_address self }
     {

@@ -1,5 +1,5 @@
-//! The types of a finished layout, and what is looked up in them: flags, roles, the rows of relocation types, where a symbol and
-//! a section stand, and the faults of a layout.
+//! The types of a finished layout, and look-ups in them: flags, roles, the rows of relocation types, the addresses of symbols and
+//! sections, and the faults of a layout.
 #![tactic(auto)]
 
 mod address;

@@ -1,4 +1,4 @@
-//! What stands where in a layout.
+//! Look-ups in a layout: sections, parts, symbols, and the bytes of each input section.
 ghost use Rattle.std.specs.Prelude.{◌≡◌, ◌+◌, ◌^◌, ◌%◌, ◌<◌, true, length, drop, take, slice_range};
 ghost use Rattle.wild_types.specs.FileSymbols.{range_of, own_symbols, loaded_symbols};
 ghost use Rattle.wild_types.specs.FileThunks.{block_of, thunks_of};
@@ -50,14 +50,14 @@ pub fn is_thread_local(flags: u64) -> bool
 }
 
 impl Slot {
-    /// Whether the section goes into the image as it is.
+    /// Whether the section is a loaded one, placed in file order.
     pub fn is_loaded(self) -> bool
         ensures { result ≡ is_loaded self }
     {
         matches!(self, Slot::Loaded)
     }
 
-    /// Whether the section is one of frames.
+    /// Whether the section is an `.eh_frame` section.
     pub fn is_frame(self) -> bool
         ensures { result ≡ is_frame self }
     {
@@ -71,21 +71,21 @@ impl Slot {
         matches!(self, Slot::Debug)
     }
 
-    /// Whether the section stands in its part's range in the order of the files.
+    /// Whether the section is placed in its part in the order of the files.
     pub fn has_range(self) -> bool
         ensures { result ≡ has_range self }
     {
         matches!(self, Slot::Loaded | Slot::Debug | Slot::Rela | Slot::Group)
     }
 
-    /// Whether its relocations are counted, where it has data.
+    /// Whether its relocations are counted, if it has data.
     fn has_counted(self) -> bool
         ensures { result ≡ has_counted self }
     {
         matches!(self, Slot::Loaded | Slot::Sorted | Slot::Debug)
     }
 
-    /// Whether the section is left out.
+    /// Whether the section is discarded.
     pub fn is_discarded(self) -> bool
         ensures { result ≡ is_discarded self }
     {
@@ -94,7 +94,7 @@ impl Slot {
 }
 
 impl Layout {
-    /// The type of the section with that header index; `SHT_NULL` where there is none.
+    /// The type of the section with that header index; `SHT_NULL` if there is none.
     pub fn kind_at(&self, index: SectionIndex) -> u32
         ensures { result ≡ kind_at self.now index }
     {
@@ -104,7 +104,7 @@ impl Layout {
         }
     }
 
-    /// The header index of the section of a part; 0 where there is none.
+    /// The header index of the section that contains a part; 0 if there is none.
     pub fn section_of(&self, part: usize) -> SectionIndex
         ensures { result ≡ section_of self.now part }
     {
@@ -114,7 +114,7 @@ impl Layout {
         }
     }
 
-    /// Whether a section other than section 0 has `SHF_ALLOC`.
+    /// Whether the section is not section 0 and has `SHF_ALLOC`.
     pub fn is_allocated_section(&self, index: SectionIndex) -> bool
         ensures { result ≡ is_allocated_section self.now index }
     {
@@ -125,23 +125,23 @@ impl Layout {
         index.0 != 0 && is_allocated(flags)
     }
 
-    /// Whether a part lies in an allocated section.
+    /// Whether a part is in an allocated section.
     pub fn is_allocated_part(&self, part: usize) -> bool
         ensures { result ≡ is_allocated_part self.now part }
     {
         self.is_allocated_section(self.section_of(part))
     }
 
-    /// Whether nothing of the section is written: the image is for debuggers alone, and a program would load the section. Notes are
-    /// written, by which debuggers find the image.
+    /// Whether only the section's header is written: the image is a debug file (`--only-keep-debug`), and the section is allocated. Notes
+    /// are written nevertheless, because debuggers identify the image by them.
     pub fn is_hollow(&self, section: &Section) -> bool
         ensures { result ≡ is_hollow self.now section.now }
     {
         self.options.only_keep_debug && is_allocated(section.flags) && section.kind != SHT_NOTE
     }
 
-    /// Whether that is so of the section with that header index, which is another than section 0. It is looked up where the image is for
-    /// debuggers alone.
+    /// Whether only the header is written of the section with that index; false for section 0. The section is looked up only for a debug
+    /// file.
     #[tactic(auto, using(crate::proofs::LookupLemmas::not_hollow_at))]
     pub fn is_hollow_at(&self, index: SectionIndex) -> bool
         ensures { result ≡ is_hollow_at self.now index }
@@ -155,7 +155,7 @@ impl Layout {
         }
     }
 
-    /// Whether a part lies in such a section.
+    /// Whether a part is in a section of which only the header is written.
     #[tactic(auto, using(crate::proofs::LookupLemmas::not_hollow_part))]
     pub fn is_hollow_part(&self, part: usize) -> bool
         ensures { result ≡ is_hollow_part self.now part }
@@ -163,7 +163,7 @@ impl Layout {
         self.options.only_keep_debug && self.is_hollow_at(self.section_of(part))
     }
 
-    /// Whether nothing is written of the section in which the first part of a role lies.
+    /// Whether the first part of a role is in a section of which only the header is written.
     #[tactic(auto, using(crate::proofs::LookupLemmas::not_hollow_role))]
     pub fn is_hollow_role(&self, role: Role) -> bool
         ensures { result ≡ is_hollow_role self.now role }
@@ -184,7 +184,8 @@ impl Layout {
         !section.is_without_data() && !self.is_hollow(section)
     }
 
-    /// Whether what stands in the section with that header index has bytes, which the file has where that section is written.
+    /// Whether the section with that header index has data: its type is not `SHT_NOBITS`. The file has these bytes unless only the section's
+    /// header is written.
     pub fn has_data(&self, index: SectionIndex) -> bool
         ensures { result ≡ has_data self.now index }
     {
@@ -194,7 +195,7 @@ impl Layout {
         }
     }
 
-    /// Whether what stands in that section takes bytes of the file.
+    /// Whether the contents of that section take bytes of the file.
     pub fn takes_file_bytes(&self, index: SectionIndex) -> bool
         ensures { result ≡ takes_file_bytes self.now index }
     {
@@ -211,7 +212,7 @@ impl Layout {
         }
     }
 
-    /// So many symbols from number `first` on, as far as they are there.
+    /// The symbols from number `first` on, at most `count` of them.
     pub fn symbols_from(&self, first: usize, count: usize) -> &[Symbol]
         ensures are { result.now ≡ slice_range self.now.symbols first (first + count) }
         ensures few { first + length result.now < 2 ^ 64 }
@@ -235,7 +236,7 @@ impl Layout {
         }
     }
 
-    /// The thunks of a block; none where it is not there.
+    /// The thunks of a block; empty if there is no such block.
     pub fn block_of(&self, block: usize) -> &[Thunk]
         ensures { result.now ≡ block_of self.now block }
     {
@@ -245,7 +246,7 @@ impl Layout {
         }
     }
 
-    /// The thunks that a file writes behind its sections: all of its block, where it owns that.
+    /// The thunks that a file writes after its sections: all thunks of its block if it owns the block.
     pub fn thunks_of(&self, file: &File) -> &[Thunk]
         ensures { result.now ≡ thunks_of self.now file.now }
     {
@@ -268,14 +269,14 @@ impl Layout {
         )
     }
 
-    /// Whether the output has a table of all its symbols.
+    /// Whether the output has a `.symtab`.
     pub fn has_table(&self) -> bool
         ensures { result ≡ has_table self.now }
     {
         self.kind.is_partial_link() || !self.options.strip_all
     }
 
-    /// The symbols of a file that is loaded.
+    /// The symbols of a file, if it is loaded.
     pub fn loaded_symbols(&self, file: &File) -> &[Symbol]
         ensures are { result.now ≡ loaded_symbols self.now file.now }
         ensures few { file.now.first_symbol + length result.now < 2 ^ 64 }
@@ -284,8 +285,7 @@ impl Layout {
         if file.role.is_loaded() { symbols } else { &[] }
     }
 
-    /// Whether the address at a place is recorded by a word of packed relocations: these are asked for, and the place is
-    /// an even one.
+    /// Whether a relative relocation of that place is packed as RELR: the option is set, and the place is even.
     pub fn packs(&self, place: u64) -> bool
         ensures is { result ≡ packs self.now place }
         ensures even { result ≡ true → place % 2 ≡ 0 }
@@ -293,14 +293,15 @@ impl Layout {
         self.options.relr && place % 2 == 0
     }
 
-    /// Whether a section may have addresses that move with the base.
+    /// Whether a section may hold addresses that need relative relocations: the output is position-independent, and the section's
+    /// relocations are read.
     pub fn has_moved(&self, section: &InputSection) -> bool
         ensures { result ≡ has_moved self.now section.now }
     {
         self.kind.is_position_independent() && section.is_read()
     }
 
-    /// Whether the slot of the symbol of that number has a name.
+    /// Whether the slot of the symbol with that number has a name in `.symtab`.
     pub fn names_slot(&self, index: usize, symbol: &Symbol) -> bool
         ensures { result ≡ names_slot self.now index symbol.now }
     {
@@ -310,14 +311,14 @@ impl Layout {
             && got_of(symbol).is_some()
     }
 
-    /// Whether its stub has a name.
+    /// Whether its stub has a name in `.symtab`.
     pub fn names_stub(&self, index: usize, symbol: &Symbol) -> bool
         ensures { result ≡ names_stub self.now index symbol.now }
     {
         self.names_slot(index, symbol) && symbol.flags.needs_plt() && plt_of(symbol).is_some()
     }
 
-    /// Whether there are more sections than have an index of 16 bits.
+    /// Whether there are more sections than a 16-bit index can number.
     pub fn has_many_sections(&self) -> bool
         ensures { result ≡ has_many_sections self.now }
     {
@@ -326,7 +327,7 @@ impl Layout {
 }
 
 impl Section {
-    /// Whether the section's type is that of sections which have room in memory alone, and no bytes in the file.
+    /// Whether the section is `SHT_NOBITS`: it takes memory, but no bytes in the file.
     pub fn is_without_data(&self) -> bool
         ensures { result ≡ is_without_data self.now }
     {
@@ -335,7 +336,8 @@ impl Section {
 }
 
 impl InputSection {
-    /// Whether there are bytes of the section, or in a section with data zeros where it has none; those of a table of relocations are made.
+    /// Whether the section contributes bytes. A section without data contributes zeros if its output section has data; the bytes of a
+    /// table of relocations are generated.
     pub fn has_bytes(&self, layout: &Layout) -> bool
         ensures { result ≡ has_bytes layout.now self.now }
     {
@@ -350,35 +352,36 @@ impl InputSection {
         }
     }
 
-    /// Whether the section stands in its part's range, with bytes: its own, zeros where it has none, or what is made of it.
+    /// Whether the section is placed in its part in file order and contributes bytes: its own, zeros, or generated ones.
     pub fn is_given(&self, layout: &Layout) -> bool
         ensures { result ≡ is_given layout.now self.now }
     {
         self.slot.has_range() && self.has_bytes(layout)
     }
 
-    /// Whether it owns these bytes of the image.
+    /// As `is_given`, and these bytes are in the image.
     pub fn is_filled(&self, layout: &Layout) -> bool
         ensures { result ≡ is_filled layout.now self.now }
     {
         self.is_given(layout) && !layout.is_hollow_part(self.part)
     }
 
-    /// Whether the section stands so, or in a given order, with bytes.
+    /// Whether the section is placed, in file order or in sort order, and contributes bytes.
     pub fn brings_bytes(&self, layout: &Layout) -> bool
         ensures { result ≡ brings_bytes layout.now self.now }
     {
         (self.slot.has_range() || self.slot.has_counted()) && self.has_bytes(layout)
     }
 
-    /// Whether it owns these bytes of the image.
+    /// As `brings_bytes`, and these bytes are in the image.
     pub fn owns_bytes(&self, layout: &Layout) -> bool
         ensures { result ≡ owns_bytes layout.now self.now }
     {
         self.brings_bytes(layout) && !layout.is_hollow_part(self.part)
     }
 
-    /// Whether nothing of the section is written: its part lies in a section of which nothing is. Frames lie in the part of frames.
+    /// Whether the input section is omitted: only the header is written of the section that contains its part. Frames belong to the part
+    /// of frames.
     pub fn is_dropped(&self, layout: &Layout) -> bool
         ensures { result ≡ is_dropped layout.now self.now }
     {
@@ -389,31 +392,30 @@ impl InputSection {
         }
     }
 
-    /// Whether the relocations are read: those of a loaded section with data are, and those of frames.
+    /// Whether the relocations are read: those of a loaded section or of frames, if it has data.
     pub fn is_read(&self) -> bool
         ensures { result ≡ is_read self.now }
     {
         matches!(self.slot, Slot::Loaded | Slot::Frame) && !self.nobits
     }
 
-    /// Whether the relocations are written into the section's bytes: those of a loaded section with data are, those of frames, and those of
-    /// a debug section.
+    /// Whether the relocations are applied to the section's bytes: those of a loaded section, of frames or of a debug section, if it has
+    /// data.
     pub fn is_written(&self) -> bool
         ensures { result ≡ is_written self.now }
     {
         matches!(self.slot, Slot::Loaded | Slot::Frame | Slot::Debug) && !self.nobits
     }
 
-    /// Whether the relocations are counted for the output section: those of a loaded section with data are, those of one that
-    /// stands in a given order, and those of a debug section.
+    /// Whether the relocations are counted for the output section: those of a loaded section, of a sorted one or of a debug section, if
+    /// it has data.
     pub fn is_counted(&self) -> bool
         ensures { result ≡ is_counted self.now }
     {
         self.slot.has_counted() && !self.nobits
     }
 
-    /// Whether the section has an address: one that is not discarded has, where that is not 0 or its part is not
-    /// allocated.
+    /// Whether the section has an address: it is not discarded, and its address is not 0 or its part is not allocated.
     pub fn has_address(&self, layout: &Layout) -> bool
         ensures { result ≡ has_address layout.now self.now }
     {
@@ -422,7 +424,7 @@ impl InputSection {
 }
 
 impl InputRelocation {
-    /// The address of its field in bytes at that address, modulo 2^64.
+    /// The address of the relocated field if the section's bytes are at `address`, modulo 2^64.
     pub fn place_from(&self, address: u64) -> u64
         ensures { result ≡ place_of address self.now }
     {

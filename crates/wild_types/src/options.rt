@@ -1,11 +1,11 @@
-//! What the link was asked for.
+//! The options of the link.
 ghost use Rattle.std.specs.Prelude.{◌≡◌};
 ghost use Rattle.wild_types.specs.Defaults.{no_options};
 
 use std::alloc::Global;
 use wild_words::{Bytes, Items};
 
-/// What the link was asked for. Absent options are false, empty or none.
+/// The options of the link. An absent option is false, empty or none.
 #[derive(Drop)]
 pub struct Options {
     /// Instruction sequences may be rewritten.
@@ -14,7 +14,7 @@ pub struct Options {
     pub relr: bool,
     /// No `.symtab`.
     pub strip_all: bool,
-    /// A search table for frames.
+    /// A search table of frames (`.eh_frame_hdr`) is written.
     pub eh_frame_hdr: bool,
     /// `.eh_frame` ends with a zero length.
     pub terminator: bool,
@@ -40,20 +40,20 @@ pub struct Options {
     pub static_tls: bool,
     /// `DT_AARCH64_VARIANT_PCS`.
     pub variant_pcs: bool,
-    /// An image of debug sections alone.
+    /// A debug file: of allocated sections only headers and notes are written.
     pub only_keep_debug: bool,
-    /// Debug sections tell of discarded code by -1 and -2 (DWARF, "Tombstone Values").
+    /// Debug sections mark discarded code with -1 and -2 (DWARF, "Tombstone Values").
     pub new_tombstones: bool,
     /// The search path of the dynamic linker.
     pub rpath: Option<Bytes>,
     /// `DT_SONAME`.
     pub soname: Option<Bytes>,
-    /// `DT_AUXILIARY`, one each.
+    /// `DT_AUXILIARY`, one entry each.
     pub auxiliary: Items<Bytes>,
 }
 
 impl Options {
-    /// Nothing asked for.
+    /// No option is set.
     pub fn none(alloc: Global) -> Options
         ensures { result ≡ no_options }
     {

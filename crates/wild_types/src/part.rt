@@ -5,7 +5,7 @@ ghost use Rattle.wild_types.specs.Parts.{role_place, has_role, part_with};
 
 use crate::index::SectionIndex;
 
-/// What a part holds.
+/// The contents of a part.
 #[derive(Clone, Copy, Debug, PartialEq, Eq)]
 pub enum Role {
     /// Input sections.
@@ -16,7 +16,7 @@ pub enum Role {
     /// The names of the sections.
     Shstrtab,
     Got,
-    /// GOT words that are packed as RELR.
+    /// GOT words whose relative relocations are packed as RELR.
     GotRelr,
     PltGot,
     RelaPlt,
@@ -43,11 +43,11 @@ pub enum Role {
     Property,
 }
 
-/// A part of the image: a run of file bytes, addresses or both, which the groups fill one behind the other.
+/// A part of the image: a range of file bytes, of addresses or of both, which the groups fill consecutively.
 #[derive(Clone, Copy)]
 pub struct Part {
     pub role: Role,
-    /// The header index of the section that it lies in; 0 for a part of no section.
+    /// The header index of the section that contains it; 0 for a part outside all sections.
     pub section: SectionIndex,
     pub offset: u64,
     pub address: u64,
@@ -55,14 +55,14 @@ pub struct Part {
     pub align: u64,
 }
 
-/// The place of the role in the list of roles.
+/// The index of the role in the list of roles.
 pub fn place_of(role: Role) -> usize
     ensures { result ≡ role_place role }
 {
     role as usize
 }
 
-/// Whether the part is of that role.
+/// Whether the part has that role.
 pub fn has_role(role: Role, part: &Part) -> bool
     ensures { result ≡ has_role role part.now }
 {

@@ -1,12 +1,12 @@
-//! The rows of the relocation types, by the table of each machine.
+//! The rows of the relocation types, in the table of each machine.
 ghost use Rattle.std.specs.Prelude.{◌≡◌};
 ghost use Rattle.wild_types.specs.Rows.{row_of, row_width};
 
 use crate::kind::Machine;
 use wild_reloc::{RelocationKindInfo, aarch64, x86_64};
 
-/// The row of a relocation type (x86-64 psABI, "Relocation Types"; aaelf64, "Relocation types"); none where the machine's
-/// table has none.
+/// The row of a relocation type (x86-64 psABI, "Relocation Types"; aaelf64, "Relocation types"); none if the machine's table does not
+/// have the type.
 #[inline]
 #[tactic(auto, unfolding(crate::specs::Rows::row_of))]
 pub fn row_of(machine: Machine, number: u32) -> Option<RelocationKindInfo>
@@ -18,7 +18,7 @@ pub fn row_of(machine: Machine, number: u32) -> Option<RelocationKindInfo>
     }
 }
 
-/// The bytes of the field that a relocation of that type writes; 0 where it writes none, or has no row.
+/// The width in bytes of the field that a relocation of that type writes; 0 if it writes none, or has no row.
 pub fn field_bytes(machine: Machine, number: u32) -> usize
     ensures { result ≡ row_width (row_of machine number) }
 {

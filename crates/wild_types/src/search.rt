@@ -1,4 +1,4 @@
-//! Tests of items, and searches that go by them.
+//! Tests of items, and searches with them.
 ghost use Rattle.std.specs.Prelude.{◌≡◌, ◌<◌, Bool, length, IfSome};
 ghost use Rattle.std.specs.List.{list_all};
 ghost use Rattle.wild_types.specs.Lists.{first_failing};

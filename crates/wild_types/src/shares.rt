@@ -1,4 +1,4 @@
-//! A group's shares of the parts of the tables.
+//! A group's shares of the parts that hold tables.
 ghost use Rattle.std.specs.Prelude.{◌≡◌};
 ghost use Rattle.wild_types.specs.Shares.{part_of, share_of, insufficient, excessive};
 
@@ -6,7 +6,7 @@ use crate::fault::{At, Error, Fault};
 use crate::layout::Layout;
 use crate::part::{Role, has_role};
 
-/// The place of the first part of a role; the number of parts where there is none.
+/// The index of the first part of a role; the number of parts if there is none.
 pub fn part_of(layout: &Layout, role: Role) -> usize
     ensures { result ≡ part_of layout.now role }
 {
@@ -18,7 +18,7 @@ pub fn part_of(layout: &Layout, role: Role) -> usize
     layout.parts.len()
 }
 
-/// The group's share of the part of a role; 0 where there is no such group.
+/// The group's share of the part of a role; 0 if there is no such group.
 pub fn share_of(layout: &Layout, group: usize, role: Role) -> u64
     ensures { result ≡ share_of layout.now group role }
 {
@@ -28,7 +28,7 @@ pub fn share_of(layout: &Layout, group: usize, role: Role) -> u64
     }
 }
 
-/// A group's share of a part, in bytes, is smaller than what has to be written there.
+/// The error that a group's share of a part, in bytes, is smaller than the bytes that it has to hold.
 pub fn insufficient(part: usize, group: usize, given: u64, needed: u64) -> Error
     ensures { result ≡ insufficient part group given needed }
 {
@@ -43,7 +43,7 @@ pub fn insufficient(part: usize, group: usize, given: u64, needed: u64) -> Error
     }
 }
 
-/// A group's share of a part, in bytes, is larger than what has to be written there.
+/// The error that a group's share of a part, in bytes, is larger than the bytes that it has to hold.
 pub fn excessive(part: usize, group: usize, given: u64, needed: u64) -> Error
     ensures { result ≡ excessive part group given needed }
 {

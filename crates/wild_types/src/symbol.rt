@@ -1,4 +1,4 @@
-//! Symbols and what was decided of them.
+//! Symbols and their resolutions.
 ghost use Rattle.std.specs.Prelude.{⊤, ◌≡◌, ◌∷◌, [], codes};
 ghost use Rattle.wild_types.specs.Flags.{has_flag, interposable, has_link_time_address, absolute, dynamic, ifunc, undefined_weak, got_slot, plt_stub, got_tls_offset, got_tls_module, got_tls_descriptor, copy_relocation, export_dynamic, downgrade_to_local, canonical_plt, ifunc_got_for_address, canonical_plt_got_for_address};
 ghost use Rattle.wild_types.specs.SymbolSlots.{is_without, slots_at, got_of, plt_of, has_dynamic_symbol, has_thread_slot, is_own};
@@ -8,7 +8,7 @@ use crate::search::Test;
 use bitflags::{Flag, Flags, bitflag_items};
 use wild_words::Bytes;
 
-/// What is known of a symbol's value.
+/// The properties of a symbol's value, one bit each.
 #[derive(Clone, Copy)]
 pub struct ValueFlags(pub u32);
 
@@ -56,7 +56,7 @@ impl Flags for ValueFlags {
 }
 
 impl ValueFlags {
-    /// Whether another module's definition may stand in this one's place.
+    /// Whether another module's definition may replace this one at run time.
     #[tactic(auto, unfolding(crate::specs::Flags::has_flag))]
     pub fn is_interposable(self) -> bool
         ensures { result ≡ interposable self }
@@ -64,7 +64,7 @@ impl ValueFlags {
         !self.contains(ValueFlags::NON_INTERPOSABLE)
     }
 
-    /// Whether the value does not change when the image is moved.
+    /// Whether the value does not change with the load bias.
     #[tactic(auto, unfolding(crate::specs::Flags::has_flag))]
     pub fn is_absolute(self) -> bool
         ensures { result ≡ has_flag self absolute }
@@ -80,7 +80,7 @@ impl ValueFlags {
         self.contains(ValueFlags::DYNAMIC)
     }
 
-    /// Whether the value is that of a function that answers where the code is.
+    /// Whether the symbol is an IFUNC: its value is the address of a resolver, which returns the address of the code.
     #[tactic(auto, unfolding(crate::specs::Flags::has_flag))]
     pub fn is_ifunc(self) -> bool
         ensures { result ≡ has_flag self ifunc }
@@ -88,7 +88,7 @@ impl ValueFlags {
         self.contains(ValueFlags::IFUNC)
     }
 
-    /// Whether nothing defines the symbol, and nothing has to.
+    /// Whether the symbol is undefined and weak, so that no definition is needed.
     #[tactic(auto, unfolding(crate::specs::Flags::has_flag))]
     pub fn is_undefined_weak(self) -> bool
         ensures { result ≡ has_flag self undefined_weak }
@@ -96,7 +96,7 @@ impl ValueFlags {
         self.contains(ValueFlags::UNDEFINED_WEAK)
     }
 
-    /// Whether a slot has the symbol's address.
+    /// Whether a GOT slot holds the symbol's address.
     #[tactic(auto, unfolding(crate::specs::Flags::has_flag))]
     pub fn needs_got(self) -> bool
         ensures { result ≡ has_flag self got_slot }
@@ -104,7 +104,7 @@ impl ValueFlags {
         self.contains(ValueFlags::GOT)
     }
 
-    /// Whether a stub goes on to the symbol.
+    /// Whether the symbol has a PLT stub.
     #[tactic(auto, unfolding(crate::specs::Flags::has_flag))]
     pub fn needs_plt(self) -> bool
         ensures { result ≡ has_flag self plt_stub }
@@ -112,7 +112,7 @@ impl ValueFlags {
         self.contains(ValueFlags::PLT)
     }
 
-    /// Whether a slot has the symbol's offset from the thread pointer.
+    /// Whether a GOT slot holds the symbol's offset from the thread pointer.
     #[tactic(auto, unfolding(crate::specs::Flags::has_flag))]
     pub fn needs_got_tls_offset(self) -> bool
         ensures { result ≡ has_flag self got_tls_offset }
@@ -120,7 +120,7 @@ impl ValueFlags {
         self.contains(ValueFlags::GOT_TLS_OFFSET)
     }
 
-    /// Whether a pair of slots has the symbol's module and its offset there.
+    /// Whether a pair of GOT slots holds the symbol's module and its offset in that module.
     #[tactic(auto, unfolding(crate::specs::Flags::has_flag))]
     pub fn needs_got_tls_module(self) -> bool
         ensures { result ≡ has_flag self got_tls_module }
@@ -128,7 +128,7 @@ impl ValueFlags {
         self.contains(ValueFlags::GOT_TLS_MODULE)
     }
 
-    /// Whether a pair of slots is the symbol's descriptor.
+    /// Whether a pair of GOT slots is the symbol's TLS descriptor.
     #[tactic(auto, unfolding(crate::specs::Flags::has_flag))]
     pub fn needs_got_tls_descriptor(self) -> bool
         ensures { result ≡ has_flag self got_tls_descriptor }
@@ -144,7 +144,7 @@ impl ValueFlags {
         self.contains(ValueFlags::COPY_RELOCATION)
     }
 
-    /// Whether the dynamic symbol table has the symbol, for other modules.
+    /// Whether the dynamic symbol table exports the symbol to other modules.
     #[tactic(auto, unfolding(crate::specs::Flags::has_flag))]
     pub fn needs_export_dynamic(self) -> bool
         ensures { result ≡ has_flag self export_dynamic }
@@ -152,7 +152,7 @@ impl ValueFlags {
         self.contains(ValueFlags::EXPORT_DYNAMIC)
     }
 
-    /// Whether the symbol table has the symbol as a local one.
+    /// Whether the symbol table lists the symbol as a local one.
     #[tactic(auto, unfolding(crate::specs::Flags::has_flag))]
     pub fn is_downgraded_to_local(self) -> bool
         ensures { result ≡ has_flag self downgrade_to_local }
@@ -160,7 +160,7 @@ impl ValueFlags {
         self.contains(ValueFlags::DOWNGRADE_TO_LOCAL)
     }
 
-    /// Whether the stub's address is the symbol's address in each module.
+    /// Whether the stub's address is the symbol's address in every module.
     #[tactic(auto, unfolding(crate::specs::Flags::has_flag))]
     pub fn needs_canonical_plt(self) -> bool
         ensures { result ≡ has_flag self canonical_plt }
@@ -168,7 +168,7 @@ impl ValueFlags {
         self.contains(ValueFlags::CANONICAL_PLT)
     }
 
-    /// Whether a second slot has the stub's address, for references to the address of an IFUNC.
+    /// Whether a second slot holds the stub's address, for references to the address of an IFUNC.
     #[tactic(auto, unfolding(crate::specs::Flags::has_flag))]
     pub fn needs_ifunc_got_for_address(self) -> bool
         ensures { result ≡ has_flag self ifunc_got_for_address }
@@ -176,7 +176,7 @@ impl ValueFlags {
         self.contains(ValueFlags::IFUNC_GOT_FOR_ADDRESS)
     }
 
-    /// Whether a second slot has the address of the canonical stub.
+    /// Whether a second slot holds the address of the canonical stub.
     #[tactic(auto, unfolding(crate::specs::Flags::has_flag))]
     pub fn needs_canonical_plt_got_for_address(self) -> bool
         ensures { result ≡ has_flag self canonical_plt_got_for_address }
@@ -184,7 +184,7 @@ impl ValueFlags {
         self.contains(ValueFlags::CANONICAL_PLT_GOT_FOR_ADDRESS)
     }
 
-    /// Whether the value is an address in this output: neither one that does not move, nor another module's.
+    /// Whether the value is an address in this output: neither absolute nor in another module.
     pub fn has_link_time_address(self) -> bool
         ensures { result ≡ has_link_time_address self }
     {
@@ -192,7 +192,7 @@ impl ValueFlags {
     }
 }
 
-/// Where a symbol stands.
+/// Where a symbol is defined.
 #[derive(Clone, Copy)]
 pub enum Place {
     Undefined,
@@ -204,7 +204,7 @@ pub enum Place {
     Output(SectionIndex),
 }
 
-/// What was decided of a symbol.
+/// The resolution of a symbol: its value, slots and stub.
 #[derive(Clone, Copy)]
 pub struct Resolution {
     pub raw_value: u64,
@@ -222,7 +222,7 @@ pub struct Resolution {
 #[derive(Drop)]
 pub struct Symbol {
     pub name: Bytes,
-    /// The symbol that defines it, where that is another.
+    /// The symbol that defines it, if that is another one.
     pub definition: Option<SymbolIndex>,
     pub info: u8,
     pub other: u8,
@@ -231,7 +231,7 @@ pub struct Symbol {
     pub place: Place,
     pub flags: ValueFlags,
     pub version: u16,
-    /// Whether `.symtab` has it.
+    /// Whether `.symtab` contains it.
     pub emit: bool,
     pub resolution: Option<Resolution>,
 }
@@ -250,7 +250,7 @@ pub fn plt_of(symbol: &Symbol) -> Option<u64>
     symbol.resolution?.plt_address
 }
 
-/// Whether a loader looks the symbol up.
+/// Whether a loader looks the symbol up by name.
 pub fn has_dynamic_symbol(flags: ValueFlags) -> bool
     ensures { result ≡ has_dynamic_symbol flags }
 {
@@ -272,7 +272,7 @@ pub fn is_without(symbol: &Symbol) -> bool
 }
 
 impl Symbol {
-    /// Where the words of the symbol's slots begin; 0 where it has none.
+    /// The address of the first of the symbol's slots; 0 if it has none.
     pub fn slots_at(&self) -> u64
         ensures { result ≡ slots_at self.now }
     {
@@ -280,7 +280,7 @@ impl Symbol {
     }
 }
 
-/// Whether no other symbol defines the symbol of that number.
+/// Whether no other symbol defines the symbol with that number.
 pub(crate) fn is_own(symbol: &Symbol, index: usize) -> bool
     ensures { result ≡ is_own symbol.now.definition index }
 {
@@ -290,7 +290,7 @@ pub(crate) fn is_own(symbol: &Symbol, index: usize) -> bool
     }
 }
 
-/// A symbol has no slot.
+/// The test that a symbol has no slot.
 pub struct IsWithout;
 
 impl Test<Symbol> for IsWithout {

@@ -1,11 +1,11 @@
-//! What is said of an image beside its bytes.
+//! Warnings about an image that is written nevertheless.
 use crate::index::SymbolIndex;
 
-/// The entry is a symbol without an address. Symbols are places in the list of symbols.
+/// The entry point is a symbol without an address. Symbols are indexes into the list of symbols.
 #[derive(Clone, Copy, Debug, PartialEq, Eq)]
 pub enum EntryWarning {
-    /// The image begins at the start of `.text` instead.
+    /// Execution begins at the start of `.text` instead.
     Defaulted { symbol: SymbolIndex, address: u64 },
-    /// `.text` is empty, and the image has no entry.
+    /// `.text` is empty, so the image has no entry point.
     EmptyText { symbol: SymbolIndex },
 }
