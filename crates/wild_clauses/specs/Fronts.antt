@@ -82,8 +82,8 @@ identity_is_alone l = length l.identity.bytes == 0 || not (list_any (stands_in_f
 abbrev pub keeps_tables : Layout → Bool
 keeps_tables l = not (l.options.only_keep_debug && is_partial_link l.kind)
 
--- a debug-only image has no dynamic section: a loader would look there for tables that were not written. Since sections of notes are
--- written (gABI, "Sections": SHT_NOTE), the dynamic section is in none
+-- a debug-only image has no dynamic section: a loader would look there for tables that were not written. Since sections of notes
+-- are written (gABI, "Sections": SHT_NOTE), the dynamic section is in none
 abbrev pub dynamic_is_dropped : Layout → Part → Bool
 dynamic_is_dropped l p = not (l.options.only_keep_debug && (has_role role.Dynamic p && kind_at l p.section == sht_note))
 

@@ -52,8 +52,8 @@ rest_of_table parts p = if has_role role.RelaDynRelative p then part_with role.R
 abbrev pub is_asked_whole : Layout → Role → Bool
 is_asked_whole l r = is_table_role r || (is_look_up_role r && has_hashes l)
 
--- the file bytes of the segment include those of the part, and address minus offset is the same for both; if the part's section is omitted,
--- the segment includes its addresses
+-- the file bytes of the segment include those of the part, and address minus offset is the same for both; if the part's section is
+-- omitted, the segment includes its addresses
 abbrev pub holds_part : Layout → Part → Segment → Bool
 holds_part l p g =
     if is_hollow_at l p.section

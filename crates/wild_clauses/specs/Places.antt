@@ -137,8 +137,8 @@ within a n b m = nat_le a b && nat_le (b + m) (a + n)
 abbrev pub is_level : Section → Part → Bool
 is_level s p = nat_le s.address p.address && p.address + s.offset == p.offset + s.address
 
--- the part lies in the section: by its file bytes, and in an allocated section with the same address minus offset; in a section without
--- file bytes by its addresses
+-- the part lies in the section: by its file bytes, and in an allocated section with the same address minus offset; in a section
+-- without file bytes by its addresses
 abbrev pub lies_in : Layout → Section → Part → Bool
 lies_in l s p =
     if fills_file l s

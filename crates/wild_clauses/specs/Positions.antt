@@ -1,5 +1,5 @@
--- Positions in the dynamic symbol table, counted in one walk over files and symbols. The walk carries the next symbol and the number of
--- undefined entries before it. It ends early at a symbol whose index is not its position.
+-- Positions in the dynamic symbol table, counted in one walk over files and symbols. The walk carries the next symbol and the
+-- number of undefined entries before it. It ends early at a symbol whose index is not its position.
 --   run_walk ds n role i c ss   symbols of one file, from number i on, after c of n undefined entries
 --   file_walk, files_walk, groups_walk   symbols up to the end of a file's range, and so on
 --   whole_walk l n              all symbols
@@ -25,7 +25,8 @@ abbrev pub lists : ℕ → Option DynamicSymbol → Bool
 lists i None = false
 lists i (Some d) = d.symbol == i
 
--- position p is that of symbol i: of its undefined entry, which comes next after c others, or of its listed entry after all n undefined ones
+-- position p is that of symbol i: of its undefined entry, which comes next after c others, or of its listed entry after all n
+-- undefined ones
 abbrev pub is_at : List DynamicSymbol → ℕ → Bool → ℕ → ℕ → ℕ → Bool
 is_at ds n entry c i p = (entry && p == c + 1) || (nat_lt n p && lists i (slice_get ds (p - 1 - n)))
 

@@ -1,6 +1,6 @@
 -- Properties of a layout that are computed once, before its clauses are tested.
---   IsSeen l s   s says whether each group passes, whether files are ordinary and no section is merged, how many relocations there are, and
---                whether the inner groups contribute to no table
+--   IsSeen l s   s has these: whether each group passes, whether all files are ordinary, whether no section has merged strings,
+--                how many relocations there are, and whether the inner groups contribute to no table
 use Rattle.std.specs.Prelude.{◌≡◌, ◌-◌, ◌^◌, min}
 use Rattle.wild_types.specs.declared.layout.Layout.{Layout}
 use Rattle.wild_needs.specs.Needs.{is_bare_inside}

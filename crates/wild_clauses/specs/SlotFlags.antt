@@ -1,6 +1,6 @@
--- Clause 14: a symbol's flags agree with its slots and its stub (x86-64 psABI, "Global Offset Table (GOT)", "Procedure Linkage Table"; ELF
--- Handling For Thread-Local Storage). A symbol is not tested if another one defines it and it has no resolution of its own: its flags are
--- never used.
+-- Clause 14: a symbol's flags agree with its slots and its stub (x86-64 psABI, "Global Offset Table (GOT)", "Procedure Linkage
+-- Table"; ELF Handling For Thread-Local Storage). A symbol is not tested if another one defines it and it has no resolution of its
+-- own: its flags are never used.
 --   is_asked l i s                 symbol i is tested
 --   first_asked_failing l t i ss   the number of the first tested symbol that fails, counted from i on
 --   takes_block_word l s           the slot is in the block of slots that RELR relocates

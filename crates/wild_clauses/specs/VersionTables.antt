@@ -28,7 +28,8 @@ is_below n (Some p) = nat_lt p n
 abbrev pub parent_is_there : Layout → VersionDefinition → Bool
 parent_is_there l d = is_below (length l.verdefs) d.parent
 
--- the first version is the output's own name and has no parent; a later version's parent, if any, comes before it and is not the first
+-- the first version is the output's own name and has no parent; a later version's parent, if any, comes before it and is not the
+-- first
 abbrev pub parent_fits : ℕ → Option ℕ → Bool
 parent_fits i None = true
 parent_fits i (Some p) = nat_lt 0 p && nat_lt p i

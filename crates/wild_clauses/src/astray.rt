@@ -1,5 +1,5 @@
-//! The first symbol whose definition or place does not exist. If the files' symbol ranges ascend, one parallel pass over symbols and
-//! files finds it; else the file of each symbol is searched for.
+//! The first symbol whose definition or place does not exist. If the files' symbol ranges ascend, one parallel pass over symbols
+//! and files finds it; else the file of each symbol is searched for.
 ghost use Rattle.std.specs.Prelude.{◌≡◌, ◌+◌, ◌^◌, ◌<◌, None, is_some, length, true};
 ghost use Rattle.wild_clauses.specs.Astray.{range_lies, ranges_lie, all_ranges_lie, gap_astray, range_astray, file_walk, files_walk, groups_walk, walk_end, count_in};
 ghost use Rattle.wild_clauses.specs.Indexes.{index_fits, place_fits, symbol_indexes_fit, section_count, symbol_misfit};

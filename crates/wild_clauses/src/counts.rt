@@ -42,8 +42,8 @@ fn most_entries(layout: &Layout) -> usize
     symbols_of_groups(layout.groups.as_slice()).saturating_add(layout.dynsyms.len())
 }
 
-/// Whether that table is not too long. If the files' ranges are in order, they have no more symbols than the layout, and its entries
-/// need not be counted.
+/// Whether that table is not too long. If the files' ranges are in order, they have no more symbols than the layout, and its
+/// entries need not be counted.
 #[tactic(auto, using(crate::proofs::CountLemmas::few_in_order, crate::proofs::CountLemmas::few_entries))]
 fn table_fits(layout: &Layout, lie: bool) -> bool
     requires { lie ≡ is_some (all_ranges_lie (length layout.now.symbols) 0 layout.now.groups) }
@@ -88,7 +88,8 @@ fn counts_fit(layout: &Layout, lie: bool, needs: u64, relocations: u64) -> bool
         && versions_fit(layout, needs)
 }
 
-/// The caller knows whether the files' symbol ranges are in order (`lie`), and how many libraries with versions and relocations there are.
+/// The caller knows whether the files' symbol ranges are in order (`lie`), and how many libraries with versions and relocations
+/// there are.
 #[tactic(auto, unfolding(crate::specs::ClauseTests::check_counts))]
 pub(crate) fn check_counts(
     layout: &Layout,

@@ -60,8 +60,8 @@ fn fits_at(
     }
 }
 
-/// The number of undefined entries after these symbols of a file of that role; `count` of them come before, and the first symbol has
-/// number `first`. Else the first symbol whose index is not its position.
+/// The number of undefined entries after these symbols of a file of that role; `count` of them come before, and the first symbol
+/// has number `first`. Else the first symbol whose index is not its position.
 fn walk_run(
     layout: &Layout,
     undefined: usize,
@@ -88,8 +88,8 @@ fn walk_run(
     Ok(count)
 }
 
-/// The next symbol after the file's range, and the number of undefined entries before that symbol; else the first symbol whose index
-/// is not its position.
+/// The next symbol after the file's range, and the number of undefined entries before that symbol; else the first symbol whose
+/// index is not its position.
 fn walk_file(
     layout: &Layout,
     undefined: usize,

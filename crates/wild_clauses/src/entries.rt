@@ -171,8 +171,8 @@ fn is_asked_whole(layout: &Layout, hashes: bool, role: Role) -> bool
     has_entries || is_looked_up && hashes
 }
 
-/// Whether the segment includes the bytes of the part, with the same address minus offset; if the part's section is omitted, whether it
-/// includes the part's addresses.
+/// Whether the segment includes the bytes of the part, with the same address minus offset; if the part's section is omitted,
+/// whether it includes the part's addresses.
 fn holds_part(layout: &Layout, part: &Part, segment: &Segment) -> bool
     ensures { result ≡ holds_part layout.now part.now segment.now }
 {

@@ -18,8 +18,8 @@ fn sysv_fits(shape: Option<SysvHash>) -> bool
     }
 }
 
-/// Whether the table has a bucket, a word of its Bloom filter and a shift of less than 32 bits, and begins with the first symbol that
-/// is defined.
+/// Whether the table has a bucket, a word of its Bloom filter and a shift of less than 32 bits, and begins with the first symbol
+/// that is defined.
 fn gnu_shape_fits(layout: &Layout, shape: GnuHash) -> bool
     requires indexes { check_indexes layout.now ≡ Ok tt }
     ensures { result ≡ gnu_shape_fits layout.now shape }

@@ -87,7 +87,8 @@ impl Test<InputSection> for FramesPartFits<'_> {
     }
 }
 
-/// Whether the part of that number can contain bytes: it is raw, and in a section with data unless `none` says that there are no bytes.
+/// Whether the part of that number can contain bytes: it is raw, and in a section with data unless `none` says that there are no
+/// bytes.
 fn holds_bytes(layout: &Layout, none: bool, part: usize) -> bool
     ensures { result ≡ holds_bytes layout.now none (slice_get layout.now.parts part) }
 {
@@ -97,7 +98,8 @@ fn holds_bytes(layout: &Layout, none: bool, part: usize) -> bool
     }
 }
 
-/// Every section that is neither discarded nor of frames is in a raw part. So are merged strings, in a section with data if they have bytes.
+/// Every section that is neither discarded nor of frames is in a raw part. So are merged strings, in a section with data if they
+/// have bytes.
 #[derive(Clone, Copy)]
 struct PartIsRaw<'a> {
     layout: &'a Layout,
@@ -162,8 +164,8 @@ fn has_room(slot: Slot) -> bool
     matches!(slot, Slot::Loaded | Slot::Sorted | Slot::Frame)
 }
 
-/// Whether a section that is written is allocated exactly if its part's section, of index `home`, is. Relocatable objects pass: they have
-/// no addresses.
+/// Whether a section that is written is allocated exactly if its part's section, of index `home`, is. Relocatable objects pass:
+/// they have no addresses.
 fn allocation_agrees(layout: &Layout, home: SectionIndex, section: &InputSection) -> bool
     requires { home ≡ section_of layout.now section.now.part }
     ensures { result ≡ allocation_agrees layout.now section.now }

@@ -1,5 +1,5 @@
-//! Clause 13: the listed symbols of the dynamic symbol table. The file of a symbol is searched for only if a section can have a header
-//! index that is too large for a symbol.
+//! Clause 13: the listed symbols of the dynamic symbol table. The file of a symbol is searched for only if a section can have a
+//! header index that is too large for a symbol.
 ghost use Rattle.std.specs.Prelude.{◌≡◌, nat_lt, length, slice_get, Some};
 ghost use Rattle.wild_needs.specs.DynamicSymbols.{dynsym_of, undefined_entries, symbol_sections, output_section, section_of_input, is_position, listed_fits, misfit, first_listed};
 ghost use Rattle.wild_types.specs.Lookups.{files_of, file_of};
@@ -84,7 +84,8 @@ impl Test<Symbol> for IsBelow {
     }
 }
 
-/// Whether no symbol can be in a section whose header index is too large for it. The file of a symbol is searched for only if one can.
+/// Whether no symbol can be in a section whose header index is too large for it. The file of a symbol is searched for only if one
+/// can.
 fn all_below(layout: &Layout) -> bool
     ensures { result ≡ all_below layout.now }
 {

@@ -38,8 +38,8 @@ impl Side {
     }
 }
 
-/// Whether the segment loads the byte of the section at that address. If the section has file bytes, address minus offset must be the
-/// same for both.
+/// Whether the segment loads the byte of the section at that address. If the section has file bytes, address minus offset must be
+/// the same for both.
 fn has_byte(
     side: Side,
     layout: &Layout,
@@ -100,8 +100,8 @@ fn pass(segments: &[Segment], next: usize, address: u128) -> usize
     next
 }
 
-/// The segment to continue with for a section at that address: searched from `next` on, or from the first segment if the section begins
-/// before `low`.
+/// The segment to continue with for a section at that address: searched from `next` on, or from the first segment if the section
+/// begins before `low`.
 #[tactic(auto, using(crate::proofs::CoverLemmas::passed_later))]
 fn go_on(segments: &[Segment], next: usize, low: u64, address: u64) -> usize
     requires there { next ≤ length segments.now }

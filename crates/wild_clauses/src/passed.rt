@@ -1,5 +1,5 @@
-//! One pass over all groups that evaluates every test on a single file. If all pass, clauses 1, 7 to 10 and 19 to 21 need not repeat these
-//! tests. The same pass computes what other clauses need of all files.
+//! One pass over all groups that evaluates every test on a single file. If all pass, clauses 1, 7 to 10 and 19 to 21 need not
+//! repeat these tests. The same pass computes what other clauses need of all files.
 ghost use Rattle.std.specs.Prelude.{◌≡◌, ◌-◌, ◌^◌, true, None, min};
 ghost use Rattle.wild_types.specs.Lists.{first_failing};
 ghost use Rattle.wild_clauses.specs.Passed.{relocation_passes, section_passes, groups_pass};
@@ -61,9 +61,9 @@ impl Test<InputSection> for Passes<'_> {
     }
 }
 
-/// What one pass over groups computes: whether each group passes, whether each file is ordinary, whether no section has merged strings, and
-/// the number of relocations, at most 2^64 - 1. A file is ordinary if it has no copies and no sorted section, and no versions are needed
-/// from it.
+/// What one pass over groups computes: whether each group passes, whether each file is ordinary, whether no section has merged
+/// strings, and the number of relocations, at most 2^64 - 1. A file is ordinary if it has no copies and no sorted section, and no
+/// versions are needed from it.
 #[derive(Clone, Copy)]
 pub struct Survey {
     pub passed: bool,

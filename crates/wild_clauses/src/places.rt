@@ -23,8 +23,8 @@ pub(crate) fn earlier(left: Option<usize>, right: Option<usize>) -> Option<usize
     }
 }
 
-/// Moves the cursor of a part after a section with bytes, if the section is in one of the parts from number `part` on; false if the section
-/// is misplaced.
+/// Moves the cursor of a part after a section with bytes, if the section is in one of the parts from number `part` on; false if the
+/// section is misplaced.
 #[tactic(auto, using(crate::proofs::BlockLemmas::before_all, crate::proofs::BlockLemmas::behind_all))]
 fn pass_bytes(part: usize, ends: &[u64], cursors: &mut [u64], section: &InputSection) -> bool
     requires { length ends.now ≡ length cursors.old }
@@ -221,7 +221,8 @@ fn block_misplaced(layout: &Layout, part: usize, block: &[Part]) -> Option<usize
     misplaced_from(layout, part, starts, cursors)
 }
 
-/// The place of the first group with a misplaced input section. Requires that parts end below 2^62, and that shares add up to their sizes.
+/// The place of the first group with a misplaced input section. Requires that parts end below 2^62, and that shares add up to their
+/// sizes.
 pub(crate) fn section_misplaced(layout: &Layout) -> Option<usize>
     requires sizes { check_sizes layout.now ≡ Ok tt }
     requires shares { check_shares layout.now ≡ Ok tt }

@@ -158,8 +158,8 @@ fn slot_before(layout: &Layout, from: usize, to: usize) -> Option<usize>
     Some(from + found)
 }
 
-/// The free places after the symbols of a file; or the first symbol whose slots or stub are not the next free ones, or that has a slot
-/// that no file writes.
+/// The free places after the symbols of a file; or the first symbol whose slots or stub are not the next free ones, or that has a
+/// slot that no file writes.
 fn file_step(layout: &Layout, next: Free, file: &File) -> Result<Free, usize>
     requires small { IsBounded next }
     ensures is { result ≡ file_step layout.now next file.now }
@@ -219,8 +219,8 @@ impl Test<Symbol> for HasNoPlaces {
     }
 }
 
-/// The first symbol whose slots or stub are not the next free ones, or that has a slot that no file writes. Files are visited only if a
-/// symbol has a slot or a stub.
+/// The first symbol whose slots or stub are not the next free ones, or that has a slot that no file writes. Files are visited only
+/// if a symbol has a slot or a stub.
 #[tactic(auto, using(crate::proofs::PlacelessLemmas::none_astray, crate::proofs::SimpleLemmas::simple_astray))]
 fn slots_astray(layout: &Layout, simple: bool) -> Option<usize>
     requires indexes { check_indexes layout.now ≡ Ok tt }

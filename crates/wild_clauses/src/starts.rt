@@ -139,7 +139,8 @@ impl Test<Group> for BeginsAtFront {
     }
 }
 
-/// The first group whose shares do not begin where those of earlier groups end. If none of the parts exists, shares are not added up.
+/// The first group whose shares do not begin where those of earlier groups end. If none of the parts exists, shares are not added
+/// up.
 #[tactic(auto, using(crate::proofs::StartLemmas::none_begins))]
 fn first_astray(places: Starts<Option<usize>>, groups: &[Group]) -> Option<usize>
     ensures { result ≡ start_astray places no_starts 0 groups.now }

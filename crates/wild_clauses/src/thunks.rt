@@ -98,8 +98,8 @@ fn block_step(block: usize, end: u128, at: u128, thunks: &[Thunk]) -> Result<u12
     behind_thunks(block, end, (at + 3) / 4 * 4, thunks)
 }
 
-/// The place after a section with bytes, if the section is in the primary part; the number of its group if the section begins before the
-/// free place.
+/// The place after a section with bytes, if the section is in the primary part; the number of its group if the section begins
+/// before the free place.
 fn step_bytes(primary: usize, group: usize, at: u128, section: &InputSection) -> Result<u128, usize>
     requires { at ≤ 2 ^ 65 }
     ensures is { result ≡ bytes_step primary group at section.now }

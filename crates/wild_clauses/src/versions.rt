@@ -98,7 +98,8 @@ impl Test<VersionDefinition> for ParentIsThere<'_> {
     }
 }
 
-/// The first version is the output's own name and has no parent; a later version's parent, if any, comes before it and is not the first.
+/// The first version is the output's own name and has no parent; a later version's parent, if any, comes before it and is not the
+/// first.
 fn parent_fits(place: usize, parent: Option<usize>) -> bool
     ensures { result ≡ parent_fits place parent }
 {
