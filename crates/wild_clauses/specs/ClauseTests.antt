@@ -1,7 +1,7 @@
--- The clauses of a well-formed layout, one by one. The tests of a clause stand in the order in which they are
--- asked.
---   fails n place    clause n fails at that place, where there is one
---   first_error r s  the first answer where it is an error, else the second
+-- The clauses of a well-formed layout, one by one. The tests of a clause are listed in the order in which they are
+-- evaluated.
+--   fails n place    clause n fails at that place, if there is one
+--   first_error r s  the first result if it is an error, else the second
 --   check_sizes l    clause 1, and so on
 use Rattle.std.specs.Prelude.{ℕ, true, [], drop, length, if◌then◌else◌, Option, Some, None, Result, Ok, Err}
 use Rattle.std.specs.Int.{is_power_of_two}
@@ -33,12 +33,12 @@ use Rattle.wild_clauses.specs.Thunks.{ascends, thunks_misplaced, block_lost, mac
 use Rattle.wild_clauses.specs.GroupStarts.{start_places, no_starts, start_astray}
 use Rattle.wild_clauses.specs.ZeroFree.{name_fits, option_names_fit, section_name_fits, symbol_name_fits, group_names_fit, listed_name_fits, definition_name_fits, interp_fits}
 
--- clause n fails at that place, where there is one
+-- clause n fails at that place, if there is one
 abbrev pub fails : ℕ → Option ℕ → Result (Unit {0}) Clause
 fails n None = Ok tt
 fails n (Some i) = Err (record { clause = n; index = i })
 
--- the first answer where it is an error, else the second
+-- the first result if it is an error, else the second
 abbrev pub first_error : Result (Unit {0}) Clause → Result (Unit {0}) Clause → Result (Unit {0}) Clause
 first_error (Err e) rest = Err e
 first_error (Ok u) rest = rest
@@ -107,7 +107,7 @@ check_shares l =
     (first_error (fails 7 (first_failing (has_share_for_each_part (length l.parts)) 0 l.groups))
     (fails 7 (file_misplaced true 0 l.groups)))
 
--- clause 8: merged strings and the linker's name of itself lie in raw parts
+-- clause 8: merged strings and the linker's identity string lie in raw parts
 abbrev pub once_fits : Layout → Result (Unit {0}) Clause
 once_fits l = first_error (fails 8 (first_failing (merged_is_raw l) 0 l.merged)) (fails 8 (unless (identity_is_raw l)))
 
@@ -151,7 +151,7 @@ check_fields l =
     first_error (fails 10 (first_failing (each_section (fields_lie l.machine)) 0 l.groups))
     (fails 10 (first_failing (each_section relocations_are_read) 0 l.groups))
 
--- clause 11: where slots and stubs stand
+-- clause 11: addresses of slots and stubs
 unfoldable pub check_slots : Layout → Result (Unit {0}) Clause
 check_slots l =
     first_error (fails 11 (slots_astray l))
@@ -160,7 +160,7 @@ check_slots l =
     (first_error (fails 11 (unless (pair_follows l)))
     (fails 11 (first_failing block_has_base 0 l.parts)))))
 
--- clause 12: where thunks stand
+-- clause 12: addresses of thunks
 unfoldable pub check_thunks : Layout → Result (Unit {0}) Clause
 check_thunks l =
     first_error (fails 12 (first_failing ascends 0 l.thunk_blocks))
@@ -225,7 +225,7 @@ check_names l =
 unfoldable pub check_reversed : Layout → Result (Unit {0}) Clause
 check_reversed l = fails 20 (first_failing (each_section (reversed_fits l.machine)) 0 l.groups)
 
--- clause 21: what only relocatable objects have, and what they have not
+-- clause 21: what is allowed only in a relocatable object, and what is not allowed there
 unfoldable pub check_partial : Layout → Result (Unit {0}) Clause
 check_partial l =
     first_error (fails 21 (unless (has_no_segments l)))
@@ -240,7 +240,7 @@ check_partial l =
     (first_error (fails 21 (first_failing (each_section group_fits_members) 0 l.groups))
     (fails 21 (first_failing (each_section table_has_data) 0 l.groups)))))))))))
 
--- clause 22: merged strings, the linker's name of itself, properties
+-- clause 22: merged strings, the linker's identity string, properties
 unfoldable pub check_fronts : Layout → Result (Unit {0}) Clause
 check_fronts l =
     first_error (fails 22 (merged_fill l))

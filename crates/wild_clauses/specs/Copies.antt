@@ -1,11 +1,11 @@
--- Copies, one after another: their definitions are marked window by window.
+-- Copies: two of them may not have the same definition. Definitions are marked window by window.
 --   copied_of l f                the definitions of the symbols that a file has copied
---   windows_of n xs              how many windows of 65536 numbers there are up to the last of these, and n at least
---   marked start marks d         the marks of the numbers from start on, with that of d; none where it is marked
---   first_marked l start ..      the first group with a definition that was marked
---   lies_between a b d           whether a number lies from a on and below b
---   new_between a b earlier xs   no two of those that lie so are one, nor is one among the earlier ones
---   again_between l a b ..       the first group that copies a symbol again whose number lies so
+--   windows_of n xs              the number of windows of 65536 symbols up to the last of these, at least n
+--   marked start marks d         the marks of the numbers from start on, with that of d added; none if d was marked
+--   first_marked l start ..      the first group with a definition that was marked before
+--   lies_between a b d           a <= d < b
+--   new_between a b earlier xs   no number in that range appears twice in xs, or also among the earlier ones
+--   again_between l a b ..       the first group that copies a symbol again whose number is in that range
 use Rattle.std.specs.Prelude.{ℕ, ◌+◌, ◌-◌, ◌/◌, ◌==◌, Bool, true, false, not, ◌&&◌, nat_le, nat_lt, max, if◌then◌else◌, List, [], ◌∷◌, ◌++◌, length, get_or, slice_set, map, Option, Some, None}
 use Rattle.std.specs.List.{fold, list_any}
 use Rattle.wild_types.specs.declared.file.File.{File}
@@ -20,11 +20,11 @@ use Rattle.wild_clauses.specs.Indexes.{or_place}
 abbrev pub copied_of : Layout → File → List ℕ
 copied_of l f = map (canonical l) f.copies
 
--- how many windows there are up to the last of these, and n at least
+-- the number of windows up to the last of these, at least n
 abbrev pub windows_of : ℕ → List ℕ → ℕ
 windows_of n xs = fold (λ m d. max m (d / 65536 + 1)) n xs
 
--- the marks with that of d; none where it is marked
+-- the marks with that of d added; none if d was marked
 abbrev pub marked : ℕ → List Bool → ℕ → Option (List Bool)
 marked start marks d =
     if nat_lt d start
@@ -35,21 +35,21 @@ marked start marks d =
     then None
     else Some (slice_set marks (d - start) true)
 
--- the first group with a definition that was marked
+-- the first group with a definition that was marked before
 abbrev pub first_marked : Layout → ℕ → List Bool → ℕ → List Group → Option ℕ
 first_marked l start marks i [] = None
 first_marked l start marks i (g ∷ gs) = or_place i (through (marked start) marks (copied_in l g)) (λ next. first_marked l start next (i + 1) gs)
 
--- whether a number lies from a on and below b
+-- a <= d < b
 abbrev pub lies_between : ℕ → ℕ → ℕ → Bool
 lies_between a b d = nat_le a d && nat_lt d b
 
--- no two of those that lie from a on and below b are one, nor is one among the earlier ones
+-- no number from a on and below b appears twice, or also among the earlier ones
 abbrev pub new_between : ℕ → ℕ → List ℕ → List ℕ → Bool
 new_between a b earlier [] = true
 new_between a b earlier (c ∷ cs) = not (lies_between a b c && list_any (λ d. d == c) earlier) && new_between a b (earlier ++ c ∷ []) cs
 
--- the first group that copies a symbol again whose number lies from a on and below b
+-- the first group that copies a symbol again whose number is from a on and below b
 abbrev pub again_between : Layout → ℕ → ℕ → List ℕ → ℕ → List Group → Option ℕ
 again_between l a b earlier i [] = None
 again_between l a b earlier i (g ∷ gs) = if new_between a b earlier (copied_in l g) then again_between l a b (earlier ++ copied_in l g) (i + 1) gs else Some i

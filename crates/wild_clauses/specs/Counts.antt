@@ -1,8 +1,8 @@
--- Clause 2: counts; and the roles of clause 4 that have to be there.
+-- Clause 2: counts; and clause 4: the roles that need a part.
 --   lists_fit l       no list is too long
---   table_fits l      the dynamic symbol table is not
---   counts_fit l      and no string table
---   role_given l r    a part of role r is there, or nothing has to be written in one
+--   table_fits l      the dynamic symbol table is not too long
+--   counts_fit l      no string table is too long either
+--   role_given l r    a part of role r exists, or no bytes have to be written in one
 use Rattle.std.specs.Prelude.{ℕ, ◌-◌, ◌^◌, ◌==◌, Bool, ◌&&◌, ◌||◌, nat_lt, nat_le, length}
 use Rattle.std.specs.List.{list_any}
 use Rattle.wild_types.specs.declared.file.File.{File}
@@ -41,6 +41,6 @@ counts_fit l =
     lists_fit l && nat_lt (name_bytes l) (2 ^ 32)
     && nat_lt (total_share l role.Dynstr) (2 ^ 32) && nat_lt (total_share l role.Strtab) (2 ^ 32) && versions_fit l
 
--- a part of that role is there, or nothing has to be written in one
+-- a part of that role exists, or no bytes have to be written in one
 abbrev pub role_given : Layout → Role → Bool
 role_given l r = list_any (has_role r) l.parts || total_share l r == 0

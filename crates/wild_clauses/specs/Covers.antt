@@ -1,6 +1,6 @@
--- The bytes of a section and the segments, side by side.
---   is_passed a g          the segment loads nothing at address a or behind it
---   covers side l s a gs   the segments have the section's bytes from address a on, one segment behind the other
+-- The bytes of a section and the segments that load them.
+--   is_passed a g          the segment loads no byte at address a or higher
+--   covers side l s a gs   consecutive segments load all bytes of the section from address a on
 use Rattle.std.specs.Prelude.{ℕ, ◌+◌, ◌==◌, Bool, true, false, not, ◌&&◌, if◌then◌else◌, nat_lt, nat_le, List, [], ◌∷◌}
 use Rattle.wild_records.specs.Abi.Segment.{pt_load}
 use Rattle.wild_types.specs.declared.section.Section.{Section}
@@ -9,11 +9,11 @@ use Rattle.wild_types.specs.declared.layout.Layout.{Layout}
 use Rattle.wild_clauses.specs.declared.loaded.Side.{Side}
 use Rattle.wild_clauses.specs.Segments.{size_on, has_byte}
 
--- the segment loads nothing at address a or behind it
+-- the segment loads no byte at address a or higher
 abbrev pub is_passed : ℕ → Segment → Bool
 is_passed a g = not (g.kind == pt_load && nat_lt a (g.address + g.mem_size))
 
--- the segments have the section's bytes from address a on, one segment behind the other
+-- consecutive segments load all bytes of the section from address a on
 abbrev pub covers : Side → Layout → Section → ℕ → List Segment → Bool
 covers on l s a [] = nat_le (s.address + s.size) a
 covers on l s a (g ∷ gs) =

@@ -1,12 +1,12 @@
--- The clauses on what stands at the front of its part in the first group, on reversed sections, on properties, and on images for debuggers alone.
---   reversed_fits m s        a section whose words are reversed has words alone, and its relocations are of whole words
---   merged_fill l            the first merged strings that are not the room of their part in the first group
---   identity_fills l         the linker's name of itself is, where it has bytes
---   front_shared l           the first merged strings that stand in a part where others stand too
---   properties_differ ..     the first property of a type that one before it has
---   keeps_tables l           a relocatable object is no image for debuggers alone
---   dynamic_is_dropped l p   in such an image the dynamic section is not written
---   headers_are_kept l p     the headers and the names of sections are
+-- The clauses on the front of a part in the first group, on reversed sections, on properties, and on debug-only images.
+--   reversed_fits m s        a reversed section has only whole words, and so have its relocations
+--   merged_fill l            the first merged strings that do not fill their part's share of the first group
+--   identity_fills l         the linker's identity string, if it has bytes, fills that share
+--   front_shared l           the first merged strings whose part contains other merged strings too
+--   properties_differ ..     the first property with the type of an earlier one
+--   keeps_tables l           a relocatable object is no debug-only image
+--   dynamic_is_dropped l p   in a debug-only image the dynamic section is not written
+--   headers_are_kept l p     headers and section names are written
 use Rattle.std.specs.Prelude.{ℕ, ◌+◌, ◌%◌, ◌==◌, Bool, true, false, not, ◌&&◌, ◌||◌, if◌then◌else◌, List, [], ◌∷◌, ◌++◌, length, Option, Some, None, slice_get}
 use Rattle.std.specs.List.{flat_map, list_all, list_any}
 use Rattle.wild_laid.specs.Turned.{word_size}
@@ -34,60 +34,60 @@ use Rattle.wild_types.specs.Rows.{field_bytes}
 abbrev pub is_whole_word : Machine → InputRelocation → Bool
 is_whole_word m r = r.offset % word_size == 0 && field_bytes m r.number == word_size
 
--- a section whose words are reversed consists of words, and its relocations are of whole ones
+-- a section whose words are reversed has only whole words, and its relocations are of whole words
 abbrev pub reversed_fits : Machine → InputSection → Bool
 reversed_fits m s = not s.reversed || (s.size % word_size == 0 && list_all (is_whole_word m) s.relocations)
 
--- ---- clause 22: merged strings, the linker's name of itself, properties
+-- ---- clause 22: merged strings, the linker's identity string, properties
 
 abbrev pub given_by : ℕ → Option Group → ℕ
 given_by part None = 0
 given_by part (Some g) = given part g
 
--- so many bytes are the room of the part in the first group
+-- the part's share of the first group has exactly this size
 abbrev pub fills_front : Layout → ℕ → ℕ → Bool
 fills_front l part n = given_by part (slice_get l.groups 0) == n
 
--- the bytes of merged strings
+-- the size of merged strings
 abbrev pub merged_size : Merged → ℕ
 merged_size m = length (flat_map (λ bs. bs) m.strings)
 
 abbrev pub merged_fits : Layout → Merged → Bool
 merged_fits l m = fills_front l m.part (merged_size m)
 
--- the first merged strings that are not the room of their part in the first group
+-- the first merged strings that do not fill their part's share of the first group
 abbrev pub merged_fill : Layout → Option ℕ
 merged_fill l = first_failing (merged_fits l) 0 l.merged
 
--- the linker's name of itself is that, where it has bytes
+-- the linker's identity string, if it has bytes, fills that share
 abbrev pub identity_fills : Layout → Bool
 identity_fills l = length l.identity.bytes == 0 || fills_front l l.identity.part (length l.identity.bytes)
 
--- merged strings with bytes stand in the part
+-- the part contains merged strings, and these have bytes
 abbrev pub stands_in_front : ℕ → Merged → Bool
 stands_in_front part m = m.part == part && not (0 == merged_size m)
 
--- the first merged strings with bytes, from number i on, whose part has others behind them in the list
+-- the first merged strings with bytes, from number i on, whose part also contains later ones of the list
 abbrev pub front_shared : ℕ → List Merged → Option ℕ
 front_shared i [] = None
 front_shared i (m ∷ ms) = if stands_in_front m.part m && list_any (stands_in_front m.part) ms then Some i else front_shared (i + 1) ms
 
--- the linker's name of itself stands in a part of its own, where it has bytes
+-- the linker's identity string, if it has bytes, shares its part with no merged strings
 abbrev pub identity_is_alone : Layout → Bool
 identity_is_alone l = length l.identity.bytes == 0 || not (list_any (stands_in_front l.identity.part) l.merged)
 
--- ---- images for debuggers alone
+-- ---- debug-only images
 
--- a relocatable object has all that the next linker reads
+-- a relocatable object keeps all that the next linker reads
 abbrev pub keeps_tables : Layout → Bool
 keeps_tables l = not (l.options.only_keep_debug && is_partial_link l.kind)
 
--- such an image has no dynamic section, by which a loader would look for tables that are not there: it stands in no section of notes (gABI,
--- "Sections": SHT_NOTE)
+-- a debug-only image has no dynamic section: a loader would look there for tables that were not written. Since sections of notes
+-- are written (gABI, "Sections": SHT_NOTE), the dynamic section is in none
 abbrev pub dynamic_is_dropped : Layout → Part → Bool
 dynamic_is_dropped l p = not (l.options.only_keep_debug && (has_role role.Dynamic p && kind_at l p.section == sht_note))
 
--- the headers, and the names of sections
+-- the headers and the section names
 abbrev pub is_header_role : Role → Bool
 is_header_role role.FileHeader = true
 is_header_role role.ProgramHeaders = true
@@ -95,15 +95,15 @@ is_header_role role.SectionHeaders = true
 is_header_role role.Shstrtab = true
 is_header_role other = false
 
--- these are written: they stand in no section that is not
+-- these are written: they are in no section that is omitted
 abbrev pub headers_are_kept : Layout → Part → Bool
 headers_are_kept l p = not (is_header_role p.role && is_hollow_at l p.section)
 
--- the property is of that type
+-- the property has that type
 abbrev pub has_type : ℕ → Property → Bool
 has_type ptype p = p.ptype == ptype
 
--- the first property, from number i on, of a type that one before it has
+-- the first property, from number i on, with the type of an earlier one
 abbrev pub properties_differ : List Property → ℕ → List Property → Option ℕ
 properties_differ earlier i [] = None
 properties_differ earlier i (p ∷ ps) = if list_any (has_type p.ptype) earlier then Some i else properties_differ (earlier ++ p ∷ []) (i + 1) ps

@@ -1,7 +1,7 @@
 -- Clause 16: where a group's strings, frames and symbols begin.
 --   place_with r ps          the place of the part of a role
---   start_astray ps n i gs   the first group whose strings, frames or symbols do not begin where those before it end
---   AreBelow n starts        no start goes past a number
+--   start_astray ps n i gs   the first group whose strings, frames or symbols do not begin where those of earlier groups end
+--   AreBelow n starts        no start exceeds a number
 use Rattle.std.specs.Prelude.{ℕ, ◌+◌, ◌≤◌, ◌==◌, Bool, ◌&&◌, if◌then◌else◌, List, [], ◌∷◌, Option, Some, None}
 use Rattle.std.specs.List.{position_from}
 use Rattle.wild_types.specs.declared.part.Part.{Part}
@@ -14,7 +14,7 @@ use Rattle.wild_types.specs.FilePlaces.{given}
 
 -- ---- clause 16: where a group's strings, frames and symbols begin
 
--- the group's bytes of the part at that place, where there is one
+-- the group's bytes in the part at that place; 0 without a place
 abbrev pub given_at : Option ℕ → Group → ℕ
 given_at None g = 0
 given_at (Some part) g = given part g
@@ -23,7 +23,7 @@ given_at (Some part) g = given part g
 abbrev pub place_with : Role → List Part → Option ℕ
 place_with r parts = position_from (has_role r) 0 parts
 
--- the places of the parts whose shares have a start: dynamic strings, strings, frames, local symbols, and the others
+-- the places of the parts whose shares have a start: dynamic strings, strings, frames, local symbols, other symbols
 abbrev pub start_places : List Part → Starts (Option ℕ)
 start_places parts = record { dynstr = place_with role.Dynstr parts; strtab = place_with role.Strtab parts; frames = place_with role.EhFrame parts; locals = place_with role.SymtabLocal parts; globals = place_with role.SymtabGlobal parts }
 
@@ -31,7 +31,7 @@ start_places parts = record { dynstr = place_with role.Dynstr parts; strtab = pl
 abbrev pub no_starts : Starts ℕ
 no_starts = record { dynstr = 0; strtab = 0; frames = 0; locals = 0; globals = 0 }
 
--- there is none of these parts
+-- none of these parts exists
 abbrev pub nowhere : Starts (Option ℕ)
 nowhere = record { dynstr = None; strtab = None; frames = None; locals = None; globals = None }
 
@@ -49,12 +49,12 @@ starts_behind places from g = record {
 abbrev pub begins_at : Starts ℕ → Group → Bool
 begins_at from g = g.dynstr_start == from.dynstr && (g.strtab_start == from.strtab && (g.eh_frame_start == from.frames && (g.symtab_local_start == from.locals && g.symtab_global_start == from.globals)))
 
--- the first group whose shares do not begin where those of the groups before it end
+-- the first group whose shares do not begin where those of earlier groups end
 abbrev pub start_astray : Starts (Option ℕ) → Starts ℕ → ℕ → List Group → Option ℕ
 start_astray places from i [] = None
 start_astray places from i (g ∷ gs) = if begins_at from g then start_astray places (starts_behind places from g) (i + 1) gs else Some i
 
--- each is that number or less
+-- each start is that number or less
 pub record AreBelow (limit : ℕ) (from : Starts ℕ) : Type 0 where
   pub dynstr : from.dynstr ≤ limit
   pub strtab : from.strtab ≤ limit

@@ -1,10 +1,10 @@
--- The first group with an input section out of its place, part by part.
---   earlier a b                       the smaller of two places, where both are there
---   part_misplaced l part start i gs  the first group with an input section of that part out of its place
+-- The first group with a misplaced input section, part by part.
+--   earlier a b                       the smaller of two places, if both exist; else the one that does
+--   part_misplaced l part start i gs  the first group with a misplaced input section of that part
 --   misplaced l part starts i gs      the same for all parts from number part on
---   all_placed l part ends cursors s  the cursors of those parts behind an input section; none where it is out of
---                                     its place
---   bytes_placed part ends cursors s  the same of an input section that owns bytes
+--   all_placed l part ends cursors s  the cursors of those parts after an input section; none if the section is
+--                                     misplaced
+--   bytes_placed part ends cursors s  the same for an input section that has bytes
 use Rattle.std.specs.Prelude.{ℕ, ◌+◌, ◌==◌, ◌&&◌, min, nat_le, if◌then◌else◌, List, [], ◌∷◌, Option, Some, None}
 use Rattle.wild_types.specs.declared.input.InputSection.{InputSection}
 use Rattle.wild_types.specs.declared.file.File.{File}
@@ -15,13 +15,13 @@ use Rattle.wild_clauses.specs.Contents.{ends_of, part_placed, parts_placed, plac
 use Rattle.wild_clauses.specs.Thunks.{standing}
 use Rattle.wild_types.specs.Lists.{through}
 
--- the smaller of two places, where both are there
+-- the smaller of two places, if both exist; else the one that does
 abbrev pub earlier : Option ℕ → Option ℕ → Option ℕ
 earlier None b = b
 earlier (Some i) None = Some i
 earlier (Some i) (Some j) = Some (min i j)
 
--- the first group with an input section of that part out of its place
+-- the first group with a misplaced input section of that part
 abbrev pub part_misplaced : Layout → ℕ → ℕ → ℕ → List Group → Option ℕ
 part_misplaced l part start i [] = None
 part_misplaced l part start i (g ∷ gs) = if part_placed l part start (start + given part g) g then part_misplaced l part (start + given part g) (i + 1) gs else Some i
@@ -36,13 +36,13 @@ both None bs = None
 both (Some a) None = None
 both (Some a) (Some bs) = Some (a ∷ bs)
 
--- the ends of the last input sections of the parts from number part on, behind one more; none where that is out
--- of its place
+-- where the last input sections of the parts from number part on end, after one more section; none if that one is
+-- misplaced
 abbrev pub all_placed : Layout → ℕ → List ℕ → List ℕ → InputSection → Option (List ℕ)
 all_placed l part (end ∷ ends) (cursor ∷ cursors) s = both (placed_in l part end cursor s) (all_placed l (part + 1) ends cursors s)
 all_placed l part ends cursors s = Some []
 
--- the same of one that owns bytes
+-- the same for a section that has bytes
 abbrev pub bytes_placed_in : ℕ → ℕ → ℕ → InputSection → Option ℕ
 bytes_placed_in part end cursor s =
     if s.part == part
@@ -53,6 +53,6 @@ abbrev pub bytes_placed : ℕ → List ℕ → List ℕ → InputSection → Opt
 bytes_placed part (end ∷ ends) (cursor ∷ cursors) s = both (bytes_placed_in part end cursor s) (bytes_placed (part + 1) ends cursors s)
 bytes_placed part ends cursors s = Some []
 
--- the same behind a file
+-- the same after a file
 abbrev pub file_all_placed : Layout → ℕ → List ℕ → List ℕ → File → Option (List ℕ)
 file_all_placed l part ends cursors f = through (all_placed l part ends) cursors (standing l f)

@@ -1,5 +1,5 @@
--- The clauses on sizes, counts, and where parts and sections stand.
---   stands_loaded l p   a part that a loader or a program reads stands in an allocated section with data
+-- The clauses on sizes, counts, and the places of parts and sections.
+--   stands_loaded l p   a part that a loader or a program reads is in an allocated section with data
 use Rattle.std.specs.Prelude.{ℕ, ◌+◌, ◌%◌, ◌^◌, ◌==◌, Bool, true, not, ◌&&◌, ◌||◌, if◌then◌else◌, nat_le, List, [], ◌∷◌, ◌++◌, drop, length, Option, Some, None, slice_get}
 use Rattle.std.specs.Int.{is_power_of_two}
 use Rattle.std.specs.List.{list_any, list_all}
@@ -25,7 +25,7 @@ use Rattle.wild_types.specs.Parts.{role_place, has_role, is_loaded_role}
 abbrev pub page_fits : ℕ → Bool
 page_fits n = is_power_of_two n && nat_le 4096 n && nat_le n 65536
 
--- a run of bytes ends at 2^62 or before
+-- a range of bytes ends at 2^62 or before
 abbrev pub ends_low : ℕ → ℕ → Bool
 ends_low start size = nat_le (start + size) (2 ^ 62)
 
@@ -69,7 +69,7 @@ relocation_count l = total relocations_of l.groups
 abbrev pub multiple_of : ℕ → ℕ → Bool
 multiple_of align n = not (align == 0) && n % align == 0
 
--- the first part that takes file bytes and begins before the end of the one before it, or off its alignment
+-- the first part with file bytes that begins before the end of the previous one, or is not aligned
 abbrev pub part_out_of_order : Layout → ℕ → ℕ → List Part → Option ℕ
 part_out_of_order l i end [] = None
 part_out_of_order l i end (p ∷ ps) =
@@ -79,7 +79,7 @@ part_out_of_order l i end (p ∷ ps) =
 
 -- ---- clause 4: the roles
 
--- the first part, other than raw ones, whose role an earlier part has
+-- the first part, raw ones excepted, with the role of an earlier part
 abbrev pub role_again : List Part → ℕ → List Part → Option ℕ
 role_again earlier i [] = None
 role_again earlier i (p ∷ ps) =
@@ -87,11 +87,11 @@ role_again earlier i (p ∷ ps) =
     then Some i
     else role_again (earlier ++ p ∷ []) (i + 1) ps
 
--- a part of that role is there; else the role's place
+-- none if a part of that role exists, else the role's place
 abbrev pub role_missing : Role → List Part → Option ℕ
 role_missing r parts = if list_any (has_role r) parts then None else Some (role_place r)
 
--- the first part of that role stands at that offset; else the part's place, or the role's where none is there
+-- none if the first part of that role is at that offset; else the part's place, or the role's if there is no such part
 abbrev pub role_not_at : Role → ℕ → ℕ → List Part → Option ℕ
 role_not_at r offset i [] = Some (role_place r)
 role_not_at r offset i (p ∷ ps) =
@@ -99,7 +99,7 @@ role_not_at r offset i (p ∷ ps) =
     then (if p.offset == offset then None else Some i)
     else role_not_at r offset (i + 1) ps
 
--- the program headers follow the file header, which a relocatable object has none of; else the part's place, or the role's
+-- the program headers follow the file header; a relocatable object has none. Else the part's place, or the role's
 abbrev pub program_headers_astray : Layout → Option ℕ
 program_headers_astray l = if is_partial_link l.kind then None else role_not_at role.ProgramHeaders file_header_size 0 l.parts
 
@@ -112,14 +112,14 @@ roles =
     ∷ role.EhFrameHdr ∷ role.Dynamic ∷ role.SymtabLocal ∷ role.SymtabGlobal ∷ role.SymtabShndxLocal
     ∷ role.SymtabShndxGlobal ∷ role.Strtab ∷ role.Interp ∷ role.BuildId ∷ role.Property ∷ []
 
--- such an executable has no dynamic section (gABI, "Dynamic Section"); else the role's place
+-- a fixed static executable has no dynamic section (gABI, "Dynamic Section"); else the role's place
 abbrev pub dynamic_unasked : Layout → Option ℕ
 dynamic_unasked l =
     if is_fixed_static l.kind && list_any (has_role role.Dynamic) l.parts then Some (role_place role.Dynamic) else None
 
 -- ---- clause 6: what segments load
 
--- the sections behind section 0, of an output that is loaded
+-- the sections after section 0, of an output that is loaded
 abbrev pub loaded_sections : Layout → List Section
 loaded_sections l = if is_partial_link l.kind then [] else drop 1 l.sections
 
@@ -129,15 +129,15 @@ abbrev pub first_section_is_null : List Section → Bool
 first_section_is_null [] = true
 first_section_is_null (s ∷ ss) = s.kind == sht_null && length s.name == 0
 
--- a run of m bytes from b on lies in one of n bytes from a on
+-- a range of m bytes at b lies in a range of n bytes at a
 abbrev pub within : ℕ → ℕ → ℕ → ℕ → Bool
 within a n b m = nat_le a b && nat_le (b + m) (a + n)
 
--- the part stands in the section at equal distance in file and memory
+-- address minus offset is the same for the part and its section
 abbrev pub is_level : Section → Part → Bool
 is_level s p = nat_le s.address p.address && p.address + s.offset == p.offset + s.address
 
--- the part lies in the section: by its file bytes, and where the section is allocated at equal distance in file and memory; in a section
+-- the part lies in the section: by its file bytes, and in an allocated section with the same address minus offset; in a section
 -- without file bytes by its addresses
 abbrev pub lies_in : Layout → Section → Part → Bool
 lies_in l s p =
@@ -152,11 +152,11 @@ lies_by l (Some s) p = lies_in l s p
 abbrev pub part_lies : Layout → Part → Bool
 part_lies l p = p.section == 0 || lies_by l (slice_get l.sections p.section) p
 
--- such a part stands in an allocated section with data, except in relocatable objects
+-- such a part is in an allocated section with data, except in relocatable objects
 abbrev pub stands_loaded : Layout → Part → Bool
 stands_loaded l p =
     is_partial_link l.kind || not (is_loaded_role p.role) || (is_allocated_section l p.section && has_data l p.section)
 
--- a part other than a raw one stands in a section with data, or in none
+-- a part that is not raw is in a section with data, or in no section
 abbrev pub takes_room : Layout → Part → Bool
 takes_room l p = has_role role.Raw p || has_data l p.section

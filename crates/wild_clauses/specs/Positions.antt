@@ -1,11 +1,11 @@
--- Positions in the dynamic symbol table, counted in one walk over files and symbols. A walk goes on with the next symbol and
--- with the number of undefined entries ahead of it, or ends at a symbol whose index is not its position.
---   run_walk ds n role i c ss   symbols of one file, from number i on, behind c undefined entries of n
+-- Positions in the dynamic symbol table, counted in one walk over files and symbols. The walk carries the next symbol and the
+-- number of undefined entries before it. It ends early at a symbol whose index is not its position.
+--   run_walk ds n role i c ss   symbols of one file, from number i on, after c of n undefined entries
 --   file_walk, files_walk, groups_walk   symbols up to the end of a file's range, and so on
 --   whole_walk l n              all symbols
 --   section_in l i k gs         the output section of input section k of symbol i's file
---   all_below l                 no part or symbol stands in a section whose header index a symbol cannot have
---   is_unlisted s               the symbol carries no index of the table
+--   all_below l                 no part or symbol is in a section whose header index is too large for a symbol
+--   is_unlisted s               the symbol has no index of the table
 use Rattle.std.specs.Prelude.{ℕ, ◌+◌, ◌-◌, ◌==◌, Bool, true, false, not, is_some, ◌&&◌, ◌||◌, if◌then◌else◌, nat_lt, nat_le, unwrap_or, List, [], ◌∷◌, length, take, drop, Option, Some, None, Result, Ok, Err, slice_get}
 use Rattle.wild_types.specs.declared.symbol.Symbol.{Symbol}
 use Rattle.wild_types.specs.declared.file.FileRole.{FileRole}
@@ -25,7 +25,8 @@ abbrev pub lists : ℕ → Option DynamicSymbol → Bool
 lists i None = false
 lists i (Some d) = d.symbol == i
 
--- position p is that of symbol i: of the next undefined entry where the symbol has one, or of a listed symbol behind all n
+-- position p is that of symbol i: of its undefined entry, which comes next after c others, or of its listed entry after all n
+-- undefined ones
 abbrev pub is_at : List DynamicSymbol → ℕ → Bool → ℕ → ℕ → ℕ → Bool
 is_at ds n entry c i p = (entry && p == c + 1) || (nat_lt n p && lists i (slice_get ds (p - 1 - n)))
 
@@ -38,16 +39,16 @@ run_walk ds n role i c [] = Ok c
 run_walk ds n role i c (s ∷ ss) =
     if fits_at ds n (is_undefined_entry role s) c i (dynsym_of s) then run_walk ds n role (i + 1) (counted (is_undefined_entry role s) c) ss else Err i
 
--- what follows where nothing failed
+-- the next step, if the previous one did not fail
 abbrev pub followed : {A B : Type 0} → Result A ℕ → (A → Result B ℕ) → Result B ℕ
 followed (Ok x) rest = rest x
 followed (Err i) rest = Err i
 
--- the symbols from next on that stand before the file's range
+-- the symbols from next on, up to the file's range
 abbrev pub gap_of : List Symbol → ℕ → File → List Symbol
 gap_of symbols next f = take (f.first_symbol - next) (drop next symbols)
 
--- as many symbols as the file has, from there on
+-- the symbols of the file's range, which begins after that gap
 abbrev pub behind_gap : List Symbol → ℕ → File → List Symbol
 behind_gap symbols next f = take f.symbol_count (drop (next + length (gap_of symbols next f)) symbols)
 
@@ -75,13 +76,13 @@ failed (Err i) = Some i
 abbrev pub whole_walk : Layout → ℕ → Option ℕ
 whole_walk l n = failed (followed (groups_walk l n (0, 0) l.groups) (λ at. run_walk l.dynsyms n file_role.NotLoaded at.0 at.1 (drop at.0 l.symbols)))
 
--- the symbol carries no index of the table
+-- the symbol has no index of the table
 abbrev pub is_unlisted : Symbol → Bool
 is_unlisted s = not (is_some (dynsym_of s))
 
 -- ---- the sections of listed symbols
 
--- the output section of input section k of the first of the files whose range has symbol i
+-- the output section of input section k of the first file whose range contains symbol i
 abbrev pub found_in : Layout → List File → ℕ → ℕ → Option ℕ
 found_in l [] i k = None
 found_in l (f ∷ fs) i k = if nat_le f.first_symbol i && nat_lt i (f.first_symbol + f.symbol_count) then Some (section_of_input l (slice_get f.sections k)) else found_in l fs i k
@@ -100,6 +101,6 @@ place_is_below other = true
 abbrev pub symbol_is_below : Symbol → Bool
 symbol_is_below s = place_is_below s.place
 
--- no part and no symbol stands in a section whose header index a symbol cannot have
+-- no part and no symbol is in a section whose header index is too large for a symbol
 abbrev pub all_below : Layout → Bool
 all_below l = list_all part_is_below l.parts && list_all symbol_is_below l.symbols

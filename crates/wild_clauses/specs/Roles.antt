@@ -1,9 +1,9 @@
--- The first group with a file out of its place, where those between the first and the last have none.
+-- The first group with a misplaced file, if the groups between the first and the last have none.
 use Rattle.std.specs.Prelude.{ℕ, true, false, if◌then◌else◌, Option, Some, None}
 use Rattle.wild_types.specs.declared.file.Group.{Group}
 use Rattle.wild_types.specs.FilePlaces.{files_placed}
 
--- the last group has that place
+-- the same for the first and the last group; the last one's place is given
 abbrev pub ends_misplaced : Group → Group → ℕ → Option ℕ
 ends_misplaced first last place =
     if files_placed true false first.files

@@ -1,6 +1,6 @@
--- What is seen of a layout ahead of its clauses.
---   IsSeen l s   whether each group passes, whether files are ordinary and sections not merged, how many relocations there are, and whether the
---                output is bare inside
+-- Properties of a layout that are computed once, before its clauses are tested.
+--   IsSeen l s   s has these: whether each group passes, whether all files are ordinary, whether no section has merged strings,
+--                how many relocations there are, and whether the inner groups contribute to no table
 use Rattle.std.specs.Prelude.{◌≡◌, ◌-◌, ◌^◌, min}
 use Rattle.wild_types.specs.declared.layout.Layout.{Layout}
 use Rattle.wild_needs.specs.Needs.{is_bare_inside}

@@ -1,11 +1,11 @@
--- Clause 11: where slots and stubs stand (x86-64 psABI, "Global Offset Table (GOT)", "Procedure Linkage Table").
+-- Clause 11: addresses of slots and stubs (x86-64 psABI, "Global Offset Table (GOT)", "Procedure Linkage Table").
 --   slots_astray l       the first symbol whose slot is not the next free word of its part, or whose stub is not the next free
 --                        stub, or whose slot no file writes
---   has_no_places s      the symbol has neither
---   slot_is_even s       a slot stands at a multiple of 8
---   block_is_asked l p   a block of slots is there only where addresses are packed
---   block_has_base p     and not at address 0
---   pair_follows l       the pair of the output's own thread-local data stands behind the reserved words
+--   has_no_places s      the symbol has neither slot nor stub
+--   slot_is_even s       a slot's address is a multiple of 8
+--   block_is_asked l p   there is a block of slots only if addresses are packed (RELR)
+--   block_has_base p     and its address is not 0
+--   pair_follows l       the module pair of the output's own thread-local data follows the reserved words
 use Rattle.std.specs.Prelude.{ℕ, ◌+◌, ◌*◌, ◌%◌, ◌^◌, ◌≤◌, ◌==◌, Bool, true, not, ◌&&◌, ◌||◌, if◌then◌else◌, nat_lt, List, [], ◌∷◌, length, Option, Some, None, is_some, Result, Ok, Err, slice_range}
 use Rattle.wild_types.specs.declared.part.Part.{Part}
 use Rattle.wild_types.specs.declared.part.Role.{Role}
@@ -25,25 +25,25 @@ use Rattle.wild_types.specs.FileSymbols.{own_symbols}
 use Rattle.wild_slot.specs.SymbolWords.{slots_of}
 use Rattle.wild_slot.specs.SlotParts.{begins_block}
 
--- ---- where the parts begin
+-- ---- addresses of the parts
 
 abbrev pub address_of_part : Option Part → ℕ
 address_of_part None = 0
 address_of_part (Some p) = p.address
 
--- where the part of a role begins; 0 where there is none
+-- the address of the part of a role; 0 without such a part
 abbrev pub start_of : Layout → Role → ℕ
 start_of l r = address_of_part (part_with r l.parts)
 
 -- ---- the next free places
 
--- the places are below 2^70, and 40 bytes for each symbol so far
+-- each is at most 2^70, plus 40 bytes for each symbol so far
 pub record IsBounded (n : Free) : Type 0 where
   pub got : n.got ≤ 2 ^ 70 + 40 * n.symbol
   pub block : n.block ≤ 2 ^ 70 + 40 * n.symbol
   pub stub : n.stub ≤ 2 ^ 70 + 40 * n.symbol
 
--- behind what stands once
+-- after the reserved words and the module pair of the GOT
 abbrev pub first_free : Layout → Free
 first_free l = record { got = start_of l role.Got + word_size * length (header_words l); block = start_of l role.GotRelr; stub = start_of l role.PltGot; symbol = 0 }
 
@@ -55,7 +55,7 @@ stands_at free (Some at) = at == free
 abbrev pub stands_next : Layout → Free → Symbol → Bool
 stands_next l n s = stands_at (if begins_block (slots_of l s).words then n.block else n.got) (got_of s) && stands_at n.stub (plt_of s)
 
--- the places behind those of the symbol
+-- the next free places after those of the symbol
 abbrev pub behind : Layout → Free → Symbol → Free
 behind l n s = record {
   got = n.got + word_size * length (words_in words.Got l s);
@@ -64,7 +64,7 @@ behind l n s = record {
   symbol = n.symbol + 1;
 }
 
--- the next step, where this one did not fail
+-- the next step, if this one did not fail
 abbrev pub and_then : {S : Type 0} → Result S ℕ → (S → Result S ℕ) → Result S ℕ
 and_then (Err e) next = Err e
 and_then (Ok s) next = next s
@@ -77,11 +77,11 @@ walk step s (x ∷ xs) = and_then (step s x) (λ t. walk step t xs)
 abbrev pub symbol_step : Layout → Free → Symbol → Result Free ℕ
 symbol_step l n s = if stands_next l n s then Ok (behind l n s) else Err n.symbol
 
--- what is left of that for a symbol without a slot
+-- the same step for a symbol without a slot
 abbrev pub passed_without : Free → Symbol → Result Free ℕ
 passed_without n s = if stands_at n.stub (plt_of s) then Ok (record n { symbol = n.symbol + 1 }) else Err n.symbol
 
--- the first symbol with a slot, of those from the next one to number `to`
+-- the first symbol with a slot, from the next symbol up to number `to`
 abbrev pub slot_before : Layout → Free → ℕ → Option ℕ
 slot_before l n to = first_failing is_without n.symbol (slice_range l.symbols n.symbol to)
 
@@ -89,7 +89,7 @@ abbrev pub unless_some : {S : Type 0} → Option ℕ → Result S ℕ → Result
 unless_some None r = r
 unless_some (Some i) r = Err i
 
--- the symbols of a file, behind those that no file writes; its range is behind those of the files before
+-- the symbols of a file; those before its range belong to no file, and the range follows those of earlier files
 abbrev pub range_step : Layout → Free → File → Result Free ℕ
 range_step l n f =
     if nat_lt f.first_symbol n.symbol
@@ -106,11 +106,11 @@ abbrev pub last_astray : Layout → Result Free ℕ → Option ℕ
 last_astray l (Err i) = Some i
 last_astray l (Ok n) = slot_before l n (length l.symbols)
 
--- the first symbol that does not stand where it should
+-- the first symbol whose slot or stub is misplaced
 abbrev pub slots_astray : Layout → Option ℕ
 slots_astray l = last_astray l (walk (group_step l) (first_free l) l.groups)
 
--- a symbol that has neither a slot nor a stub stands nowhere
+-- the symbol has neither a slot nor a stub
 abbrev pub has_no_places : Symbol → Bool
 has_no_places s = is_without s && not (is_some (plt_of s))
 

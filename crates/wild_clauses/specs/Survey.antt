@@ -1,11 +1,11 @@
--- What one walk over all groups tells ahead of the clauses.
---   is_ordinary f        no section of the file is in a given order, it has no copies, and no versions are needed of it
---   are_ordinary gs      so are the files of all groups
---   are_unmerged l       no section is one of merged strings
---   section_step l v s   what is known behind a section, and so behind a file and a group
---   surveyed l           what is known of all groups
---   is_simple s          the symbol is plain, and carries no index of the dynamic symbol table
---   are_simple ss        so are all symbols
+-- What one pass over all groups computes before the clauses are tested.
+--   is_ordinary f        the file has no sorted section, no copies, and needs no versions
+--   are_ordinary gs      the files of all groups are ordinary
+--   are_unmerged l       no section has merged strings
+--   section_step l v s   the survey after a section; likewise after a file and a group
+--   surveyed l           the survey of all groups
+--   is_simple s          the symbol is plain and has no index of the dynamic symbol table
+--   are_simple ss        all symbols are simple
 use Rattle.std.specs.Prelude.{◌+◌, ◌-◌, ◌^◌, ◌==◌, Bool, true, false, not, ◌&&◌, List, [], ◌∷◌, length, is_none, min}
 use Rattle.std.specs.List.{list_all}
 use Rattle.wild_types.specs.declared.input.Slot.{Slot}
@@ -21,11 +21,11 @@ use Rattle.wild_clauses.specs.Passed.{section_passes, symbols_are_there, library
 use Rattle.wild_clauses.specs.Positions.{is_unlisted}
 use Rattle.wild_clauses.specs.SlotFlags.{is_plain}
 
--- the section is in no given order
+-- the section is not sorted
 abbrev pub is_unsorted : InputSection → Bool
 is_unsorted s = not (is_sorted s.slot)
 
--- ahead of its sections
+-- without looking at its sections
 unfoldable pub needs_no_more : File → Bool
 needs_no_more f = length f.copies == 0 && is_none f.verneed
 
@@ -42,17 +42,17 @@ abbrev pub is_other_slot : Slot → Bool
 is_other_slot slot.Merge = false
 is_other_slot other = true
 
--- the section is none of merged strings
+-- the section has no merged strings
 abbrev pub is_unmerged : InputSection → Bool
 is_unmerged s = is_other_slot s.slot
 
--- no section is
+-- no section has merged strings
 abbrev pub are_unmerged : Layout → Bool
 are_unmerged l = list_all (λ (g : Group). list_all (λ (f : File). list_all is_unmerged f.sections) g.files) l.groups
 
 -- ---- one item after another
 
--- the state behind all items
+-- the state after all items
 unfoldable pub along : {S X : Type 0} → (S → X → S) → S → List X → S
 along step v [] = v
 along step v (x ∷ xs) = along step (step v x) xs
@@ -65,7 +65,7 @@ section_step l v s = record {
   relocations = min (2 ^ 64 - 1) (v.relocations + length s.relocations);
 }
 
--- what is asked of a file ahead of its sections
+-- the tests on a file without its sections
 unfoldable pub own_passes : Layout → File → Bool
 own_passes l f = symbols_are_there l f && library_names_fit f
 
@@ -80,7 +80,7 @@ file_here l v f = record {
 unfoldable pub file_step : Layout → Survey → File → Survey
 file_step l v f = along (section_step l) (file_here l v f) f.sections
 
--- ahead of its files
+-- without its files
 unfoldable pub group_here : Layout → Survey → Group → Survey
 group_here l v g = record {
   passed = v.passed && has_share_for_each_part (length l.parts) g;

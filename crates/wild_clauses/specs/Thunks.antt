@@ -1,9 +1,9 @@
--- Clause 12: where thunks stand ("ELF for the Arm 64-bit Architecture", "Call and Jump relocations": veneers). A thunk stands in the
--- primary part, behind the sections of the file that owns its block.
---   has_thunks l         there are any
+-- Clause 12: addresses of thunks ("ELF for the Arm 64-bit Architecture", "Call and Jump relocations": veneers). A thunk is in the
+-- primary part, after the sections of the file that owns its block.
+--   has_thunks l         there are thunks
 --   ascends b            the thunks of a block ascend by their symbols
---   standing l f         the input sections that stand in a file's ranges: its own, and the last file's the sorted ones besides
---   thunks_misplaced l   the first block whose thunks are not the next free places, or group with an input section over them
+--   standing l f         the input sections in a file's ranges: its own, and for the last file also the sorted ones
+--   thunks_misplaced l   the first block whose thunks are not at the next free places, or group with an input section over them
 --   block_lost l i bs    the first block with thunks that no file owns
 --   machine_takes m b    the machine has thunks, or the block has none
 use Rattle.std.specs.Prelude.{ℕ, ◌+◌, ◌*◌, ◌/◌, ◌==◌, Bool, true, not, ◌&&◌, if◌then◌else◌, nat_le, List, [], ◌∷◌, ◌++◌, length, map, Option, Some, None, Result, Ok, Err, slice_get}
@@ -46,35 +46,35 @@ ascends b = ascends_from 0 b
 abbrev pub next_code : ℕ → ℕ
 next_code n = (n + 3) / 4 * 4
 
--- the thunks stand there, one behind the other
+-- the thunks are there, consecutively
 abbrev pub stand_from : ℕ → List Thunk → Bool
 stand_from at [] = true
 stand_from at (t ∷ ts) = t.address == at && stand_from (at + thunk_size) ts
 
--- the place behind thunks that stand there, up to an end
+-- the place after consecutive thunks from a place on, which end at an end or before
 abbrev pub behind_thunks : ℕ → ℕ → ℕ → List Thunk → Result ℕ ℕ
 behind_thunks block end at ts = if stand_from at ts && nat_le (at + thunk_size * length ts) end then Ok (at + thunk_size * length ts) else Err block
 
--- the place behind the thunks of a block; a block without thunks takes none
+-- the place after the thunks of a block; a block without thunks occupies no bytes
 abbrev pub block_step : ℕ → ℕ → ℕ → List Thunk → Result ℕ ℕ
 block_step block end at ts = if is_used ts then behind_thunks block end (next_code at) ts else Ok at
 
--- the place behind an input section of the primary part; the group where that begins before the free place
+-- the place after an input section of the primary part; the group if the section begins before the free place
 abbrev pub section_step : Layout → ℕ → ℕ → InputSection → Result ℕ ℕ
 section_step l group at s =
     if is_given l s && s.part == l.primary_part
     then (if nat_le at s.address then Ok (s.address + s.size) else Err group)
     else Ok at
 
--- the same of one that owns bytes
+-- the same for a section that has bytes
 abbrev pub bytes_step : ℕ → ℕ → ℕ → InputSection → Result ℕ ℕ
 bytes_step primary group at s = if s.part == primary then (if nat_le at s.address then Ok (s.address + s.size) else Err group) else Ok at
 
--- the input sections that stand in a file's ranges: its own, and with the last file's the sorted ones, which are written as loaded ones
+-- the input sections in a file's ranges: its own, and for the last file also the sorted ones, which are written like loaded ones
 abbrev pub standing : Layout → File → List InputSection
 standing l f = f.sections ++ of_last_file f (map (λ (x : Input). x.section) (sorted_inputs l))
 
--- the place behind a file: its sections, and then the thunks of its block, where it owns that
+-- the place after a file: after its sections, and then after the thunks of its block, if the file owns one
 abbrev pub file_step : Layout → ℕ → ℕ → ℕ → File → Result ℕ ℕ
 file_step l group end at f = and_then (walk (section_step l group) at (standing l f)) (λ n. block_step f.thunk_block end n (thunks_of l f))
 
@@ -82,7 +82,7 @@ abbrev pub or_next : Result ℕ ℕ → Option ℕ → Option ℕ
 or_next (Err i) next = Some i
 or_next (Ok n) next = next
 
--- the first that is out of its place, of the groups from number i on, whose ranges of the primary part begin at start and end at last or
+-- the first misplaced block or group, from group i on; the groups' ranges of the primary part begin at start and end at last or
 -- before
 abbrev pub misplaced_from : Layout → ℕ → ℕ → ℕ → List Group → Option ℕ
 misplaced_from l last start i [] = None
@@ -95,7 +95,7 @@ abbrev pub misplaced_in : Layout → Option Part → Option ℕ
 misplaced_in l None = None
 misplaced_in l (Some p) = misplaced_from l (p.address + p.size) p.address 0 l.groups
 
--- the first that is out of its place
+-- the first misplaced block or group
 abbrev pub thunks_misplaced : Layout → Option ℕ
 thunks_misplaced l = if has_thunks l then misplaced_in l (slice_get l.parts l.primary_part) else None
 

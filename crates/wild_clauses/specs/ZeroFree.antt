@@ -1,6 +1,6 @@
--- Clause 19: names have no zero byte, which would end them (gABI, "String Table").
+-- Clause 19: names contain no zero byte, which would end them (gABI, "String Table").
 --   name_fits name           the name has none
---   option_names_fit ..      nor have the names that options give; and so of each other kind of name
+--   option_names_fit ..      the names in the options have none; and so on for each kind of name
 --   interp_fits path         the path of the interpreter ends with its only zero byte
 use Rattle.std.specs.Prelude.{ℕ, ◌==◌, Bool, true, false, not, ◌&&◌, ◌||◌, if◌then◌else◌, List, [], ◌∷◌, length, Option, Some, None}
 use Rattle.std.specs.List.{list_all}
@@ -21,7 +21,7 @@ use Rattle.wild_types.specs.declared.layout.VersionDefinition.{VersionDefinition
 abbrev pub name_fits : List ℕ → Bool
 name_fits name = list_all (λ b. not (b == 0)) name
 
--- the same for a name that may be there
+-- the same for an optional name
 abbrev pub given_name_fits : Option (List ℕ) → Bool
 given_name_fits None = true
 given_name_fits (Some name) = name_fits name
@@ -46,7 +46,7 @@ abbrev pub needs_names_fit : Option VersionNeeds → Bool
 needs_names_fit None = true
 needs_names_fit (Some n) = list_all version_name_fits n.versions
 
--- the names of a file's sections, its own as a library, and those of the versions that are needed of it
+-- the names of a file's sections, its own name as a library, and those of the versions needed from it
 abbrev pub file_names_fit : File → Bool
 file_names_fit f = list_all input_name_fits f.sections && (name_fits f.lib_name && needs_names_fit f.verneed)
 

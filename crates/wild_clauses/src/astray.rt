@@ -1,5 +1,5 @@
-//! The first symbol whose definition or place is not there. Where the files' ranges of symbols ascend, symbols and
-//! files are gone through once, side by side; else the file of each symbol is looked for.
+//! The first symbol whose definition or place does not exist. If the files' symbol ranges ascend, one parallel pass over symbols
+//! and files finds it; else the file of each symbol is searched for.
 ghost use Rattle.std.specs.Prelude.{◌≡◌, ◌+◌, ◌^◌, ◌<◌, None, is_some, length, true};
 ghost use Rattle.wild_clauses.specs.Astray.{range_lies, ranges_lie, all_ranges_lie, gap_astray, range_astray, file_walk, files_walk, groups_walk, walk_end, count_in};
 ghost use Rattle.wild_clauses.specs.Indexes.{index_fits, place_fits, symbol_indexes_fit, section_count, symbol_misfit};
@@ -8,7 +8,7 @@ ghost use Rattle.wild_types.specs.Lookups.{files_of, file_of};
 
 use wild_types::{File, Group, Layout, Place, Symbol, SymbolIndex, some_from};
 
-/// Whether the index, where it is there, names one of `count` items.
+/// Whether the index, if there is one, is below `count`.
 pub(crate) fn index_fits(count: usize, index: Option<SymbolIndex>) -> bool
     ensures { result ≡ index_fits count index }
 {
@@ -18,7 +18,7 @@ pub(crate) fn index_fits(count: usize, index: Option<SymbolIndex>) -> bool
     }
 }
 
-/// `count` is that of the input sections of the symbol's own file.
+/// `count` is the number of input sections of the symbol's own file.
 fn place_fits(layout: &Layout, count: usize, place: Place) -> bool
     ensures { result ≡ place_fits layout.now count place }
 {
@@ -35,8 +35,8 @@ fn symbol_indexes_fit(layout: &Layout, count: usize, symbol: &Symbol) -> bool
     index_fits(layout.symbols.len(), symbol.definition) && place_fits(layout, count, symbol.place)
 }
 
-/// The first of the symbols, counted from `first` on, that has an index that does not fit, where its file has
-/// `count` input sections.
+/// The first symbol, counted from `first` on, that has an index that does not fit; its file has `count` input
+/// sections.
 fn astray_in(layout: &Layout, count: usize, first: usize, symbols: &[Symbol]) -> Option<usize>
     requires { first + length symbols.now < 2 ^ 64 }
     ensures { result ≡ first_failing (symbol_indexes_fit layout.now count) first symbols.now }
@@ -69,7 +69,7 @@ fn range_astray(layout: &Layout, file: &File) -> Option<usize>
     astray_in(layout, file.sections.len(), file.first_symbol.0, range)
 }
 
-/// Where to go on behind the file's range; else the place of the first symbol astray.
+/// The next symbol after the file's range; else the place of the first symbol whose index does not fit.
 fn walk_file(layout: &Layout, next: usize, file: &File) -> Result<usize, usize>
     ensures { result ≡ file_walk layout.now next file.now }
 {
@@ -117,7 +117,7 @@ fn walk(layout: &Layout) -> Option<usize>
     }
 }
 
-/// Where the ranges behind the file's may begin; none where that begins before `end`, or ends behind `count`.
+/// Where the ranges of later files may begin; none if the file's begins before `end` or ends after `count`.
 fn range_lies(count: usize, end: usize, file: &File) -> Option<usize>
     ensures { result ≡ range_lies count end file.now }
 {
@@ -155,7 +155,7 @@ pub(crate) fn all_ranges_lie(count: usize, groups: &[Group]) -> bool
     true
 }
 
-/// How many input sections the first file has whose range has the symbol.
+/// How many input sections the first file has whose range contains the symbol.
 fn count_in(files: &[File], symbol: SymbolIndex) -> Option<usize>
     ensures { result ≡ count_in files.now symbol }
 {
@@ -192,7 +192,7 @@ fn search(layout: &Layout) -> Option<usize>
     None
 }
 
-/// The place of the first symbol whose definition, or whose place, is not there.
+/// The place of the first symbol whose definition or place does not exist.
 pub(crate) fn symbol_misfit(layout: &Layout, lie: bool) -> Option<usize>
     requires { lie ≡ is_some (all_ranges_lie (length layout.now.symbols) 0 layout.now.groups) }
     ensures { result ≡ symbol_misfit layout.now (files_of layout.now.groups) 0 layout.now.symbols }

@@ -1,5 +1,5 @@
-//! The first group that copies a symbol again. Definitions are marked, one window of symbols after another, so that the marks stand on the
-//! stack: the copies are gone through once to count the windows, and once for each.
+//! The first group that copies a symbol again. Definitions are marked in windows of symbols, so that the marks fit on the stack.
+//! One pass over the copies counts the windows, and one pass for each window marks its definitions.
 ghost use Rattle.std.specs.Prelude.{◌≡◌, ◌≤◌, ◌+◌, ◌^◌, [], map, Some, None, if◌then◌else◌};
 ghost use Rattle.std.specs.List.{flat_map};
 ghost use Rattle.wild_clauses.specs.Copies.{copied_of, windows_of, marked, first_marked, again_between};
@@ -11,10 +11,10 @@ ghost use Rattle.wild_types.specs.Lookups.{canonical};
 use crate::places::earlier;
 use wild_types::{File, Group, Layout, SymbolIndex};
 
-/// How many symbols are marked side by side.
+/// How many symbols one window has.
 const WINDOW: usize = 1 << 16;
 
-/// How many windows there are up to the last definition of these copies, and so many at least.
+/// How many windows there are up to the last definition of these copies, at least `windows`.
 fn windows_of_copies(layout: &Layout, windows: usize, copies: &[SymbolIndex]) -> usize
     requires few { windows ≤ 2 ^ 48 }
     ensures is { result ≡ windows_of windows (map (canonical layout.now) copies.now) }
@@ -52,7 +52,7 @@ fn windows_of_groups(layout: &Layout, groups: &[Group]) -> usize
     windows
 }
 
-/// Marks a definition that lies in the window from number `start` on; false where it was marked.
+/// Marks a definition that lies in the window from number `start` on; false if it was marked.
 fn mark(start: usize, symbol: SymbolIndex, marks: &mut [bool]) -> bool
     ensures { marked start marks.old symbol ≡ (if result then Some marks.new else None) }
 {
@@ -64,7 +64,7 @@ fn mark(start: usize, symbol: SymbolIndex, marks: &mut [bool]) -> bool
     free
 }
 
-/// The same for the definitions of copies, one after another.
+/// The same for the definitions of consecutive copies.
 fn mark_copies(layout: &Layout, start: usize, copies: &[SymbolIndex], marks: &mut [bool]) -> bool
     ensures { through (marked start) marks.old (map (canonical layout.now) copies.now) ≡ (if result then Some marks.new else None) }
 {
@@ -88,7 +88,7 @@ fn mark_files(layout: &Layout, start: usize, files: &[File], marks: &mut [bool])
     true
 }
 
-/// The place of the first group with a definition that was marked.
+/// The place of the first group with a definition that was marked before.
 fn first_marked(
     layout: &Layout,
     groups: &[Group],
@@ -113,7 +113,7 @@ fn again_in_window(layout: &Layout, groups: &[Group], start: usize) -> Option<us
     first_marked(layout, groups, start, &mut marks)
 }
 
-/// The place of the first group with a copy whose definition is that of a copy ahead.
+/// The place of the first group with a copy whose definition an earlier copy has.
 #[tactic(auto, using(crate::proofs::CopyLemmas::no_window, crate::proofs::CopyLemmas::next_window, crate::proofs::CopyLemmas::all_windows))]
 fn copied_again(layout: &Layout, groups: &[Group]) -> Option<usize>
     ensures { result ≡ copied_again layout.now [] 0 groups.now }
@@ -125,7 +125,7 @@ fn copied_again(layout: &Layout, groups: &[Group]) -> Option<usize>
     first
 }
 
-/// The same, which is asked only where some file is not ordinary.
+/// The same; if all files are ordinary, there are no copies to search.
 #[tactic(auto, using(crate::proofs::SurveyLemmas::none_copied))]
 pub(crate) fn first_copied_again(layout: &Layout, ordinary: bool) -> Option<usize>
     requires { ordinary ≡ are_ordinary layout.now.groups }

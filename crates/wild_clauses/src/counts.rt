@@ -35,15 +35,15 @@ fn symbols_of_groups(groups: &[Group]) -> usize
     count
 }
 
-/// The dynamic symbol table has no more entries than that.
+/// An upper bound of the number of entries of the dynamic symbol table.
 fn most_entries(layout: &Layout) -> usize
     ensures { result ≡ min (2 ^ 64 - 1) (min (2 ^ 64 - 1) (total symbols_of layout.now.groups) + length layout.now.dynsyms) }
 {
     symbols_of_groups(layout.groups.as_slice()).saturating_add(layout.dynsyms.len())
 }
 
-/// Whether that table is not too long. Its entries are counted only where that is not known by the files' ranges: where these lie in
-/// order, they have no more symbols than there are.
+/// Whether that table is not too long. If the files' ranges are in order, they have no more symbols than the layout, and its
+/// entries need not be counted.
 #[tactic(auto, using(crate::proofs::CountLemmas::few_in_order, crate::proofs::CountLemmas::few_entries))]
 fn table_fits(layout: &Layout, lie: bool) -> bool
     requires { lie ≡ is_some (all_ranges_lie (length layout.now.symbols) 0 layout.now.groups) }
@@ -74,7 +74,7 @@ fn lists_fit(layout: &Layout, lie: bool, relocations: u64) -> bool
         && groups < (1 << 32) - 1
 }
 
-/// Whether no string table is too long either, and each version can have an index.
+/// Whether no list and no string table is too long, and each version can have an index.
 fn counts_fit(layout: &Layout, lie: bool, needs: u64, relocations: u64) -> bool
     requires lie { lie ≡ is_some (all_ranges_lie (length layout.now.symbols) 0 layout.now.groups) }
     requires needs { needs ≡ need_number layout.now }
@@ -88,7 +88,8 @@ fn counts_fit(layout: &Layout, lie: bool, needs: u64, relocations: u64) -> bool
         && versions_fit(layout, needs)
 }
 
-/// It is told whether the files' ranges of symbols lie in order, how many libraries have versions, and how many relocations there are.
+/// The caller knows whether the files' symbol ranges are in order (`lie`), and how many libraries with versions and relocations
+/// there are.
 #[tactic(auto, unfolding(crate::specs::ClauseTests::check_counts))]
 pub(crate) fn check_counts(
     layout: &Layout,

@@ -1,5 +1,5 @@
-//! Clause 13: positions in the dynamic symbol table. Since the files' ranges of symbols ascend, undefined entries are counted
-//! in one walk over files and symbols.
+//! Clause 13: positions in the dynamic symbol table. Since the files' symbol ranges ascend, one walk over files and symbols counts
+//! the undefined entries.
 ghost use Rattle.std.specs.Prelude.{◌≡◌, ◌+◌, ◌-◌, ◌^◌, ◌<◌, ◌≤◌, length, slice_get, Ok};
 ghost use Rattle.std.specs.List.{list_all};
 ghost use Rattle.std.specs.Result.{IfOk};
@@ -17,7 +17,7 @@ use wild_types::{
     Clause, File, FileRole, Group, Layout, Symbol, Test, ValueFlags, all_pass, some_from,
 };
 
-/// Whether the symbol of that number is the one listed at that place.
+/// Whether the entry at that place lists the symbol of that number.
 fn lists(layout: &Layout, symbol: usize, place: usize) -> bool
     ensures { result ≡ lists symbol (slice_get layout.now.dynsyms place) }
 {
@@ -27,8 +27,8 @@ fn lists(layout: &Layout, symbol: usize, place: usize) -> bool
     }
 }
 
-/// Whether the position is that of the symbol: of the undefined entry behind `count`, where the symbol has one, or of a
-/// listed symbol behind all `undefined` ones.
+/// Whether the position is that of the symbol: of its undefined entry, which comes next after `count` others, or of its listed
+/// entry after all `undefined` ones.
 fn is_at(
     layout: &Layout,
     undefined: usize,
@@ -60,8 +60,8 @@ fn fits_at(
     }
 }
 
-/// The number of undefined entries behind the symbols, counted from `first` on, which a file of that role has behind `count`
-/// of them; else the first whose index is not its position.
+/// The number of undefined entries after these symbols of a file of that role; `count` of them come before, and the first symbol
+/// has number `first`. Else the first symbol whose index is not its position.
 fn walk_run(
     layout: &Layout,
     undefined: usize,
@@ -88,8 +88,8 @@ fn walk_run(
     Ok(count)
 }
 
-/// The next symbol behind the file's range, and the number of undefined entries ahead of it; else the first symbol whose index
-/// is not its position.
+/// The next symbol after the file's range, and the number of undefined entries before that symbol; else the first symbol whose
+/// index is not its position.
 fn walk_file(
     layout: &Layout,
     undefined: usize,
@@ -143,7 +143,7 @@ fn walk_groups(layout: &Layout, undefined: usize) -> Result<(usize, usize), usiz
     Ok(at)
 }
 
-/// The first symbol whose index is not its position, where there are so many undefined entries.
+/// The first symbol whose index is not its position, given the number of undefined entries.
 fn walk(layout: &Layout, undefined: usize) -> Option<usize>
     ensures { result ≡ whole_walk layout.now undefined }
 {
@@ -157,7 +157,7 @@ fn walk(layout: &Layout, undefined: usize) -> Option<usize>
     }
 }
 
-/// How many undefined entries all files give.
+/// How many undefined entries all files contribute.
 #[tactic(auto, using(crate::proofs::DynsymLemmas::count_is_exact))]
 pub(crate) fn exact_count(layout: &Layout) -> usize
     requires indexes { check_indexes layout.now ≡ Ok tt }
@@ -177,7 +177,7 @@ fn misplaced(layout: &Layout, undefined: usize) -> Option<usize>
     walk(layout, undefined)
 }
 
-/// A symbol carries no index of the table.
+/// A symbol has no index of the table.
 struct IsUnlisted;
 
 impl Test<Symbol> for IsUnlisted {
@@ -188,7 +188,7 @@ impl Test<Symbol> for IsUnlisted {
     }
 }
 
-/// Whether no symbol carries one, which is known where all are simple.
+/// Whether no symbol has one; true without a search if all are simple.
 #[tactic(auto, using(crate::proofs::SimpleLemmas::simple_unlisted))]
 fn are_unlisted(layout: &Layout, simple: bool) -> bool
     requires { simple ≡ are_simple layout.now.symbols }
@@ -201,7 +201,7 @@ fn are_unlisted(layout: &Layout, simple: bool) -> bool
     }
 }
 
-/// It is asked where the indexes hold. Entries are counted only where a symbol is listed or carries an index.
+/// Requires that the indexes fit. Entries are counted only if a symbol is listed or has an index.
 #[tactic(auto, using(crate::proofs::UnlistedLemmas::unlisted_fit), unfolding(crate::specs::ClauseTests::check_dynsyms))]
 pub(crate) fn check_dynsyms(layout: &Layout, simple: bool) -> Result<(), Clause>
     requires indexes { check_indexes layout.now ≡ Ok tt }

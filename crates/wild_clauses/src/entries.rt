@@ -1,4 +1,4 @@
-//! Clause 6: what a loader finds by the dynamic section, or by the sections where there is none.
+//! Clause 6: what a loader finds through the dynamic section, or through the section headers if there is none.
 ghost use Rattle.std.specs.Prelude.{◌≡◌};
 ghost use Rattle.std.specs.List.{list_any};
 ghost use Rattle.wild_types.specs.Lists.{first_failing, total};
@@ -17,7 +17,7 @@ use wild_types::{
     has_role, is_allocated, part_with, wide_sum,
 };
 
-/// How many bytes of the file the part's segment has: none where nothing of its section is written.
+/// The file size of the part's segment: 0 if the part's section is omitted.
 fn size_in_file(layout: &Layout, part: &Part) -> u64
     ensures { result ≡ size_in_file layout.now part.now }
 {
@@ -43,7 +43,7 @@ fn is_segment_of(layout: &Layout, part: Option<Part>, segment: &Segment) -> bool
     }
 }
 
-/// The place of the first `PT_DYNAMIC` segment that is not that of the dynamic section; only one is.
+/// The place of the first `PT_DYNAMIC` segment that is not that of the dynamic section, or is a second one.
 pub(crate) fn dynamic_astray(layout: &Layout, segments: &[Segment]) -> Option<usize>
     ensures { result ≡ dynamic_astray layout.now (part_with Role.Dynamic layout.now.parts) 0 segments.now }
 {
@@ -70,7 +70,7 @@ fn entry_parts(parts: &[Part]) -> [Option<Part>; 3]
     ]
 }
 
-/// The bytes of a part that stands in that section.
+/// The size of a part if it is in that section, else 0.
 fn bytes_in(section: SectionIndex, part: Option<Part>) -> u64
     ensures { result ≡ bytes_in section part }
 {
@@ -80,7 +80,7 @@ fn bytes_in(section: SectionIndex, part: Option<Part>) -> u64
     }
 }
 
-/// The bytes of the parts that stand in that section.
+/// The sum of the sizes of those parts that are in that section.
 fn all_bytes_in(section: SectionIndex, parts: &[Option<Part>; 3]) -> u128
     ensures { result ≡ total (bytes_in section) parts.now }
 {
@@ -96,7 +96,7 @@ fn holds_entries(parts: &[Option<Part>; 3], index: SectionIndex, section: &Secti
         || all_bytes_in(index, parts) == u128::from(section.size)
 }
 
-/// `later` are the sections behind section 0.
+/// `later` are the sections after section 0.
 fn entries_astray(parts: &[Option<Part>; 3], later: &[Section]) -> Option<usize>
     ensures { result ≡ entries_astray parts.now 1 later.now }
 {
@@ -108,7 +108,7 @@ fn entries_astray(parts: &[Option<Part>; 3], later: &[Section]) -> Option<usize>
     None
 }
 
-/// A part with entries stands in an allocated section of entries.
+/// A part with entries is in an allocated section of entries.
 #[derive(Clone, Copy)]
 struct StandsInEntries<'a> {
     layout: &'a Layout,
@@ -157,8 +157,8 @@ fn has_hashes(layout: &Layout) -> bool
     false
 }
 
-/// Whether the table is read out of one segment: one of entries, or one in which names are looked up, where they are: a hash
-/// table, the dynamic symbols, or their strings.
+/// Whether the table is read from one segment: relocation entries, or, if names are looked up, a hash table, the dynamic symbols or
+/// their strings.
 fn is_asked_whole(layout: &Layout, hashes: bool, role: Role) -> bool
     requires hashes { hashes ≡ has_hashes layout.now }
     ensures { result ≡ is_asked_whole layout.now role }
@@ -171,8 +171,8 @@ fn is_asked_whole(layout: &Layout, hashes: bool, role: Role) -> bool
     has_entries || is_looked_up && hashes
 }
 
-/// Whether the segment has the bytes of the part, at equal distance in file and memory; where nothing of the part's section is
-/// written, whether it has its addresses.
+/// Whether the segment includes the bytes of the part, with the same address minus offset; if the part's section is omitted,
+/// whether it includes the part's addresses.
 fn holds_part(layout: &Layout, part: &Part, segment: &Segment) -> bool
     ensures { result ≡ holds_part layout.now part.now segment.now }
 {
@@ -183,14 +183,14 @@ fn holds_part(layout: &Layout, part: &Part, segment: &Segment) -> bool
         && wide_sum(part.offset, segment.address) == wide_sum(part.address, segment.offset)
 }
 
-/// Whether the segment is loaded and has those.
+/// Whether the segment is loaded and includes the part.
 fn carries_part(layout: &Layout, part: &Part, segment: &Segment) -> bool
     ensures { result ≡ carries_part layout.now part.now segment.now }
 {
     segment.kind == PT_LOAD && holds_part(layout, part, segment)
 }
 
-/// Whether it has those of the part, and of the rest of its table.
+/// Whether it includes the part, and the rest of its table.
 fn carries_table(layout: &Layout, part: &Part, rest: &Option<Part>, segment: &Segment) -> bool
     ensures { result ≡ carries_table layout.now part.now rest.now segment.now }
 {
@@ -201,7 +201,7 @@ fn carries_table(layout: &Layout, part: &Part, rest: &Option<Part>, segment: &Se
         }
 }
 
-/// Whether one of the segments carries the table.
+/// Whether some segment loads the table.
 fn is_carried(layout: &Layout, part: &Part, rest: &Option<Part>) -> bool
     ensures { result ≡ list_any (carries_table layout.now part.now rest.now) layout.now.segments }
 {
@@ -213,7 +213,7 @@ fn is_carried(layout: &Layout, part: &Part, rest: &Option<Part>) -> bool
     false
 }
 
-/// What stands behind a part in its table: behind relative entries the others.
+/// The part that follows in the same table: after the relative entries, the others.
 fn rest_of_table(parts: &[Part], part: &Part) -> Option<Part>
     ensures { result ≡ rest_of_table parts.now part.now }
 {
@@ -224,7 +224,7 @@ fn rest_of_table(parts: &[Part], part: &Part) -> Option<Part>
     }
 }
 
-/// Whether one segment carries the table that begins with the part to its addresses, where it has entries.
+/// Whether one segment loads the table that begins with the part, at its addresses, if it has entries.
 fn table_is_loaded(layout: &Layout, hashes: bool, part: &Part) -> bool
     requires hashes { hashes ≡ has_hashes layout.now }
     ensures { result ≡ table_is_loaded layout.now part.now }

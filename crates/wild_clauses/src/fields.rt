@@ -12,10 +12,10 @@ use wild_types::{
     Clause, InputRelocation, InputSection, Layout, Machine, Test, all_pass, field_bytes, wide_sum,
 };
 
-/// No field has more bytes.
+/// The size of the widest field.
 const WIDEST: u64 = 8;
 
-/// How many bytes the field of a relocation of that type has. The type of most relocations of x86-64 code is asked for first.
+/// The size of the field of a relocation of that type. The most common type of x86-64 code is tested first.
 #[inline(always)]
 #[tactic(auto, using(crate::proofs::FieldLemmas::common_field))]
 fn field_size(machine: Machine, number: u32) -> u64
@@ -66,7 +66,7 @@ impl Test<InputSection> for FieldsLie {
     }
 }
 
-/// The reader of the input failed at no relocation; frames tell that themselves.
+/// The reader of the input failed at no relocation; in frames the frames' own check reports that.
 struct IsRead;
 
 impl Test<InputRelocation> for IsRead {
@@ -101,7 +101,7 @@ impl Test<InputRelocation> for FieldPasses<'_> {
     }
 }
 
-/// The tests are asked one by one only where a group fails one of them.
+/// The tests run one by one only if a group fails one of them.
 #[tactic(auto, using(crate::proofs::PassedLemmas::fields_pass), unfolding(crate::specs::ClauseTests::check_fields))]
 pub(crate) fn check_fields(layout: &Layout, passed: bool) -> Result<(), Clause>
     requires passed { passed ≡ groups_pass layout.now }

@@ -1,4 +1,4 @@
-//! Clause 8: where merged strings and the linker's name of itself stand, nothing else of the first group does.
+//! Clause 8: the parts of merged strings and of the linker's identity string contain no other bytes of the first group.
 ghost use Rattle.std.specs.Prelude.{◌≡◌, ◌==◌, slice_get};
 ghost use Rattle.std.specs.List.{list_any, list_all};
 ghost use Rattle.wild_types.specs.declared.layout.Merged.{Merged};
@@ -10,7 +10,7 @@ use crate::sorted::has_ordered_bytes;
 use wild_laid::sorted_input;
 use wild_types::{File, InputSection, Layout, Merged, SortedSection, Test, all_pass};
 
-/// Whether some of the merged strings stand at the front of the part.
+/// Whether the part begins with some of the merged strings.
 fn stand_in(part: usize, merged: &[Merged]) -> bool
     ensures { result ≡ list_any (λ (m : Merged). m.part == part) merged.now }
 {
@@ -22,7 +22,7 @@ fn stand_in(part: usize, merged: &[Merged]) -> bool
     false
 }
 
-/// Whether merged strings stand at the front of the part, or the linker's name of itself does.
+/// Whether the part begins with merged strings or with the linker's identity string.
 fn has_front(layout: &Layout, part: usize) -> bool
     ensures { result ≡ has_front layout.now part }
 {
@@ -30,7 +30,7 @@ fn has_front(layout: &Layout, part: usize) -> bool
     stand_in(part, layout.merged.as_slice()) || identity.bytes.len() != 0 && identity.part == part
 }
 
-/// No bytes of a section stand in such a part.
+/// The part of a section with bytes does not begin with those strings.
 #[derive(Clone, Copy)]
 struct LeavesFront<'a> {
     layout: &'a Layout,
@@ -45,7 +45,7 @@ impl Test<InputSection> for LeavesFront<'_> {
     }
 }
 
-/// The same of a section in a given order.
+/// The same for a sorted section.
 fn ordered_leaves_front(layout: &Layout, section: &InputSection) -> bool
     ensures { result ≡ leaves_front layout.now (as_ordered layout.now section.now) }
 {
@@ -76,7 +76,7 @@ impl Test<File> for LeavesFront<'_> {
     }
 }
 
-/// Whether nothing else of the first group stands where merged strings and the linker's name of itself do.
+/// Whether no other bytes of the first group are in the parts of merged strings and the linker's identity string.
 pub(crate) fn front_is_free(layout: &Layout) -> bool
     ensures { result ≡ front_is_free layout.now }
 {

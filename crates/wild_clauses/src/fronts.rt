@@ -1,4 +1,4 @@
-//! Clauses 20 and 22: reversed sections, what stands at the front of its part in the first group, properties, images for debuggers alone.
+//! Clauses 20 and 22: reversed sections, the front of a part in the first group, properties, debug-only images.
 ghost use Rattle.std.specs.Prelude.{◌≡◌, ◌==◌, not, ◌&&◌, [], drop, slice_get};
 ghost use Rattle.std.specs.List.{list_any};
 ghost use Rattle.wild_clauses.specs.Fronts.{is_whole_word, reversed_fits, given_by, fills_front, merged_size, merged_fits, identity_fills, stands_in_front, front_shared, identity_is_alone, has_type, properties_differ, keeps_tables, dynamic_is_dropped, is_header_role, headers_are_kept};
@@ -13,10 +13,10 @@ use wild_types::{
     all_pass, field_bytes, first_failing, has_role,
 };
 
-/// The bytes of a word of a reversed section.
+/// The size of a word of a reversed section.
 const WORD: u64 = 8;
 
-/// A section whose words are reversed has words alone, and relocations of whole words.
+/// A section whose words are reversed has only whole words, and relocations of whole words.
 #[derive(Clone, Copy)]
 pub(crate) struct ReversedFits {
     pub(crate) machine: Machine,
@@ -52,7 +52,7 @@ pub(crate) fn check_reversed(layout: &Layout, passed: bool) -> Result<(), Clause
     fails(20, failing_group(&ReversedFits { machine }, groups))
 }
 
-/// The room of a part in the first group.
+/// The size of the part's share of the first group.
 fn room_in_front(layout: &Layout, part: usize) -> u64
     ensures { result ≡ given_by part (slice_get layout.now.groups 0) }
 {
@@ -77,7 +77,7 @@ pub(crate) fn has_size(merged: &Merged, size: u64) -> bool
     left == 0
 }
 
-/// Merged strings are the room of their part in the first group.
+/// Merged strings fill their part's share of the first group.
 #[derive(Clone, Copy)]
 struct MergedFits<'a> {
     layout: &'a Layout,
@@ -91,7 +91,7 @@ impl Test<Merged> for MergedFits<'_> {
     }
 }
 
-/// Whether the linker's name of itself is the room of its part there, where it has bytes.
+/// Whether the linker's identity string, if it has bytes, fills its part's share of the first group.
 fn identity_fills(layout: &Layout) -> bool
     ensures { result ≡ identity_fills layout.now }
 {
@@ -99,7 +99,7 @@ fn identity_fills(layout: &Layout) -> bool
     length == 0 || room_in_front(layout, layout.identity.part) == length as u64
 }
 
-/// Whether merged strings with bytes stand in the part.
+/// Whether the part contains the merged strings, and these have bytes.
 fn stands_in_front(part: usize, merged: &Merged) -> bool
     ensures { result ≡ stands_in_front part merged.now }
 {
@@ -117,7 +117,7 @@ fn any_stands(part: usize, merged: &[Merged]) -> bool
     false
 }
 
-/// The first merged strings with bytes whose part has others behind them in the list.
+/// The first merged strings with bytes whose part also contains later ones of the list.
 fn front_shared(merged: &[Merged]) -> Option<usize>
     ensures { result ≡ front_shared 0 merged.now }
 {
@@ -129,7 +129,7 @@ fn front_shared(merged: &[Merged]) -> Option<usize>
     None
 }
 
-/// Whether the linker's name of itself stands in a part of its own, where it has bytes.
+/// Whether the linker's identity string, if it has bytes, shares its part with no merged strings.
 fn identity_is_alone(layout: &Layout) -> bool
     ensures { result ≡ identity_is_alone layout.now }
 {
@@ -148,7 +148,7 @@ fn any_has_type(ptype: u32, properties: &[Property]) -> bool
     false
 }
 
-/// The first property of a type that one before it has.
+/// The first property with the type of an earlier one.
 fn property_again(properties: &[Property]) -> Option<usize>
     ensures { result ≡ properties_differ [] 0 properties.now }
 {
@@ -160,14 +160,14 @@ fn property_again(properties: &[Property]) -> Option<usize>
     None
 }
 
-/// Whether the output is no relocatable object of which debuggers alone would read something.
+/// Whether the output is not both a relocatable object and a debug-only image.
 fn keeps_tables(layout: &Layout) -> bool
     ensures { result ≡ keeps_tables layout.now }
 {
     !(layout.options.only_keep_debug && layout.kind.is_partial_link())
 }
 
-/// In an image for debuggers alone the dynamic section stands in no section of notes, which are written.
+/// In a debug-only image the dynamic section is in no section of notes, since those are written.
 #[derive(Clone, Copy)]
 struct DynamicIsDropped<'a> {
     layout: &'a Layout,
@@ -184,7 +184,7 @@ impl Test<Part> for DynamicIsDropped<'_> {
     }
 }
 
-/// Whether a part of the role has headers, or the names of sections.
+/// Whether a part of the role contains headers or section names.
 fn is_header_role(role: Role) -> bool
     ensures { result ≡ is_header_role role }
 {
@@ -194,7 +194,7 @@ fn is_header_role(role: Role) -> bool
     )
 }
 
-/// Headers and the names of sections stand in no section of which nothing is written.
+/// Headers and section names are in no section that is omitted.
 #[derive(Clone, Copy)]
 struct HeadersAreKept<'a> {
     layout: &'a Layout,

@@ -1,4 +1,4 @@
-//! Clause 17: the shapes of the hash tables, and the order of the symbols that GNU's table has.
+//! Clause 17: the shapes of the hash tables, and the order of the symbols in the GNU hash table.
 ghost use Rattle.std.specs.Prelude.{◌≡◌, ◌≤◌, true, Ok};
 ghost use Rattle.wild_needs.specs.HashShapes.{sysv_fits, gnu_shape_fits, gnu_fits, bucket_of, bucket_below, bucket_astray};
 ghost use Rattle.wild_clauses.specs.ClauseTests.{check_indexes, check_hashes};
@@ -18,8 +18,8 @@ fn sysv_fits(shape: Option<SysvHash>) -> bool
     }
 }
 
-/// Whether the table has a bucket, a word of its filter and a shift of less than 32 bits, and begins with the first symbol that
-/// is defined.
+/// Whether the table has a bucket, a word of its Bloom filter and a shift of less than 32 bits, and begins with the first symbol
+/// that is defined.
 fn gnu_shape_fits(layout: &Layout, shape: GnuHash) -> bool
     requires indexes { check_indexes layout.now ≡ Ok tt }
     ensures { result ≡ gnu_shape_fits layout.now shape }
@@ -49,7 +49,7 @@ fn bucket_of(buckets: u32, listed: &DynamicSymbol) -> u32
     gnu_hash(listed.name.as_slice()) % buckets
 }
 
-/// The first symbol that stands behind one of a later bucket.
+/// The first symbol that comes after one of a later bucket.
 fn bucket_below(buckets: u32, listed: &[DynamicSymbol]) -> Option<usize>
     requires some { 1 ≤ buckets }
     ensures { result ≡ bucket_below buckets 0 0 listed.now }
@@ -65,7 +65,7 @@ fn bucket_below(buckets: u32, listed: &[DynamicSymbol]) -> Option<usize>
     None
 }
 
-/// The same where there is such a table.
+/// The same, if there is such a table.
 fn bucket_astray(layout: &Layout) -> Option<usize>
     requires fits { gnu_fits layout.now layout.now.gnu_hash ≡ true }
     ensures { result ≡ bucket_astray layout.now.gnu_hash layout.now.dynsyms }
@@ -76,7 +76,7 @@ fn bucket_astray(layout: &Layout) -> Option<usize>
     }
 }
 
-/// It is asked where the indexes hold.
+/// Requires that the indexes fit.
 #[tactic(auto, unfolding(crate::specs::ClauseTests::check_hashes))]
 pub(crate) fn check_hashes(layout: &Layout) -> Result<(), Clause>
     requires indexes { check_indexes layout.now ≡ Ok tt }

@@ -18,14 +18,14 @@ use wild_types::{
 };
 use wild_words::Items;
 
-/// Whether the indexes in an item are those of something that is there.
+/// The indexes in an item name items that exist.
 #[derive(Clone, Copy)]
 pub(crate) struct IndexesFit<'a> {
     pub(crate) layout: &'a Layout,
 }
 
 impl IndexesFit<'_> {
-    /// Whether the indexes of a section are, but for those of its relocations.
+    /// Whether those of a section do, except in its relocations.
     pub(crate) fn headers_are_there(&self, section: &InputSection) -> bool
         ensures { result ≡ headers_are_there self.now.layout.now section.now }
     {
@@ -34,7 +34,7 @@ impl IndexesFit<'_> {
             && all_pass(self, section.members.as_slice())
     }
 
-    /// Whether the indexes of a file are, but for those of its sections.
+    /// Whether those of a file do, except in its sections.
     pub(crate) fn symbols_are_there(&self, file: &File) -> bool
         ensures { result ≡ symbols_are_there self.now.layout.now file.now }
     {
@@ -77,7 +77,7 @@ impl Test<SectionIndex> for IndexesFit<'_> {
     }
 }
 
-/// Whether a header index, where it is there, is one of a count of sections.
+/// Whether a header index, if there is one, is below a count of sections.
 fn header_fits(count: usize, header: Option<SectionIndex>) -> bool
     ensures { result ≡ index_fits count header }
 {
@@ -178,7 +178,7 @@ impl Test<Symbol> for IndexesFit<'_> {
     }
 }
 
-/// Whether the symbol at which the program begins, where it begins at one, is there.
+/// Whether the symbol of the entry point, if it is a symbol, exists.
 fn entry_is_there(layout: &Layout) -> bool
     ensures { result ≡ entry_is_there layout.now layout.now.entry }
 {
@@ -188,7 +188,7 @@ fn entry_is_there(layout: &Layout) -> bool
     }
 }
 
-/// Where the next file's range may begin; none where one of the files' begins before.
+/// Where the next file's range may begin; none if one of these files' begins too early.
 fn ranges_end(end: u128, files: &[File]) -> Option<u128>
     ensures { result ≡ through range_follows end files.now }
 {
@@ -204,7 +204,7 @@ fn ranges_end(end: u128, files: &[File]) -> Option<u128>
     Some(end)
 }
 
-/// The place of the first group with a range that begins before the end of the one ahead of it.
+/// The place of the first group with a range that begins before the end of the previous one.
 fn range_out_of_order(groups: &[Group]) -> Option<usize>
     ensures { result ≡ range_out_of_order 0 0 groups.now }
 {
@@ -218,7 +218,7 @@ fn range_out_of_order(groups: &[Group]) -> Option<usize>
     None
 }
 
-/// The same, which is asked only where the ranges do not lie in order.
+/// The same; if the ranges are in order (`lie`), nothing is searched.
 #[tactic(auto, using(crate::proofs::AstrayLemmas::none_out_of_order))]
 fn first_out_of_order(layout: &Layout, lie: bool) -> Option<usize>
     requires { lie ≡ is_some (all_ranges_lie (length layout.now.symbols) 0 layout.now.groups) }

@@ -18,14 +18,14 @@ use wild_types::{
     has_role, is_allocated,
 };
 
-/// Whether a section of that slot may have no bytes: merged strings stand elsewhere, and a table of relocations is made.
+/// Whether a section of that slot may have no bytes: merged strings are written elsewhere, and a relocation table is generated.
 fn may_lack_bytes(slot: Slot) -> bool
     ensures { result ≡ may_lack_bytes slot }
 {
     matches!(slot, Slot::Merge | Slot::Rela)
 }
 
-/// Bytes have the length of the section; a section without data has none.
+/// The number of bytes is the section's size; a section without data has none.
 struct LengthFits;
 
 impl Test<InputSection> for LengthFits {
@@ -87,7 +87,8 @@ impl Test<InputSection> for FramesPartFits<'_> {
     }
 }
 
-/// Whether bytes, but where there are none, can stand in the part of that number: a raw one in a section with data.
+/// Whether the part of that number can contain bytes: it is raw, and in a section with data unless `none` says that there are no
+/// bytes.
 fn holds_bytes(layout: &Layout, none: bool, part: usize) -> bool
     ensures { result ≡ holds_bytes layout.now none (slice_get layout.now.parts part) }
 {
@@ -97,7 +98,8 @@ fn holds_bytes(layout: &Layout, none: bool, part: usize) -> bool
     }
 }
 
-/// Every other section that is not discarded lies in a raw part, and so do merged strings, in a section with data where they have bytes.
+/// Every section that is neither discarded nor of frames is in a raw part. So are merged strings, in a section with data if they
+/// have bytes.
 #[derive(Clone, Copy)]
 struct PartIsRaw<'a> {
     layout: &'a Layout,
@@ -119,7 +121,7 @@ impl Test<Merged> for PartIsRaw<'_> {
     }
 }
 
-/// Whether the linker's name of itself, where it has bytes, lies in a raw part of a section with data.
+/// Whether the linker's identity string, if it has bytes, is in a raw part of a section with data.
 fn identity_is_raw(layout: &Layout) -> bool
     ensures { result ≡ identity_is_raw layout.now }
 {
@@ -134,7 +136,7 @@ fn once_fits(layout: &Layout) -> Result<(), Clause>
     fails(8, unless(identity_is_raw(layout)))
 }
 
-/// Whether code of the linker's own can stand in the part of that number: a raw one in an allocated section with data.
+/// Whether the part of that number can contain code that the linker generates: it is raw and in an allocated section with data.
 fn holds_thunks(layout: &Layout, part: usize) -> bool
     ensures { result ≡ holds_thunks layout.now (slice_get layout.now.parts part) }
 {
@@ -148,7 +150,7 @@ fn holds_thunks(layout: &Layout, part: usize) -> bool
     }
 }
 
-/// Whether thunks, where there are any, stand in such a part.
+/// Whether thunks, if there are any, are in such a part.
 fn primary_fits(layout: &Layout) -> bool
     ensures { result ≡ primary_fits layout.now }
 {
@@ -162,7 +164,8 @@ fn has_room(slot: Slot) -> bool
     matches!(slot, Slot::Loaded | Slot::Sorted | Slot::Frame)
 }
 
-/// Whether a section that is written is allocated exactly where its part's section is, which has that index; a relocatable object has no addresses.
+/// Whether a section that is written is allocated exactly if its part's section, of index `home`, is. Relocatable objects pass:
+/// they have no addresses.
 fn allocation_agrees(layout: &Layout, home: SectionIndex, section: &InputSection) -> bool
     requires { home ≡ section_of layout.now section.now.part }
     ensures { result ≡ allocation_agrees layout.now section.now }
@@ -172,7 +175,7 @@ fn allocation_agrees(layout: &Layout, home: SectionIndex, section: &InputSection
         || is_allocated(section.flags) == layout.is_allocated_section(home)
 }
 
-/// An input section is allocated where it has to be.
+/// An input section is allocated exactly if it has to be.
 #[derive(Clone, Copy)]
 struct AllocationAgrees<'a> {
     layout: &'a Layout,
@@ -187,14 +190,14 @@ impl Test<InputSection> for AllocationAgrees<'_> {
     }
 }
 
-/// Whether the section has bytes, or such are made of it.
+/// Whether the section has bytes, or bytes are generated for it.
 fn has_some(section: &InputSection) -> bool
     ensures { result ≡ has_some section.now }
 {
     section.bytes.len() != 0 || matches!(section.slot, Slot::Rela) && section.size != 0
 }
 
-/// Whether bytes of the section, where it has some, stand in a section with data; its part's section has that index.
+/// Whether the section has no bytes, or its part's section, of index `home`, has data.
 fn bytes_take_room(layout: &Layout, home: SectionIndex, section: &InputSection) -> bool
     requires { home ≡ section_of layout.now section.now.part }
     ensures { result ≡ bytes_take_room layout.now section.now }
@@ -202,7 +205,7 @@ fn bytes_take_room(layout: &Layout, home: SectionIndex, section: &InputSection) 
     !has_some(section) || layout.has_data(home)
 }
 
-/// Bytes stand in no section without data.
+/// No bytes are placed in a section without data.
 #[derive(Clone, Copy)]
 struct BytesTakeRoom<'a> {
     layout: &'a Layout,
@@ -238,7 +241,7 @@ impl Test<InputSection> for PassesAll<'_> {
     }
 }
 
-/// Whether what stands once, and thunks, lie in such parts, and the fronts that they take are free.
+/// Whether merged strings, the linker's identity string and thunks are in such parts, and nothing else is where they begin.
 fn parts_fit(layout: &Layout) -> bool
     ensures { result ≡ parts_fit layout.now }
 {
@@ -248,7 +251,7 @@ fn parts_fit(layout: &Layout) -> bool
         && front_is_free(layout)
 }
 
-/// It is asked where sizes and shares hold. The tests are asked one by one only where a group or a part fails one of them.
+/// Requires that sizes and shares fit. The tests run one by one only if a group or a part fails one of them.
 #[tactic(auto, using(crate::proofs::PassedLemmas::inputs_pass), unfolding(crate::specs::ClauseTests::check_inputs))]
 pub(crate) fn check_inputs(layout: &Layout, passed: bool, ordinary: bool) -> Result<(), Clause>
     requires sizes { check_sizes layout.now ≡ Ok tt }

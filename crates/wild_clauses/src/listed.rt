@@ -1,5 +1,5 @@
-//! Clause 13: the listed symbols of the dynamic symbol table. Files are looked for only where a section can have a header index
-//! that no symbol may have.
+//! Clause 13: the listed symbols of the dynamic symbol table. The file of a symbol is searched for only if a section can have a
+//! header index that is too large for a symbol.
 ghost use Rattle.std.specs.Prelude.{◌≡◌, nat_lt, length, slice_get, Some};
 ghost use Rattle.wild_needs.specs.DynamicSymbols.{dynsym_of, undefined_entries, symbol_sections, output_section, section_of_input, is_position, listed_fits, misfit, first_listed};
 ghost use Rattle.wild_types.specs.Lookups.{files_of, file_of};
@@ -8,7 +8,7 @@ ghost use Rattle.wild_clauses.specs.Positions.{found_in, section_in, part_is_bel
 use wild_needs::dynsym_of;
 use wild_types::{DynamicSymbol, File, Layout, Part, Place, SectionIndex, Symbol, Test, all_pass};
 
-/// The header index of an input section's output section; 0 where there is none.
+/// The header index of an input section's output section; 0 if there is none.
 fn section_of_input(layout: &Layout, file: &File, place: usize) -> SectionIndex
     ensures { result ≡ section_of_input layout.now (slice_get file.now.sections place) }
 {
@@ -18,7 +18,7 @@ fn section_of_input(layout: &Layout, file: &File, place: usize) -> SectionIndex
     }
 }
 
-/// That of the file whose range has the symbol of that number.
+/// The same in the file whose range contains the symbol of that number.
 fn found_in(layout: &Layout, files: &[File], symbol: usize, place: usize) -> Option<SectionIndex>
     ensures { result ≡ found_in layout.now files.now symbol place }
 {
@@ -43,7 +43,7 @@ fn section_in(layout: &Layout, symbol: usize, place: usize) -> SectionIndex
     SectionIndex(0)
 }
 
-/// The header index of the output section in which the symbol of that number stands; 0 where there is none.
+/// The header index of the output section of the symbol of that number; 0 if there is none.
 #[tactic(auto, using(crate::proofs::DynsymLemmas::section_is))]
 fn output_section(layout: &Layout, number: usize, place: Place) -> SectionIndex
     ensures { result ≡ output_section layout.now (file_of (files_of layout.now.groups) number) place }
@@ -62,7 +62,7 @@ fn is_below(section: SectionIndex) -> bool
     section.0 < 0xff00
 }
 
-/// Symbols may have the header index of a section.
+/// A symbol may have the header index of the item's section.
 struct IsBelow;
 
 impl Test<Part> for IsBelow {
@@ -84,7 +84,8 @@ impl Test<Symbol> for IsBelow {
     }
 }
 
-/// Whether no symbol can stand in a section whose header index it may not have. Files are looked for only where one can.
+/// Whether no symbol can be in a section whose header index is too large for it. The file of a symbol is searched for only if one
+/// can.
 fn all_below(layout: &Layout) -> bool
     ensures { result ≡ all_below layout.now }
 {
@@ -100,7 +101,7 @@ fn section_fits(layout: &Layout, below: bool, number: usize, symbol: &Symbol) ->
     below || is_below(output_section(layout, number, symbol.place))
 }
 
-/// Whether the symbol carries that position.
+/// Whether the symbol's index is that position.
 fn is_position(position: u128, symbol: &Symbol) -> bool
     ensures { result ≡ is_position position (dynsym_of symbol.now) }
 {
@@ -123,7 +124,7 @@ fn listed_fits(layout: &Layout, below: bool, position: u128, listed: &DynamicSym
     }
 }
 
-/// The first listed symbol that has not the position that follows, or not a section that a symbol may have.
+/// The first listed symbol whose index is not the position that follows, or whose section has an index that no symbol may have.
 pub(crate) fn misfit(layout: &Layout, undefined: usize) -> Option<usize>
     requires count { undefined ≡ length (undefined_entries layout.now.symbols (files_of layout.now.groups)) }
     ensures { result ≡ misfit layout.now (first_listed layout.now) 0 layout.now.dynsyms }

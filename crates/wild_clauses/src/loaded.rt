@@ -1,4 +1,4 @@
-//! Whether the bytes of sections lie in segments: sections and loaded segments are gone through side by side.
+//! Whether segments load the bytes of sections: one parallel pass over sections and loaded segments.
 ghost use Rattle.std.specs.Prelude.{◌≡◌, ◌≤◌, true, take, length, All, None};
 ghost use Rattle.wild_clauses.specs.Covers.{is_passed, covers};
 ghost use Rattle.wild_types.specs.Lists.{first_failing};
@@ -7,7 +7,7 @@ ghost use Rattle.wild_clauses.specs.Segments.{segment_out_of_order, size_on, has
 use wild_records::abi::segment::PT_LOAD;
 use wild_types::{Layout, Section, Segment, is_allocated, is_thread_local, wide_sum};
 
-/// Where the bytes of a section are to lie: in the memory of segments, or among their file bytes.
+/// Where the bytes of a section must be: in the memory of segments, or among their file bytes.
 #[derive(Clone, Copy)]
 pub enum Side {
     Memory,
@@ -24,7 +24,7 @@ impl Side {
         }
     }
 
-    /// Whether the section's bytes are to lie there.
+    /// Whether the section's bytes must be there.
     fn is_asked(self, layout: &Layout, section: &Section) -> bool
         ensures { result ≡ is_asked self layout.now section.now }
     {
@@ -38,8 +38,8 @@ impl Side {
     }
 }
 
-/// Whether the segment loads the byte of the section with that address: its file bytes are as far from the segment's as its
-/// addresses are.
+/// Whether the segment loads the byte of the section at that address. If the section has file bytes, address minus offset must be
+/// the same for both.
 fn has_byte(
     side: Side,
     layout: &Layout,
@@ -57,14 +57,14 @@ fn has_byte(
                 == wide_sum(section.address, segment.offset))
 }
 
-/// Whether the segment loads nothing at the address or behind it.
+/// Whether the segment loads no byte at the address or higher.
 fn is_passed(address: u128, segment: &Segment) -> bool
     ensures { result ≡ is_passed address segment.now }
 {
     segment.kind != PT_LOAD || wide_sum(segment.address, segment.mem_size) <= address
 }
 
-/// Whether the segments have all bytes of the section, one segment behind the other.
+/// Whether consecutive segments load all bytes of the section.
 #[tactic(auto, using(crate::proofs::CoverLemmas::covers_done))]
 fn covers(side: Side, layout: &Layout, section: &Section, segments: &[Segment]) -> bool
     ensures { result ≡ covers side layout.now section.now section.now.address segments.now }
@@ -100,8 +100,8 @@ fn pass(segments: &[Segment], next: usize, address: u128) -> usize
     next
 }
 
-/// Where to go on for a section at that address: from `next` on, or at the first segment where the section begins
-/// before `low`.
+/// The segment to continue with for a section at that address: searched from `next` on, or from the first segment if the section
+/// begins before `low`.
 #[tactic(auto, using(crate::proofs::CoverLemmas::passed_later))]
 fn go_on(segments: &[Segment], next: usize, low: u64, address: u64) -> usize
     requires there { next ≤ length segments.now }
@@ -113,8 +113,8 @@ fn go_on(segments: &[Segment], next: usize, low: u64, address: u64) -> usize
     pass(segments, first, u128::from(address))
 }
 
-/// The place of the first section with a byte that lies in no segment where it is to. `later` are the sections
-/// behind section 0. A section that begins before the one ahead of it starts anew at the first segment.
+/// The place of the first section with a byte that must be in a segment and is in none. `later` are the sections after section 0. A
+/// section that begins before the previous one starts again at the first segment.
 pub(crate) fn not_loaded(
     side: Side,
     layout: &Layout,

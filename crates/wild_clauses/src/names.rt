@@ -23,7 +23,7 @@ fn name_fits(name: &[u8]) -> bool
     }
 }
 
-/// The same for a name that may be there.
+/// The same for an optional name.
 fn given_name_fits(name: &Option<Bytes>) -> bool
     ensures { result ≡ given_name_fits name.now }
 {
@@ -37,7 +37,7 @@ fn given_name_fits(name: &Option<Bytes>) -> bool
 pub(crate) struct NamesFit;
 
 impl NamesFit {
-    /// Whether the file's name as a library does, and those of the versions that are needed of it.
+    /// Whether the file's name as a library has none, and neither have those of the versions needed from it.
     pub(crate) fn library_names_fit(&self, file: &File) -> bool
         ensures { result ≡ library_names_fit file.now }
     {
@@ -133,7 +133,7 @@ fn ends_with_zero(path: &[u8]) -> bool
     false
 }
 
-/// Whether the path of the interpreter ends with its only zero byte (gABI, "Program Header": PT_INTERP), where there is one.
+/// Whether the path of the interpreter, if there is one, ends with its only zero byte (gABI, "Program Header": PT_INTERP).
 fn interp_fits(path: &[u8]) -> bool
     ensures { result ≡ interp_fits path.now }
 {

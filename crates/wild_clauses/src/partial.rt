@@ -1,4 +1,4 @@
-//! Clause 21: what only relocatable objects have, and what they have not.
+//! Clause 21: what only relocatable objects may have, and what they may not have.
 ghost use Rattle.std.specs.Prelude.{◌≡◌, slice_get};
 ghost use Rattle.wild_clauses.specs.Partial.{has_no_segments, is_slotless, has_no_slot, has_no_pair, has_no_thunks, lists_no_symbols, is_indexless, has_no_index, is_no_debug, is_group, is_of_kind, has_entries, table_fits, file_tables_fit, tables_fit, group_fits_members, table_has_data};
 ghost use Rattle.wild_types.specs.Lookups.{is_rela};
@@ -14,7 +14,7 @@ use wild_types::{
 };
 use wild_words::Items;
 
-/// Whether the output is no relocatable object, or has no segments: nothing loads it.
+/// Whether the output is no relocatable object, or has no segments: no loader reads such an object.
 fn has_no_segments(layout: &Layout) -> bool
     ensures { result ≡ has_no_segments layout.now }
 {
@@ -44,7 +44,7 @@ impl Test<Symbol> for HasNoSlot<'_> {
     }
 }
 
-/// Nor is there a pair of slots for thread-local data.
+/// Whether it has no module pair for thread-local data either.
 fn has_no_pair(layout: &Layout) -> bool
     ensures { result ≡ has_no_pair layout.now }
 {
@@ -95,7 +95,7 @@ impl Test<Symbol> for HasNoIndex<'_> {
     }
 }
 
-/// In a relocatable object what debuggers read is linked as all else is.
+/// In a relocatable object sections for debuggers are linked like all others.
 #[derive(Clone, Copy)]
 struct IsNoDebug<'a> {
     layout: &'a Layout,
@@ -121,7 +121,7 @@ fn is_group(slot: Slot) -> bool
     matches!(slot, Slot::Group)
 }
 
-/// A table of relocations, a group and a section that is kept by itself are a relocatable object's.
+/// Only relocatable objects have relocation tables, groups and sections with an output section of their own.
 #[derive(Clone, Copy)]
 pub(crate) struct IsOfKind<'a> {
     pub(crate) layout: &'a Layout,
@@ -136,7 +136,7 @@ impl Test<InputSection> for IsOfKind<'_> {
     }
 }
 
-/// Whether a table has an entry for each relocation of its target, and the target is there.
+/// Whether the table's target exists, and the table has an entry for each of its relocations.
 fn has_entries(file: &File, table: &InputSection) -> bool
     ensures { result ≡ has_entries table.now.size (slice_get file.now.sections table.now.target) }
 {
@@ -148,7 +148,7 @@ fn has_entries(file: &File, table: &InputSection) -> bool
     }
 }
 
-/// A table of relocations has a target in its file, and an entry for each of its relocations.
+/// A relocation table has a target in its file, and an entry for each of its relocations.
 #[derive(Clone, Copy)]
 struct TableFits<'a> {
     file: &'a File,
@@ -162,7 +162,7 @@ impl Test<InputSection> for TableFits<'_> {
     }
 }
 
-/// So do those of each file.
+/// So do those of each file of a group.
 struct TablesFit;
 
 impl Test<File> for TablesFit {
@@ -181,7 +181,7 @@ impl Test<Group> for TablesFit {
     }
 }
 
-/// A group has a word for its flags, and one for each member (gABI, "Section Groups").
+/// A group has one word for its flags and one for each member (gABI, "Section Groups").
 struct GroupFitsMembers;
 
 impl Test<InputSection> for GroupFitsMembers {
@@ -192,7 +192,7 @@ impl Test<InputSection> for GroupFitsMembers {
     }
 }
 
-/// Tables of relocations and groups have data.
+/// Relocation tables and groups have data.
 struct TableHasData;
 
 impl Test<InputSection> for TableHasData {
@@ -203,7 +203,7 @@ impl Test<InputSection> for TableHasData {
     }
 }
 
-/// Of another output than a relocatable object all else follows from what only such an object has.
+/// For other outputs the last tests follow from having nothing that only a relocatable object may have.
 #[tactic(auto, using(crate::proofs::PartialLemmas::no_partial, crate::proofs::PassedLemmas::kinds_pass), unfolding(crate::specs::ClauseTests::check_partial))]
 pub(crate) fn check_partial(layout: &Layout, passed: bool) -> Result<(), Clause>
     requires passed { passed ≡ groups_pass layout.now }

@@ -1,5 +1,5 @@
-//! What each clause asks of one file by itself, of all clauses at once. The clauses ask it one by one only where a group fails. The same walk
-//! tells what else clauses ask of all files.
+//! One pass over all groups that evaluates every test on a single file. If all pass, clauses 1, 7 to 10 and 19 to 21 need not
+//! repeat these tests. The same pass computes what other clauses need of all files.
 ghost use Rattle.std.specs.Prelude.{◌≡◌, ◌-◌, ◌^◌, true, None, min};
 ghost use Rattle.wild_types.specs.Lists.{first_failing};
 ghost use Rattle.wild_clauses.specs.Passed.{relocation_passes, section_passes, groups_pass};
@@ -37,7 +37,7 @@ impl Test<InputRelocation> for RelocationPasses<'_> {
     }
 }
 
-/// A section passes each, and so do its relocations.
+/// A section and its relocations pass each test.
 #[derive(Clone, Copy)]
 struct Passes<'a> {
     layout: &'a Layout,
@@ -61,9 +61,9 @@ impl Test<InputSection> for Passes<'_> {
     }
 }
 
-/// What is known of groups, and of what stands in them: whether each passes; whether each file is ordinary, which is one without copies, of which
-/// no versions are needed, with no section in a given order; whether no section is one of merged strings; and how many relocations there are,
-/// at most 2^64 - 1.
+/// What one pass over groups computes: whether each group passes, whether each file is ordinary, whether no section has merged
+/// strings, and the number of relocations, at most 2^64 - 1. A file is ordinary if it has no copies and no sorted section, and no
+/// versions are needed from it.
 #[derive(Clone, Copy)]
 pub struct Survey {
     pub passed: bool,
@@ -84,7 +84,7 @@ fn is_unmerged(section: &InputSection) -> bool
     !matches!(section.slot, Slot::Merge)
 }
 
-/// What is known behind a section.
+/// The survey after a section.
 #[tactic(auto, unfolding(crate::specs::Survey::section_step))]
 fn section_step(layout: &Layout, before: Survey, section: &InputSection) -> Survey
     ensures { result ≡ section_step layout.now before section.now }
@@ -99,7 +99,7 @@ fn section_step(layout: &Layout, before: Survey, section: &InputSection) -> Surv
     }
 }
 
-/// Whether a file passes what is asked of it ahead of its sections.
+/// Whether a file passes the tests that need none of its sections.
 #[tactic(auto, unfolding(crate::specs::Survey::own_passes))]
 fn own_passes(layout: &Layout, file: &File) -> bool
     ensures { result ≡ own_passes layout.now file.now }
@@ -107,7 +107,7 @@ fn own_passes(layout: &Layout, file: &File) -> bool
     IndexesFit { layout }.symbols_are_there(file) && NamesFit.library_names_fit(file)
 }
 
-/// Whether it is ordinary, but for its sections.
+/// Whether it has no copies and needs no versions: then it is ordinary if it has no sorted section.
 #[tactic(auto, unfolding(crate::specs::Survey::needs_no_more))]
 fn needs_no_more(file: &File) -> bool
     ensures { result ≡ needs_no_more file.now }
@@ -115,7 +115,7 @@ fn needs_no_more(file: &File) -> bool
     file.copies.len() == 0 && file.verneed.is_none()
 }
 
-/// What is known ahead of a file's sections.
+/// The survey before a file's sections.
 #[tactic(auto, unfolding(crate::specs::Survey::file_here))]
 fn file_here(layout: &Layout, before: Survey, file: &File) -> Survey
     ensures { result ≡ file_here layout.now before file.now }
@@ -128,7 +128,7 @@ fn file_here(layout: &Layout, before: Survey, file: &File) -> Survey
     }
 }
 
-/// What is known behind a file.
+/// The survey after a file.
 #[tactic(auto, unfolding(crate::specs::Survey::along, crate::specs::Survey::file_step))]
 fn file_step(layout: &Layout, before: Survey, file: &File) -> Survey
     ensures { result ≡ file_step layout.now before file.now }
@@ -140,7 +140,7 @@ fn file_step(layout: &Layout, before: Survey, file: &File) -> Survey
     known
 }
 
-/// What is known ahead of a group's files.
+/// The survey before a group's files.
 #[tactic(auto, unfolding(crate::specs::Survey::group_here))]
 fn group_here(layout: &Layout, before: Survey, group: &Group) -> Survey
     ensures { result ≡ group_here layout.now before group.now }
@@ -154,7 +154,7 @@ fn group_here(layout: &Layout, before: Survey, group: &Group) -> Survey
     }
 }
 
-/// What is known behind a group.
+/// The survey after a group.
 #[tactic(auto, unfolding(crate::specs::Survey::along, crate::specs::Survey::group_step))]
 fn group_step(layout: &Layout, before: Survey, group: &Group) -> Survey
     ensures { result ≡ group_step layout.now before group.now }
@@ -166,7 +166,7 @@ fn group_step(layout: &Layout, before: Survey, group: &Group) -> Survey
     known
 }
 
-/// What is known behind all groups.
+/// The survey after all groups.
 #[tactic(auto, unfolding(crate::specs::Survey::along, crate::specs::Survey::surveyed))]
 fn surveyed(layout: &Layout) -> Survey
     ensures { result ≡ surveyed layout.now }
@@ -183,7 +183,7 @@ fn surveyed(layout: &Layout) -> Survey
     known
 }
 
-/// What one walk tells of all groups.
+/// The survey of all groups, in one pass.
 #[tactic(auto, using(crate::proofs::SurveyLemmas::passed_told, crate::proofs::SurveyLemmas::ordinary_told, crate::proofs::SurveyLemmas::unmerged_told, crate::proofs::SurveyLemmas::relocations_told))]
 pub(crate) fn survey_groups(layout: &Layout) -> Survey
     ensures passed { result.passed ≡ groups_pass layout.now }
@@ -194,7 +194,7 @@ pub(crate) fn survey_groups(layout: &Layout) -> Survey
     surveyed(layout)
 }
 
-/// The place of the first item that fails a test, which all pass where `passed` says so.
+/// The place of the first item that fails a test; if `passed` is set, all pass and none is searched.
 pub(crate) fn failing<T, C: Test<T>>(passed: bool, test: &C, items: &[T]) -> Option<usize>
     requires { passed ≡ true → first_failing (C.test test.now) 0 items.now ≡ None }
     ensures { result ≡ first_failing (C.test test.now) 0 items.now }

@@ -1,4 +1,4 @@
-//! Whether the input sections of each part stand in its range of their group, in order and without overlap.
+//! Whether the input sections of each part are in its range of their group, in order and without overlap.
 ghost use Rattle.std.specs.Prelude.{◌≡◌, ◌+◌, ◌^◌, ◌≤◌, ◌<◌, length, Ok, if◌then◌else◌, is_some, Some, None, ℕ, slice_index};
 ghost use Rattle.wild_laid.specs.Laid.{sorted_input};
 ghost use Rattle.wild_clauses.specs.Contents.{addresses, ends_of, section_misplaced};
@@ -12,7 +12,7 @@ use crate::sorted::has_ordered_bytes;
 use wild_laid::sorted_input;
 use wild_types::{File, Group, InputSection, Layout, Part, SortedSection, wide_sum};
 
-/// The smaller of two places, where both are there.
+/// The smaller of two places, if both exist; else the one that does.
 pub(crate) fn earlier(left: Option<usize>, right: Option<usize>) -> Option<usize>
     ensures { result ≡ earlier left right }
 {
@@ -23,8 +23,8 @@ pub(crate) fn earlier(left: Option<usize>, right: Option<usize>) -> Option<usize
     }
 }
 
-/// Moves the cursor of a part behind a section with bytes, where that is one of the parts from number `part` on; false where the section
-/// is out of its place.
+/// Moves the cursor of a part after a section with bytes, if the section is in one of the parts from number `part` on; false if the
+/// section is misplaced.
 #[tactic(auto, using(crate::proofs::BlockLemmas::before_all, crate::proofs::BlockLemmas::behind_all))]
 fn pass_bytes(part: usize, ends: &[u64], cursors: &mut [u64], section: &InputSection) -> bool
     requires { length ends.now ≡ length cursors.old }
@@ -45,7 +45,7 @@ fn pass_bytes(part: usize, ends: &[u64], cursors: &mut [u64], section: &InputSec
     true
 }
 
-/// The same of a section of a file, which stands there only where it has bytes.
+/// The same for a section of a file, which has a place only if it has bytes.
 #[tactic(auto, using(crate::proofs::BlockLemmas::filled, crate::proofs::BlockLemmas::unfilled))]
 fn pass_section(
     layout: &Layout,
@@ -60,7 +60,7 @@ fn pass_section(
     !section.is_given(layout) || pass_bytes(part, ends, cursors, section)
 }
 
-/// The same of a section in a given order.
+/// The same for a sorted section.
 #[tactic(auto, using(crate::proofs::OrderedLemmas::ordered_placed, crate::proofs::BlockLemmas::unfilled))]
 fn pass_ordered(
     layout: &Layout,
@@ -93,7 +93,7 @@ fn pass_sections(
     true
 }
 
-/// The same of the section that an entry of the order names.
+/// The same for the section that an entry of the order names.
 fn pass_entry(
     layout: &Layout,
     part: usize,
@@ -128,7 +128,7 @@ fn pass_order(
     true
 }
 
-/// The same for the sections of a file, and with the last file for those in a given order.
+/// The same for the sections of a file, and for the last file also the sorted ones.
 fn pass_file(layout: &Layout, part: usize, ends: &[u64], cursors: &mut [u64], file: &File) -> bool
     requires { length ends.now ≡ length cursors.old }
     ensures { file_all_placed layout.now part ends.now cursors.old file.now ≡ (if result then Some cursors.new else None) }
@@ -157,7 +157,7 @@ fn pass_files(
     true
 }
 
-/// Moves the starts of the parts from number `part` on behind the group's ranges, and the cursors to where these begin.
+/// Moves the starts of the parts from number `part` on to the end of the group's ranges, and the cursors to where these begin.
 fn move_starts(starts: &mut [u64], cursors: &mut [u64], part: usize, group: &Group)
     requires same { length cursors.old ≡ length starts.old }
     requires numbers { part + length starts.old < 2 ^ 64 }
@@ -171,7 +171,7 @@ fn move_starts(starts: &mut [u64], cursors: &mut [u64], part: usize, group: &Gro
     }
 }
 
-/// Puts where the parts begin.
+/// Writes where the parts begin.
 fn first_starts(starts: &mut [u64], parts: &[Part])
     requires { length starts.old ≡ length parts.now }
     ensures { starts.new ≡ addresses parts.now }
@@ -181,7 +181,7 @@ fn first_starts(starts: &mut [u64], parts: &[Part])
     }
 }
 
-/// The place of the first group with an input section out of its place, in the parts from number `part` on, which
+/// The place of the first group with a misplaced input section, in the parts from number `part` on, which
 /// begin at `starts`.
 #[tactic(auto, using(crate::proofs::BlockLemmas::group_placed))]
 fn misplaced_from(
@@ -204,7 +204,7 @@ fn misplaced_from(
     None
 }
 
-/// How many parts are gone through side by side.
+/// How many parts one pass over the input sections handles.
 const BLOCK: usize = 512;
 
 fn block_misplaced(layout: &Layout, part: usize, block: &[Part]) -> Option<usize>
@@ -221,7 +221,8 @@ fn block_misplaced(layout: &Layout, part: usize, block: &[Part]) -> Option<usize
     misplaced_from(layout, part, starts, cursors)
 }
 
-/// The place of the first group with an input section out of its place. It is asked where parts end low, and shares add up to them.
+/// The place of the first group with a misplaced input section. Requires that parts end below 2^62, and that shares add up to their
+/// sizes.
 pub(crate) fn section_misplaced(layout: &Layout) -> Option<usize>
     requires sizes { check_sizes layout.now ≡ Ok tt }
     requires shares { check_shares layout.now ≡ Ok tt }

@@ -82,7 +82,7 @@ fn role_not_at(role: Role, offset: u64, parts: &[Part]) -> Option<usize>
     Some(place_of(role))
 }
 
-/// The place of the part of program headers, or of its role, where they do not follow the file header; a relocatable object has none.
+/// The place of the part of program headers, or of its role, if they do not follow the file header; a relocatable object has none.
 fn program_headers_astray(layout: &Layout) -> Option<usize>
     ensures { result ≡ program_headers_astray layout.now }
 {
@@ -93,7 +93,7 @@ fn program_headers_astray(layout: &Layout) -> Option<usize>
     role_not_at(Role::ProgramHeaders, behind, layout.parts.as_slice())
 }
 
-/// A part of a role is there, or nothing has to be written in one. The output is bare inside where `inside` says so.
+/// A part of a role exists, or no bytes have to be written in one. If `inside` is set, the inner groups contribute to no table.
 #[derive(Drop)]
 struct RoleGiven<'a> {
     layout: &'a Layout,
@@ -110,14 +110,14 @@ impl Test<Role> for RoleGiven<'_> {
     }
 }
 
-/// Whether the output is loaded at its own addresses, without a dynamic linker.
+/// Whether the output has fixed addresses and no dynamic linker.
 pub(crate) fn is_fixed_static(kind: OutputKind) -> bool
     ensures { result ≡ is_fixed_static kind }
 {
     kind.is_static_executable() && kind.has_fixed_load_address()
 }
 
-/// The place of the role of the dynamic section, where that is there and must not be.
+/// The place of the dynamic section's role, if there is such a part and must be none.
 fn dynamic_unasked(layout: &Layout) -> Option<usize>
     ensures { result ≡ dynamic_unasked layout.now }
 {
@@ -141,8 +141,8 @@ fn begins_behind(before: Option<Part>, part: &Part) -> bool
     }
 }
 
-/// The part, where it has entries that are not relative, begins where that of the relative ones ends: both are one table
-/// (LSB, "Dynamic Entries", `DT_RELACOUNT`).
+/// A part of other entries begins where that of the relative ones ends: both are one table (LSB, "Dynamic Entries",
+/// `DT_RELACOUNT`).
 #[derive(Clone, Copy)]
 struct EntriesFollow<'a> {
     parts: &'a [Part],
@@ -157,7 +157,7 @@ impl Test<Part> for EntriesFollow<'_> {
     }
 }
 
-/// It is told whether the output is bare inside.
+/// If `inside` is set, the inner groups contribute to no table.
 #[tactic(auto, unfolding(crate::specs::ClauseTests::check_roles))]
 pub(crate) fn check_roles(layout: &Layout, inside: bool) -> Result<(), Clause>
     requires { inside ≡ is_bare_inside layout.now }

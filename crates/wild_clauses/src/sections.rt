@@ -26,7 +26,7 @@ pub(crate) fn within(start: u64, size: u64, inner: u64, inner_size: u64) -> bool
     start <= inner && wide_sum(inner, inner_size) <= wide_sum(start, size)
 }
 
-/// Whether the part lies in the section, in an allocated one at equal distance in file and memory; in one without file bytes by its
+/// Whether the part lies in the section: in an allocated one with the same address minus offset, in one without file bytes by its
 /// addresses.
 fn lies_in(layout: &Layout, section: &Section, part: &Part) -> bool
     ensures { result ≡ lies_in layout.now section.now part.now }
@@ -57,7 +57,7 @@ impl Test<Part> for PartLies<'_> {
     }
 }
 
-/// A part that a loader or the program reads stands in an allocated section with data.
+/// A part that a loader or the program reads is in an allocated section with data.
 #[derive(Clone, Copy)]
 struct StandsLoaded<'a> {
     layout: &'a Layout,
@@ -76,7 +76,7 @@ impl Test<Part> for StandsLoaded<'_> {
     }
 }
 
-/// A part is raw, or stands in no section without data.
+/// A part is raw, or in no section without data.
 #[derive(Clone, Copy)]
 struct TakesRoom<'a> {
     layout: &'a Layout,

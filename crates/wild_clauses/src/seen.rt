@@ -1,16 +1,16 @@
-//! What is asked once of a layout.
+//! Properties of a layout that clauses and the writer of its image need, computed once.
 ghost use Rattle.wild_clauses.specs.Seen.{IsSeen};
 
 use crate::passed::survey_groups;
 use wild_needs::is_bare_inside;
 use wild_types::Layout;
 
-/// What is asked once of a layout: its clauses ask it, and so does who writes its image.
+/// Properties of a layout that its clauses and the writer of its image need, computed once.
 #[derive(Clone, Copy)]
 pub struct Seen {
-    /// Whether the output is bare, with groups between the first and the last that need nothing.
+    /// Whether the groups between the first and the last contribute to no table.
     pub inside: bool,
-    /// Whether no section is one of merged strings.
+    /// Whether no section has merged strings.
     pub unmerged: bool,
     pub(crate) passed: bool,
     pub(crate) ordinary: bool,
@@ -18,7 +18,7 @@ pub struct Seen {
 }
 
 impl Seen {
-    /// What is seen of a layout, by one walk over its groups. It takes no memory.
+    /// Computes them in one pass over the groups. It takes no memory.
     pub fn of(layout: &Layout) -> Self
         ensures { IsSeen layout.now result }
     {

@@ -36,7 +36,7 @@ fn segment_out_of_order(page: u64, segments: &[Segment]) -> Option<usize>
     None
 }
 
-/// No segment of an output with addresses of its own begins at address 0.
+/// No loaded segment of an output with a fixed load address has bytes at address 0.
 #[derive(Clone, Copy)]
 struct LeavesZeroFree {
     kind: OutputKind,
@@ -67,7 +67,7 @@ impl Test<Segment> for SegmentInImage {
     }
 }
 
-/// The sections behind section 0, of an output that is loaded.
+/// The sections after section 0, of an output that is loaded.
 fn loaded_sections(layout: &Layout) -> &[Section]
     ensures { result.now ≡ loaded_sections layout.now }
 {

@@ -86,7 +86,7 @@ fn file_misplaced(groups: &[Group]) -> Option<usize>
     None
 }
 
-/// The same of the first group and the last alone, where the last has that place.
+/// The same for the first and the last group; `place` is that of the last.
 fn ends_misplaced(first: &Group, last: &Group, place: usize) -> Option<usize>
     ensures { result ≡ ends_misplaced first.now last.now place }
 {
@@ -99,7 +99,7 @@ fn ends_misplaced(first: &Group, last: &Group, place: usize) -> Option<usize>
     }
 }
 
-/// The first group with a file out of its place. Where the output is bare inside, the files between are neither the first nor the last.
+/// The first group with a misplaced file. If `inside` is set, no file of the inner groups must be the first or the last of all.
 fn first_misplaced(layout: &Layout, inside: bool) -> Option<usize>
     requires { inside ≡ is_bare_inside layout.now }
     ensures { result ≡ file_misplaced true 0 layout.now.groups }

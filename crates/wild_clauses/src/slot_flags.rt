@@ -1,4 +1,4 @@
-//! Clause 14: what is known of a symbol agrees with its slots and its stub.
+//! Clause 14: a symbol's flags agree with its slots and its stub.
 ghost use Rattle.std.specs.Prelude.{◌≡◌};
 ghost use Rattle.wild_types.specs.SymbolSlots.{got_of, plt_of, has_dynamic_symbol, has_thread_slot};
 ghost use Rattle.wild_clauses.specs.SlotFlags.{is_asked, first_asked_failing, dynamic_is_interposable, is_value, stub_is_value, stub_has_slot, one_slot_for_address, thread_slot_alone, resolver_is_own, slot_agrees, resolver_moves, takes_block_word, second_slot_fits, is_plain, agrees_in_all};
@@ -12,7 +12,7 @@ use wild_types::{
     has_dynamic_symbol, has_thread_slot, plt_of,
 };
 
-/// A symbol that a loader looks up may be replaced.
+/// A symbol that a loader looks up is interposable.
 struct DynamicIsInterposable;
 
 impl Test<Symbol> for DynamicIsInterposable {
@@ -23,7 +23,7 @@ impl Test<Symbol> for DynamicIsInterposable {
     }
 }
 
-/// Whether the stub, where it is there, is the value.
+/// Whether the stub, if there is one, is the symbol's canonical address.
 fn is_value(resolution: Option<Resolution>) -> bool
     ensures { result ≡ is_value resolution }
 {
@@ -36,7 +36,7 @@ fn is_value(resolution: Option<Resolution>) -> bool
     }
 }
 
-/// The stub of a symbol that a loader looks up is its value.
+/// The stub of a symbol that a loader looks up is its canonical address.
 struct StubIsValue;
 
 impl Test<Symbol> for StubIsValue {
@@ -83,7 +83,7 @@ impl Test<Symbol> for ThreadSlotAlone {
     }
 }
 
-/// A resolver is of the output itself.
+/// A resolver is the output's own symbol.
 struct ResolverIsOwn;
 
 impl Test<Symbol> for ResolverIsOwn {
@@ -94,7 +94,7 @@ impl Test<Symbol> for ResolverIsOwn {
     }
 }
 
-/// A slot is there exactly where the flags ask for one, for an address or for a thread-local symbol.
+/// There is a slot exactly if the flags require one, either for an address or for a thread-local symbol.
 struct SlotAgrees;
 
 impl Test<Symbol> for SlotAgrees {
@@ -107,7 +107,7 @@ impl Test<Symbol> for SlotAgrees {
     }
 }
 
-/// The address of a resolver is no number.
+/// The address of a resolver is not absolute.
 struct ResolverMoves;
 
 impl Test<Symbol> for ResolverMoves {
@@ -118,7 +118,7 @@ impl Test<Symbol> for ResolverMoves {
     }
 }
 
-/// Whether the symbol's slot is one of a block of packed words.
+/// Whether the symbol's slot is in the block of slots that RELR relocates.
 fn takes_block_word(layout: &Layout, symbol: &Symbol) -> bool
     ensures { result ≡ takes_block_word layout.now symbol.now }
 {
@@ -133,7 +133,7 @@ fn takes_block_word(layout: &Layout, symbol: &Symbol) -> bool
         && flags.has_link_time_address()
 }
 
-/// A second slot for an address does not stand in a block of packed words.
+/// A symbol with a second slot for its address has no slot in the block.
 #[derive(Clone, Copy)]
 struct SecondSlotFits<'a> {
     layout: &'a Layout,
@@ -149,7 +149,7 @@ impl Test<Symbol> for SecondSlotFits<'_> {
     }
 }
 
-/// Whether a symbol has no slot and no stub, and no flag that asks for one. It passes them all.
+/// Whether a symbol has no slot and no stub, and no flag that requires one. It passes all tests.
 fn is_plain(symbol: &Symbol) -> bool
     ensures { result ≡ is_plain symbol.now }
 {
@@ -191,14 +191,14 @@ impl Test<Symbol> for AgreesInAll<'_> {
     }
 }
 
-/// Whether the symbol of that number is asked: no other symbol defines it, or it has a resolution of its own.
+/// Whether the symbol of that number is tested: no other symbol defines it, or it has a resolution of its own.
 fn is_asked(layout: &Layout, number: usize, symbol: &Symbol) -> bool
     ensures { result ≡ is_asked layout.now number symbol.now }
 {
     layout.canonical(SymbolIndex(number)).0 == number || symbol.resolution.is_some()
 }
 
-/// The place of the first symbol that is asked and fails the test.
+/// The place of the first tested symbol that fails the test.
 fn first_asked_failing<C: Test<Symbol>>(layout: &Layout, test: &C) -> Option<usize>
     ensures { result ≡ first_asked_failing layout.now (C.test test.now) 0 layout.now.symbols }
 {
@@ -210,7 +210,7 @@ fn first_asked_failing<C: Test<Symbol>>(layout: &Layout, test: &C) -> Option<usi
     None
 }
 
-/// A plain symbol carries no index of the dynamic symbol table.
+/// A plain symbol has no index of the dynamic symbol table.
 struct IsSimple;
 
 impl Test<Symbol> for IsSimple {
@@ -221,7 +221,7 @@ impl Test<Symbol> for IsSimple {
     }
 }
 
-/// Whether all symbols are such.
+/// Whether all symbols are plain and have none.
 #[tactic(auto, unfolding(crate::specs::Survey::are_simple))]
 pub(crate) fn are_simple(layout: &Layout) -> bool
     ensures { result ≡ are_simple layout.now.symbols }
@@ -229,7 +229,7 @@ pub(crate) fn are_simple(layout: &Layout) -> bool
     all_pass(&IsSimple, layout.symbols.as_slice())
 }
 
-/// The tests are asked one by one only where a symbol fails one of them, and none is where all are simple.
+/// The tests run one by one only if a symbol fails one of them, and none runs if all symbols are simple.
 #[tactic(auto, using(crate::proofs::FlagLemmas::flags_agree, crate::proofs::SimpleLemmas::simple_agree), unfolding(crate::specs::ClauseTests::check_slot_flags))]
 pub(crate) fn check_slot_flags(layout: &Layout, simple: bool) -> Result<(), Clause>
     requires { simple ≡ are_simple layout.now.symbols }

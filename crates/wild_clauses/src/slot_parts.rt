@@ -1,10 +1,10 @@
-//! Clause 11: slots stand at multiples of 8, and the part of the group's block where addresses are packed.
+//! Clause 11: slots have addresses that are multiples of 8; there is a block of slots only if addresses are packed (RELR).
 ghost use Rattle.wild_clauses.specs.SlotPlaces.{slot_is_even, block_is_asked, block_has_base};
 
 use wild_slot::WORD_SIZE;
 use wild_types::{Layout, Part, Role, Symbol, Test, got_of, has_role};
 
-/// A slot stands at a multiple of 8.
+/// A slot's address is a multiple of 8.
 pub(crate) struct SlotIsEven;
 
 impl Test<Symbol> for SlotIsEven {
@@ -18,7 +18,7 @@ impl Test<Symbol> for SlotIsEven {
     }
 }
 
-/// The part of the block is there only where addresses are packed.
+/// The part of the block exists only if addresses are packed.
 #[derive(Clone, Copy)]
 pub(crate) struct BlockIsAsked<'a> {
     pub(crate) layout: &'a Layout,
@@ -32,7 +32,7 @@ impl Test<Part> for BlockIsAsked<'_> {
     }
 }
 
-/// The part of the block does not stand at address 0.
+/// The part of the block is not at address 0.
 pub(crate) struct BlockHasBase;
 
 impl Test<Part> for BlockHasBase {

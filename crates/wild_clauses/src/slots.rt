@@ -1,4 +1,4 @@
-//! Clause 11: where slots and stubs stand.
+//! Clause 11: addresses of slots and stubs.
 ghost use Rattle.std.specs.Prelude.{◌≡◌, ◌+◌, ◌-◌, ◌*◌, ◌^◌, ◌<◌, ◌≤◌, length, slice_range, Ok, IfOk};
 ghost use Rattle.wild_types.specs.Lists.{first_failing};
 ghost use Rattle.wild_clauses.specs.SlotPlaces.{start_of, IsBounded, first_free, stands_at, stands_next, behind, walk, symbol_step, passed_without, slot_before, file_step, group_step, slots_astray, has_no_places};
@@ -17,8 +17,8 @@ use wild_types::{
     is_without, part_with, plt_of,
 };
 
-/// The next free word of `got` and of `got_relr`, the next free stub of `plt_got`, and the symbol behind all that had their
-/// turn.
+/// The next free word of `got` and of `got_relr`, the next free stub of `plt_got`, and the symbol after all that have been
+/// assigned.
 #[derive(Clone, Copy)]
 pub struct Free {
     pub got: u128,
@@ -27,7 +27,7 @@ pub struct Free {
     pub symbol: usize,
 }
 
-/// Where the part of a role begins; 0 where there is none.
+/// The address of the part of a role; 0 without such a part.
 fn start_of(layout: &Layout, role: Role) -> u64
     ensures { result ≡ start_of layout.now role }
 {
@@ -37,7 +37,7 @@ fn start_of(layout: &Layout, role: Role) -> u64
     }
 }
 
-/// The place behind so many words from an address on.
+/// The place after a number of words from an address on.
 fn behind_words(address: u64, count: u64) -> u128
     ensures is { result ≡ address + 8 * count }
     ensures few { result ≤ 2 ^ 68 }
@@ -45,7 +45,7 @@ fn behind_words(address: u64, count: u64) -> u128
     u128::from(address) + WORD_SIZE as u128 * u128::from(count)
 }
 
-/// The places behind what stands once.
+/// The free places after the reserved words and the module pair.
 fn first_free(layout: &Layout) -> Free
     ensures is { result ≡ first_free layout.now }
     ensures small { IsBounded result }
@@ -59,7 +59,7 @@ fn first_free(layout: &Layout) -> Free
     }
 }
 
-/// Whether an address, where there is one, is the free one.
+/// Whether an address, if there is one, is the free one.
 fn stands_at(free: u128, address: Option<u64>) -> bool
     ensures { result ≡ stands_at free address }
 {
@@ -81,7 +81,7 @@ fn stands_next(layout: &Layout, next: Free, symbol: &Symbol) -> bool
     stands_at(free, got_of(symbol)) && stands_at(next.stub, plt_of(symbol))
 }
 
-/// The places behind those of a symbol.
+/// The free places after those of a symbol.
 fn behind(layout: &Layout, next: Free, symbol: &Symbol) -> Free
     requires small { IsBounded next }
     requires few { next.symbol < 2 ^ 64 - 1 }
@@ -102,7 +102,7 @@ fn behind(layout: &Layout, next: Free, symbol: &Symbol) -> Free
     }
 }
 
-/// The places behind a symbol without a slot, or its number where it has a stub that does not stand next.
+/// The free places after a symbol without a slot, or its number if it has a stub that is not the next free one.
 fn pass_without(next: Free, symbol: &Symbol) -> Result<Free, usize>
     requires { next.symbol < 2 ^ 64 - 1 }
     ensures { result ≡ passed_without next symbol.now }
@@ -116,7 +116,7 @@ fn pass_without(next: Free, symbol: &Symbol) -> Result<Free, usize>
     })
 }
 
-/// The places behind a symbol, or its number where it does not stand next.
+/// The free places after a symbol, or its number if its slots or stub are not the next free ones.
 #[tactic(auto, using(crate::proofs::SlotPlaceLemmas::step_without))]
 fn symbol_step(layout: &Layout, next: Free, symbol: &Symbol) -> Result<Free, usize>
     requires small { IsBounded next }
@@ -134,7 +134,7 @@ fn symbol_step(layout: &Layout, next: Free, symbol: &Symbol) -> Result<Free, usi
     }
 }
 
-/// The places behind some symbols, or the first that does not stand next.
+/// The free places after some symbols, or the first whose slots or stub are not the next free ones.
 #[tactic(auto, unfolding(crate::specs::SlotPlaces::walk))]
 fn walk_symbols(layout: &Layout, next: Free, symbols: &[Symbol]) -> Result<Free, usize>
     requires small { IsBounded next }
@@ -158,8 +158,8 @@ fn slot_before(layout: &Layout, from: usize, to: usize) -> Option<usize>
     Some(from + found)
 }
 
-/// The places behind the symbols of a file, or the first symbol that does not stand next, or has a slot that no file
-/// writes.
+/// The free places after the symbols of a file; or the first symbol whose slots or stub are not the next free ones, or that has a
+/// slot that no file writes.
 fn file_step(layout: &Layout, next: Free, file: &File) -> Result<Free, usize>
     requires small { IsBounded next }
     ensures is { result ≡ file_step layout.now next file.now }
@@ -182,7 +182,7 @@ fn file_step(layout: &Layout, next: Free, file: &File) -> Result<Free, usize>
     walk_symbols(layout, next, layout.own_symbols(file))
 }
 
-/// The same of the files of a group.
+/// The same for the files of a group.
 #[tactic(auto, unfolding(crate::specs::SlotPlaces::walk))]
 fn group_step(layout: &Layout, next: Free, group: &Group) -> Result<Free, usize>
     requires small { IsBounded next }
@@ -196,7 +196,7 @@ fn group_step(layout: &Layout, next: Free, group: &Group) -> Result<Free, usize>
     Ok(next)
 }
 
-/// The same of all groups.
+/// The same for all groups.
 #[tactic(auto, unfolding(crate::specs::SlotPlaces::walk))]
 fn walk_groups(layout: &Layout) -> Result<Free, usize>
     ensures { result ≡ walk (group_step layout.now) (first_free layout.now) layout.now.groups }
@@ -219,8 +219,8 @@ impl Test<Symbol> for HasNoPlaces {
     }
 }
 
-/// The first symbol that does not stand next, or has a slot that no file writes. Files are gone through only where a symbol has a
-/// slot or a stub.
+/// The first symbol whose slots or stub are not the next free ones, or that has a slot that no file writes. Files are visited only
+/// if a symbol has a slot or a stub.
 #[tactic(auto, using(crate::proofs::PlacelessLemmas::none_astray, crate::proofs::SimpleLemmas::simple_astray))]
 fn slots_astray(layout: &Layout, simple: bool) -> Option<usize>
     requires indexes { check_indexes layout.now ≡ Ok tt }
@@ -239,7 +239,7 @@ fn slots_astray(layout: &Layout, simple: bool) -> Option<usize>
     }
 }
 
-/// It is asked where the indexes hold. Symbols are not asked where all are simple.
+/// Requires that the indexes fit. If all symbols are simple, none is tested.
 #[tactic(auto, using(crate::proofs::SimpleLemmas::simple_even), unfolding(crate::specs::ClauseTests::check_slots))]
 pub(crate) fn check_slots(layout: &Layout, simple: bool) -> Result<(), Clause>
     requires indexes { check_indexes layout.now ≡ Ok tt }

@@ -1,4 +1,4 @@
-//! Clause 8: each section in a given order is named once in it, and the order names no others.
+//! Clause 8: each sorted section is named exactly once in the order, and the order names no others.
 ghost use Rattle.std.specs.Prelude.{◌≡◌};
 ghost use Rattle.wild_types.specs.Lookups.{has_bytes};
 ghost use Rattle.wild_clauses.specs.Ordered.{as_ordered};
@@ -24,7 +24,7 @@ fn times_named(order: &[SortedSection], named: SortedSection) -> usize
     times
 }
 
-/// Whether a section is named once, where it is a sorted one.
+/// Whether a section, if it is a sorted one, is named exactly once.
 fn is_named_once(layout: &Layout, named: SortedSection, section: &InputSection) -> bool
     ensures { result ≡ is_named_once layout.now named.group named.file named.section section.now }
 {
@@ -34,7 +34,7 @@ fn is_named_once(layout: &Layout, named: SortedSection, section: &InputSection) 
     }
 }
 
-/// The same of the sections of the file of those numbers.
+/// The same for the sections of the file with those numbers.
 fn sections_named_once(
     layout: &Layout,
     group: usize,
@@ -67,7 +67,7 @@ fn files_named_once(layout: &Layout, group: usize, files: &[File]) -> bool
     true
 }
 
-/// The first group with a sorted section that is not named once. None is looked for where all files are ordinary.
+/// The first group with a sorted section that is not named exactly once. If all files are ordinary, there are none to search.
 #[tactic(auto, using(crate::proofs::SurveyLemmas::none_sorted))]
 pub(crate) fn sorted_named_once(layout: &Layout, ordinary: bool) -> Option<usize>
     requires { ordinary ≡ are_ordinary layout.now.groups }
@@ -98,7 +98,7 @@ impl Test<SortedSection> for NamesSorted<'_> {
     }
 }
 
-/// Whether there are bytes of a section in a given order, which is written as a loaded one.
+/// Whether there are bytes of a sorted section, which is written like a loaded one.
 pub(crate) fn has_ordered_bytes(layout: &Layout, section: &InputSection) -> bool
     ensures { result ≡ has_bytes layout.now (as_ordered layout.now section.now) }
 {

@@ -6,7 +6,7 @@ ghost use Rattle.wild_clauses.specs.ClauseTests.{check_starts};
 use crate::verdict::fails;
 use wild_types::{Clause, Group, Layout, Part, Role, Test, first_failing, has_role};
 
-/// Something of each of the parts whose shares have a start.
+/// One value for each part whose shares have a start.
 #[derive(Clone, Copy)]
 pub struct Starts<T> {
     pub dynstr: T,
@@ -41,7 +41,7 @@ fn start_places(parts: &[Part]) -> Starts<Option<usize>>
     }
 }
 
-/// The group's bytes of the part at that place, where there is one.
+/// The group's bytes in the part at that place; 0 without a place.
 fn given_at(part: Option<usize>, group: &Group) -> u64
     ensures { result ≡ given_at part group.now }
 {
@@ -98,7 +98,7 @@ fn no_starts() -> Starts<u128>
     }
 }
 
-/// The first group whose shares do not begin where those of the groups before it end.
+/// The first group whose shares do not begin where those of earlier groups end.
 fn start_astray(places: Starts<Option<usize>>, groups: &[Group]) -> Option<usize>
     ensures { result ≡ start_astray places no_starts 0 groups.now }
 {
@@ -112,7 +112,7 @@ fn start_astray(places: Starts<Option<usize>>, groups: &[Group]) -> Option<usize
     None
 }
 
-/// Whether there is none of these parts.
+/// Whether none of these parts exists.
 fn is_nowhere(places: Starts<Option<usize>>) -> bool
     ensures { result ≡ true → places ≡ nowhere }
 {
@@ -139,7 +139,8 @@ impl Test<Group> for BeginsAtFront {
     }
 }
 
-/// The same. Where there is none of the parts, no share is added up.
+/// The first group whose shares do not begin where those of earlier groups end. If none of the parts exists, shares are not added
+/// up.
 #[tactic(auto, using(crate::proofs::StartLemmas::none_begins))]
 fn first_astray(places: Starts<Option<usize>>, groups: &[Group]) -> Option<usize>
     ensures { result ≡ start_astray places no_starts 0 groups.now }

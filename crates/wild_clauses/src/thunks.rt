@@ -1,4 +1,4 @@
-//! Clause 12: where thunks stand.
+//! Clause 12: addresses of thunks.
 ghost use Rattle.std.specs.Prelude.{◌≡◌, ◌+◌, ◌*◌, ◌^◌, ◌<◌, ◌≤◌, length, IfOk, Some};
 ghost use Rattle.std.specs.List.{list_any};
 ghost use Rattle.wild_laid.specs.Laid.{sorted_input};
@@ -16,7 +16,7 @@ use wild_types::{
 };
 use wild_words::Items;
 
-/// The bytes of a thunk: three instructions.
+/// The size of a thunk: three instructions.
 const THUNK_SIZE: u128 = wild_types::THUNK_SIZE as u128;
 
 /// Whether there are thunks.
@@ -56,7 +56,7 @@ impl Test<Items<Thunk>> for Ascends {
     }
 }
 
-/// Whether thunks stand at a place, one behind the other.
+/// Whether consecutive thunks begin at a place.
 fn stand_from(at: u128, thunks: &[Thunk]) -> bool
     requires { at < 2 ^ 127 }
     ensures { result ≡ stand_from at thunks.now }
@@ -71,7 +71,7 @@ fn stand_from(at: u128, thunks: &[Thunk]) -> bool
     true
 }
 
-/// The place behind thunks that stand at a place, and end at `end` or before; else the number of their block.
+/// The place after consecutive thunks that begin at a place and end at `end` or before; else the number of their block.
 fn behind_thunks(block: usize, end: u128, at: u128, thunks: &[Thunk]) -> Result<u128, usize>
     requires { at < 2 ^ 127 }
     ensures is { result ≡ behind_thunks block end at thunks.now }
@@ -85,7 +85,7 @@ fn behind_thunks(block: usize, end: u128, at: u128, thunks: &[Thunk]) -> Result<
     }
 }
 
-/// The place behind the thunks of a block, which begin at the next place for an instruction.
+/// The place after the thunks of a block, which begin at the next place for an instruction.
 fn block_step(block: usize, end: u128, at: u128, thunks: &[Thunk]) -> Result<u128, usize>
     requires small { at ≤ 2 ^ 65 }
     requires near { end ≤ 2 ^ 65 }
@@ -98,8 +98,8 @@ fn block_step(block: usize, end: u128, at: u128, thunks: &[Thunk]) -> Result<u12
     behind_thunks(block, end, (at + 3) / 4 * 4, thunks)
 }
 
-/// The place behind a section with bytes, where that is one of the primary part; the number of its group where it begins before the free
-/// place.
+/// The place after a section with bytes, if the section is in the primary part; the number of its group if the section begins
+/// before the free place.
 fn step_bytes(primary: usize, group: usize, at: u128, section: &InputSection) -> Result<u128, usize>
     requires { at ≤ 2 ^ 65 }
     ensures is { result ≡ bytes_step primary group at section.now }
@@ -114,7 +114,7 @@ fn step_bytes(primary: usize, group: usize, at: u128, section: &InputSection) ->
     Ok(wide_sum(section.address, section.size))
 }
 
-/// The same of a section of a file, which stands there only where it has bytes.
+/// The same for a section of a file, which has a place only if it has bytes.
 #[tactic(auto, using(crate::proofs::OrderedLemmas::filled_step, crate::proofs::OrderedLemmas::unfilled_step))]
 fn section_step(
     layout: &Layout,
@@ -132,7 +132,7 @@ fn section_step(
     step_bytes(layout.primary_part, group, at, section)
 }
 
-/// The same of a section in a given order.
+/// The same for a sorted section.
 #[tactic(auto, using(crate::proofs::OrderedLemmas::ordered_step, crate::proofs::OrderedLemmas::unfilled_step))]
 fn ordered_step(
     layout: &Layout,
@@ -150,7 +150,7 @@ fn ordered_step(
     step_bytes(layout.primary_part, group, at, section)
 }
 
-/// The same of the section that an entry of the order names.
+/// The same for the section that an entry of the order names.
 #[tactic(auto, using(crate::proofs::OrderedLemmas::then_ok), unfolding(crate::specs::SlotPlaces::walk))]
 fn step_entry(layout: &Layout, group: usize, at: u128, entry: SortedSection) -> Result<u128, usize>
     requires { at ≤ 2 ^ 65 }
@@ -163,7 +163,7 @@ fn step_entry(layout: &Layout, group: usize, at: u128, entry: SortedSection) -> 
     }
 }
 
-/// The same of some entries of the order.
+/// The same for some entries of the order.
 #[tactic(auto, unfolding(crate::specs::SlotPlaces::walk))]
 fn walk_order(
     layout: &Layout,
@@ -182,7 +182,7 @@ fn walk_order(
     Ok(at)
 }
 
-/// The same of some sections.
+/// The same for some sections.
 #[tactic(auto, unfolding(crate::specs::SlotPlaces::walk))]
 fn walk_sections(
     layout: &Layout,
@@ -201,7 +201,7 @@ fn walk_sections(
     Ok(at)
 }
 
-/// The place behind the sections of a file, and with the last file behind those in a given order.
+/// The place after the sections of a file, and for the last file after the sorted ones.
 #[tactic(auto, using(crate::proofs::OrderedLemmas::walk_standing), unfolding(crate::specs::SlotPlaces::walk))]
 fn walk_standing(layout: &Layout, group: usize, at: u128, file: &File) -> Result<u128, usize>
     requires { at ≤ 2 ^ 65 }
@@ -215,7 +215,7 @@ fn walk_standing(layout: &Layout, group: usize, at: u128, file: &File) -> Result
     walk_order(layout, group, at, layout.sorted.as_slice())
 }
 
-/// The place behind the sections and the thunks of a file.
+/// The place after the sections and the thunks of a file.
 fn file_step(layout: &Layout, group: usize, end: u128, at: u128, file: &File) -> Result<u128, usize>
     requires small { at ≤ 2 ^ 65 }
     requires near { end ≤ 2 ^ 65 }
@@ -226,7 +226,7 @@ fn file_step(layout: &Layout, group: usize, end: u128, at: u128, file: &File) ->
     block_step(file.thunk_block, end, at, layout.thunks_of(file))
 }
 
-/// The same of some files.
+/// The same for some files.
 #[tactic(auto, unfolding(crate::specs::SlotPlaces::walk))]
 fn walk_files(
     layout: &Layout,
@@ -246,7 +246,7 @@ fn walk_files(
     Ok(at)
 }
 
-/// The first thunk or section that is out of its place, in a part that ends at `last`: the number of its block or group.
+/// The first misplaced thunk or section, in a part that ends at `last`: the number of its block or group.
 fn misplaced_from(layout: &Layout, start: u64, last: u128) -> Option<usize>
     requires { last ≤ 2 ^ 65 }
     ensures { result ≡ misplaced_from layout.now last start 0 layout.now.groups }
@@ -271,7 +271,7 @@ fn misplaced_in(layout: &Layout, part: &Part) -> Option<usize>
     misplaced_from(layout, part.address, wide_sum(part.address, part.size))
 }
 
-/// The same where there are thunks.
+/// The same, if there are thunks.
 fn thunks_misplaced(layout: &Layout) -> Option<usize>
     ensures { result ≡ thunks_misplaced layout.now }
 {

@@ -31,7 +31,7 @@ use crate::thunks::check_thunks;
 use crate::versions::{check_versions, needed_libraries};
 use wild_types::{Clause, Layout};
 
-/// Clause `clause` fails at that place, where there is one.
+/// Clause `clause` fails at that place, if there is one.
 pub(crate) fn fails(clause: u32, place: Option<usize>) -> Result<(), Clause>
     ensures { result ≡ fails clause place }
 {
@@ -41,7 +41,7 @@ pub(crate) fn fails(clause: u32, place: Option<usize>) -> Result<(), Clause>
     }
 }
 
-/// Place 0, where a test of the whole layout fails.
+/// Place 0 if a test of the whole layout fails.
 pub(crate) fn unless(ok: bool) -> Option<usize>
     ensures { result ≡ unless ok }
 {
@@ -56,7 +56,7 @@ pub fn well_formed(layout: &Layout) -> Result<(), Clause>
     well_formed_seen(layout, Seen::of(layout))
 }
 
-/// The same of a layout of which that is seen.
+/// The same, with the properties of the layout that the caller has already computed.
 #[tactic(auto, unfolding(crate::specs::WellFormed::first_clause))]
 pub fn well_formed_seen(layout: &Layout, seen: Seen) -> Result<(), Clause>
     requires { IsSeen layout.now seen }

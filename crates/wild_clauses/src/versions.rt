@@ -1,4 +1,4 @@
-//! Clause 18: versions; and how many there are.
+//! Clause 18: versions, and how many there are.
 ghost use Rattle.std.specs.Prelude.{◌≡◌, ◌-◌, ◌^◌, ◌&&◌, nat_le, length, min, IfSome, Ok};
 ghost use Rattle.std.specs.List.{filter};
 ghost use Rattle.wild_types.specs.Lists.{through, total};
@@ -15,7 +15,7 @@ use wild_types::{Clause, File, Group, Layout, Role, Test, VersionDefinition, is_
 /// An index of a version has 16 bits (LSB, `vd_ndx`, `vn_cnt`).
 const MOST_VERSIONS: u64 = 65535;
 
-/// Of how many libraries versions are needed, at most 2^64 - 1. They are counted only where some file is not ordinary.
+/// From how many libraries versions are needed, at most 2^64 - 1. They are counted only if some file is not ordinary.
 #[tactic(auto, using(crate::proofs::SurveyLemmas::none_needed))]
 pub(crate) fn needed_libraries(layout: &Layout, ordinary: bool) -> u64
     requires { ordinary ≡ are_ordinary layout.now.groups }
@@ -24,7 +24,7 @@ pub(crate) fn needed_libraries(layout: &Layout, ordinary: bool) -> u64
     if ordinary { 0 } else { need_count(layout) }
 }
 
-/// How many versions are needed of a file.
+/// How many versions are needed from a file.
 fn file_versions(file: &File) -> u64
     ensures { result ≡ file_versions file.now }
 {
@@ -56,7 +56,7 @@ fn versions_of_groups(groups: &[Group]) -> u64
     count
 }
 
-/// How many versions are needed of all libraries, at most 2^64 - 1.
+/// How many versions are needed from all libraries, at most 2^64 - 1.
 #[tactic(auto, using(crate::proofs::VersionLemmas::all_versions))]
 fn versions_needed(layout: &Layout) -> u64
     ensures { result ≡ min (2 ^ 64 - 1) (versions_needed layout.now) }
@@ -64,7 +64,7 @@ fn versions_needed(layout: &Layout) -> u64
     versions_of_groups(layout.groups.as_slice())
 }
 
-/// Whether each version that is needed can have an index, where so many libraries have any. They are counted only where some library does.
+/// Whether each needed version can have an index; `count` libraries have some. Versions are counted only if `count` is not 0.
 #[tactic(auto, using(crate::proofs::VersionLemmas::none_needed), unfolding(wild_needs::specs::DynamicPlaces::need_number))]
 fn needs_fit(layout: &Layout, count: u64) -> bool
     requires { count ≡ need_number layout.now }
@@ -81,7 +81,7 @@ pub(crate) fn versions_fit(layout: &Layout, count: u64) -> bool
     layout.verdefs.len() as u64 <= MOST_VERSIONS && needs_fit(layout, count)
 }
 
-/// A version's parent is one of the list.
+/// A version's parent is in the list.
 #[derive(Clone, Copy)]
 pub(crate) struct ParentIsThere<'a> {
     pub(crate) layout: &'a Layout,
@@ -98,7 +98,8 @@ impl Test<VersionDefinition> for ParentIsThere<'_> {
     }
 }
 
-/// The first version is the output's own name, and is nobody's parent; other parents stand before.
+/// The first version is the output's own name and has no parent; a later version's parent, if any, comes before it and is not the
+/// first.
 fn parent_fits(place: usize, parent: Option<usize>) -> bool
     ensures { result ≡ parent_fits place parent }
 {
@@ -119,7 +120,7 @@ fn parent_astray(definitions: &[VersionDefinition]) -> Option<usize>
     None
 }
 
-/// Place 0 where there is none.
+/// Place 0 if there is none.
 fn some_definition(definitions: &[VersionDefinition]) -> Option<usize>
     ensures { result ≡ some_definition definitions.now }
 {
@@ -130,7 +131,7 @@ fn some_definition(definitions: &[VersionDefinition]) -> Option<usize>
     }
 }
 
-/// The first version whose parent does not fit, where there is a part for versions.
+/// The first version whose parent does not fit, if there is a part for versions.
 fn definition_astray(layout: &Layout) -> Option<usize>
     ensures { result ≡ definition_astray layout.now }
 {
@@ -141,7 +142,7 @@ fn definition_astray(layout: &Layout) -> Option<usize>
     }
 }
 
-/// How many libraries with versions are left behind a file; none where its mark does not fit: the last alone is marked.
+/// How many libraries with versions remain after a file; none if its mark does not fit: only the last is marked.
 fn mark_step(left: u64, file: &File) -> Option<u64>
     ensures { result ≡ mark_step left file.now }
 {
@@ -152,7 +153,7 @@ fn mark_step(left: u64, file: &File) -> Option<u64>
     }
 }
 
-/// The same behind files.
+/// The same after files.
 fn marks_left(left: u64, files: &[File]) -> Option<u64>
     ensures walk { result ≡ through mark_step left files.now }
     ensures fewer { IfSome result (λ next. next ≡ left - length (filter has_needs files.now)) }
@@ -164,7 +165,7 @@ fn marks_left(left: u64, files: &[File]) -> Option<u64>
     Some(left)
 }
 
-/// The first group with a mark that does not fit, where so many libraries have versions.
+/// The first group with a mark that does not fit, if this many libraries have versions.
 fn mark_astray(count: u64, groups: &[Group]) -> Option<usize>
     ensures { result ≡ mark_astray count 0 groups.now }
 {
@@ -178,7 +179,7 @@ fn mark_astray(count: u64, groups: &[Group]) -> Option<usize>
     None
 }
 
-/// Where the counts fit, the number of libraries with versions is exact.
+/// If the counts fit, the number of libraries with versions is exact.
 #[tactic(auto, using(crate::proofs::VersionLemmas::few_needs), unfolding(wild_needs::specs::DynamicPlaces::need_number))]
 fn exact_need_count(layout: &Layout, count: u64) -> u64
     requires needs { count ≡ need_number layout.now }
@@ -188,7 +189,7 @@ fn exact_need_count(layout: &Layout, count: u64) -> u64
     count
 }
 
-/// The first group with a mark that does not fit. None is looked for where no library has versions.
+/// The first group with a mark that does not fit. If no library has versions, none is searched.
 #[tactic(auto, using(crate::proofs::VersionLemmas::nothing_marked))]
 fn wrong_mark(layout: &Layout, count: u64) -> Option<usize>
     requires needs { count ≡ need_number layout.now }
@@ -202,7 +203,7 @@ fn wrong_mark(layout: &Layout, count: u64) -> Option<usize>
     mark_astray(count, layout.groups.as_slice())
 }
 
-/// It is asked where the counts fit, with the number of libraries of which versions are needed.
+/// Requires that the counts fit; `count` libraries have needed versions.
 #[tactic(auto, unfolding(crate::specs::ClauseTests::check_versions))]
 pub(crate) fn check_versions(layout: &Layout, count: u64) -> Result<(), Clause>
     requires needs { count ≡ need_number layout.now }

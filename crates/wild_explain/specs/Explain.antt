@@ -1,8 +1,8 @@
--- What is said of a plan to those who make it.
+-- What the program says about a plan to its author.
 --   Asks words command        the words are that command
---   link_line meaning         the line with which `link` begins its answer
---   IsTold command meaning ..  the status and the text that are due for what the bytes of a plan stand for
---   IsAnswered words turn told said   the status that was answered, with its cause and its text
+--   link_line meaning         the first line of `link`'s answer
+--   IsTold command meaning ..  the status and the text are right for the meaning of a plan's bytes
+--   IsAnswered words turn told said   the returned status belongs to an answer that is right for the input, and that was written
 use Rattle.std.specs.Prelude.{◌≡◌, ℕ, List, [], ◌∷◌, ◌++◌, length, map, codes, string_bytes, String, ◌⊎◌}
 use Rattle.std.specs.declared.alloc.Global.{Global}
 use Rattle.wild_outside.specs.Causes.{Rose}
@@ -23,12 +23,12 @@ abbrev pub IsOneWord : List ℕ → Command → Type 0
 IsOneWord word (command.Explain view) = word ≡ codes "explain"
 IsOneWord word command.Needs = word ≡ codes "needs"
 
--- the words are `needs`; other words that are a command, `explain` among them, ask why
+-- the words are `needs`; every other command, `explain` among them, explains
 abbrev pub Asks : List (String Global) → Command → Type 0
 Asks words (command.Explain view) = map string_bytes words ≡ codes "needs" ∷ [] → ⊥
 Asks words command.Needs = map string_bytes words ≡ codes "needs" ∷ []
 
--- they are a command without options
+-- the words are a command without options
 abbrev pub IsPlain : List (String Global) → Type 0
 IsPlain words = (map string_bytes words ≡ codes "explain" ∷ []) ⊎ (map string_bytes words ≡ codes "needs" ∷ [])
 
@@ -36,18 +36,18 @@ IsPlain words = (map string_bytes words ≡ codes "explain" ∷ []) ⊎ (map str
 abbrev pub Begins : List ℕ → List ℕ → Type 0
 Begins line text = (rest : List ℕ) × (text ≡ line ++ rest)
 
--- the first line of what `link` says of a layout with these faults
+-- the first line of `link`'s answer for a layout with these faults
 abbrev pub errors_line : Layout → List Error → List ℕ
 errors_line l [] = image_line (length (bytes l))
 errors_line l (e ∷ es) = refusal_text e
 
--- the line with which `link` begins its answer
+-- the first line of `link`'s answer
 abbrev pub link_line : Meaning → List ℕ
 link_line no_json = codes "not a plan: json\n"
 link_line (no_plan path) = no_plan_text path
 link_line (plan l) = errors_line l (errors l)
 
--- it is its first line
+-- the answer of `link` begins with that line
 abbrev pub LinkBegins : Type 0
 LinkBegins = (m : Meaning) → Begins (link_line m) (text (of_plan m))
 
@@ -55,30 +55,30 @@ LinkBegins = (m : Meaning) → Begins (link_line m) (text (of_plan m))
 abbrev pub IsExplained : Layout → ℕ → List ℕ → Type 0
 IsExplained l code said = (code ≡ layout_status l) × Begins (errors_line l (errors l)) said
 
--- the status and the text that are due for what the bytes stand for
+-- the status and the text are right for the meaning of a plan's bytes
 abbrev pub IsTold : Command → Meaning → ℕ → List ℕ → Type 0
 IsTold c no_json code said = (code ≡ exit.no_plan) × Begins (link_line no_json) said
 IsTold c (no_plan path) code said = (code ≡ exit.no_plan) × Begins (link_line (no_plan path)) said
 IsTold (command.Explain view) (plan l) code said = IsExplained l code said
 IsTold command.Needs (plan l) code said = code ≡ exit.linked
 
--- of a fault that is not want of memory: its line first
+-- a fault other than out of memory: the text begins with its line
 pub record IsRefusedAs (error : Error) (code : ℕ) (said : List ℕ) : Type 0 where
   pub known : error.fault ≡ OutOfMemory → ⊥
   pub status_is : code ≡ exit.refused
   pub begins : Begins (refusal_text error) said
 
--- what was said of the bytes is due for what they stand for
+-- the status and the text are right for the meaning of these bytes
 pub record IsAnswerOf (whole : List ℕ) (c : Command) (code : ℕ) (said : List ℕ) : Type 0 where
   pub meaning : Meaning
   pub means : Means whole meaning
   pub told_is : IsTold c meaning code said
 
--- what the commands are
+-- the list of the commands
 abbrev pub usage_text : List ℕ
 usage_text = codes "usage: explain [--first] [--relocations] [--byte OFFSET] | needs\n"
 
--- when an answer is due, with its status and its text
+-- the answer, with its status and its text, is right for the words and the input
 abbrev pub IsDue : List (String Global) → Turn → ℕ → List ℕ → Answer → Type 0
 IsDue words t code said usage = (IsPlain words → ⊥) × IsUntouched t × (code ≡ exit.usage) × (said ≡ usage_text)
 IsDue words t code said read_fault = ((c : Command) × Asks words c) × Rose t.faults_before t.faults_after × (code ≡ exit.read_fault) × (said ≡ text read_fault)
@@ -86,7 +86,7 @@ IsDue words t code said too_long = ((c : Command) × Asks words c) × IsTooLong 
 IsDue words t code said (of_plan meaning) = (c : Command) × Asks words c × IsMeant t meaning × IsTold c meaning code said
 IsDue words t code said (of_make n) = ⊥
 
--- the status that was answered, with its cause and its text
+-- the returned status belongs to an answer that is right for the input, and that was written
 pub record IsAnswered (words : List (String Global)) (t : Turn) (u : Told) (said : ℕ) : Type 0 where
   pub answer : Answer
   pub code : ℕ

@@ -1,4 +1,4 @@
-//! What is said of the bytes of a plan.
+//! The status and the text for the bytes of a plan.
 ghost use Rattle.std.specs.Prelude.{◌≡◌, IfOk, string_bytes, length};
 ghost use Rattle.wild_text.specs.Means.{plan};
 ghost use Rattle.wild_text.specs.Answer.{image_line, no_plan_text};
@@ -16,7 +16,7 @@ use wild_plan::{Error, Fault, Layout};
 use wild_program::{LINKED, NO_PLAN, REFUSED};
 use wild_text::{PlanFault, no_plan_answer, read_plan, refusal_answer};
 
-/// The status and the text for a fault, with its reason; for want of memory there is none.
+/// The status and the text for a fault, with its reason; out of memory has none.
 fn refusal_of(alloc: Global, layout: &Layout, error: Error) -> Result<(u8, String), AllocError>
     ensures { IfOk result (λ a. IsRefusedAs error a.0 (string_bytes a.1)) }
 {
@@ -32,8 +32,8 @@ fn refusal_of(alloc: Global, layout: &Layout, error: Error) -> Result<(u8, Strin
     }
 }
 
-/// What is said of an image: whose its bytes are, what a loader would stumble over, and what is asked besides. Nothing loads an image for
-/// debuggers alone.
+/// The text about an image: the sizes of its parts and their users, advice about a loader, and what the command's options add. A
+/// debug-only image is never loaded, so it gets no advice.
 fn image_words(
     alloc: Global,
     layout: &Layout,
@@ -54,7 +54,7 @@ fn image_words(
     Ok(text)
 }
 
-/// A line and what is said behind it.
+/// A line and the text after it.
 fn joined(alloc: Global, line: &str, reason: &str) -> Result<String, AllocError>
     ensures { IfOk result (λ s. Begins line.now (string_bytes s)) }
 {
@@ -62,7 +62,7 @@ fn joined(alloc: Global, line: &str, reason: &str) -> Result<String, AllocError>
     Ok(text)
 }
 
-/// What is said of a layout with that image.
+/// The text about a layout with that image.
 fn image_answer(
     alloc: Global,
     layout: &Layout,
@@ -78,7 +78,7 @@ fn image_answer(
     Ok(text)
 }
 
-/// What is said of a layout.
+/// The status and the text of `explain` for a layout.
 fn explained(
     rt: &(impl Threads + Sync),
     alloc: Global,
@@ -96,7 +96,7 @@ fn explained(
     }
 }
 
-/// What the command says of a layout.
+/// The status and the text of the command for a layout.
 fn layout_answer(
     rt: &(impl Threads + Sync),
     alloc: Global,
@@ -115,7 +115,7 @@ fn layout_answer(
     }
 }
 
-/// The text for a value whose member at that path is no member of a plan.
+/// The text for a value whose first wrong member has that path.
 fn no_plan_reason(alloc: Global, path: &str) -> Result<String, AllocError>
     ensures { IfOk result (λ s. Begins (no_plan_text path.now) (string_bytes s)) }
 {

@@ -1,35 +1,35 @@
-//! What the words ask for.
+//! The commands of the program.
 ghost use Rattle.std.specs.Prelude.{◌≡◌, MatchOption, codes};
 ghost use Rattle.wild_explain.specs.Explain.{IsPlain, IsOneWord, Asks};
 
-/// What is to be said of a plan besides.
+/// The options of `explain`.
 #[derive(Clone, Copy)]
 pub struct View {
-    /// Of several faults the first alone.
+    /// Explain only the first of several faults.
     pub first_only: bool,
-    /// What each relocation wrote.
+    /// List what each relocation wrote.
     pub relocations: bool,
-    /// Who owns the byte at this offset of the file.
+    /// Find the owner of the byte at this offset of the file.
     pub byte: Option<u64>,
 }
 
 /// A command.
 #[derive(Clone, Copy)]
 pub enum Command {
-    /// Why the plan's layout has no image, or what its image has.
+    /// Say why the plan's layout has no image, or what its image contains.
     Explain(View),
-    /// How many bytes of each part each group needs.
+    /// Say how many bytes of each part each group needs.
     Needs,
 }
 
-/// Nothing besides.
+/// No options.
 const PLAIN: View = View {
     first_only: false,
     relocations: false,
     byte: None,
 };
 
-/// The view that options ask for, if they are options; the word behind `--byte` is an offset.
+/// Parses the options of `explain`, if these words are options; the word after `--byte` is an offset.
 fn view_of(options: &[String]) -> Option<View> {
     let mut view = PLAIN;
     let mut is_offset = false;

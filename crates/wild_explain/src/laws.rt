@@ -1,7 +1,7 @@
-//! The first line of what is said is that of `link`.
+//! The first line of the text is that of `link`.
 ghost use Rattle.wild_explain.specs.Explain.{LinkBegins};
 
-/// The line with which a plan's explanation begins is the one with which the answer of `link` begins.
+/// A plan's explanation and the answer of `link` begin with the same line.
 pub fn link_is_begun()
     ensures { LinkBegins }
 {}

@@ -1,5 +1,5 @@
 //! The program that explains a plan: `explain` says why a layout has no image, and where; `needs` says how many bytes of each part
-//! each group needs. Where it reads and writes is the caller's choice.
+//! each group needs. The caller chooses the source and the sink.
 #![tactic(auto)]
 
 mod answer;

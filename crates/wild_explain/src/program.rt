@@ -1,4 +1,4 @@
-//! All that the program does, over any source and sink.
+//! The whole program, over any source and sink.
 ghost use Rattle.std.specs.Prelude.{◌≡◌, IfOk, OnErr};
 ghost use Rattle.wild_program.specs.Program.{turn, told};
 ghost use Rattle.wild_explain.specs.Explain.{Asks, IsAnswered};
@@ -10,10 +10,10 @@ use std::thread::Threads;
 use wild_outside::{ReadFault, Sink, Source, read_whole};
 use wild_program::{LIMIT, READ_FAULT, TOO_LONG, USAGE, say};
 
-/// What the commands are.
+/// The list of the commands.
 const USAGE_TEXT: &[u8; 65] = b"usage: explain [--first] [--relocations] [--byte OFFSET] | needs\n";
 
-/// Reads the plan, and says what the command asks of it.
+/// Reads the plan and writes the command's answer.
 fn answered<S: Source, K: Sink>(
     rt: &(impl Threads + Sync),
     alloc: Global,
@@ -38,8 +38,8 @@ fn answered<S: Source, K: Sink>(
     Ok(say(sink, answer.as_bytes(), code))
 }
 
-/// All that the program does: reads the plan, and says why its layout has no image, or what each group needs. The status is that of
-/// `link`, and 0 for what groups need of a plan.
+/// The whole program: reads the plan, and says why its layout has no image, or what each group needs. The status is that of
+/// `link`; `needs` returns 0 for every plan.
 pub fn explain<S: Source, K: Sink>(
     rt: &(impl Threads + Sync),
     alloc: Global,
@@ -47,11 +47,11 @@ pub fn explain<S: Source, K: Sink>(
     source: &mut S,
     sink: &mut K,
 ) -> Result<u8, AllocError>
-    // The status and the text are due; what is said of a plan begins with the line with which `link` begins.
+    // The status and the text are right for the input; the text for a plan begins with the first line of `link`'s answer.
     ensures answer { IfOk result (λ said. IsAnswered words.now
         (turn (S.left source.old) (S.left source.new) (S.faults source.old) (S.faults source.new))
         (told (K.taken sink.old) (K.taken sink.new) (K.faults sink.old) (K.faults sink.new)) said) }
-    // Where memory is refused, nothing has been written.
+    // If memory is refused, no byte has been written.
     ensures memory { OnErr result (K.taken sink.new ≡ K.taken sink.old) }
 {
     match command_of(words) {

@@ -1,4 +1,4 @@
-//! The program that explains plans, over standard input and output: `explain` and `needs`.
+//! The program `explain` and `needs` over standard input and output.
 #![tactic(auto)]
 
 use std::process::ExitCode;

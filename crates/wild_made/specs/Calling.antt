@@ -1,10 +1,11 @@
--- Small layouts of outputs that are loaded anywhere, whose code calls a function: of x86-64 through its slot, of AArch64 by its stub.
---   by_slot, by_stub, by_branch   the code, what its relocation is, and the stub behind it
+-- Small layouts of position-independent outputs whose code calls a function: on x86-64 through its GOT slot, on AArch64 through its
+-- stub.
+--   by_slot, by_stub, by_branch   the code, its relocation, and the size of the stub after it
 --   calling_code c       the code as an input section
---   calling_static       a program without a dynamic linker, which has the function
---   calling_dynamic      a program with a dynamic linker; another module has the function
---   calling_shared       a shared object of the same
---   calling_words, calling_words_static, calling_words_shared   the same three of AArch64
+--   calling_static       a program without a dynamic linker, which defines the function
+--   calling_dynamic      a program with a dynamic linker; another module defines the function
+--   calling_shared       a shared object; another module defines the function
+--   calling_words, calling_words_static, calling_words_shared   the same three for AArch64
 use Rattle.std.specs.Prelude.{ℕ, zero, suc, ◌+◌, ◌-◌, true, false, List, [], ◌∷◌, ◌++◌, codes, map, Option, Some, None}
 use lib.IntN.{pos, negsuc}
 use Rattle.wild_records.specs.Abi.Relocation.{r_x86_64_gotpcrelx, r_aarch64_call26}
@@ -33,14 +34,14 @@ use Rattle.wild_types.specs.declared.file.FileRole.TheVariants as file_role
 use Rattle.wild_types.specs.declared.layout.Layout.{Layout}
 use Rattle.wild_made.specs.Made.{file_with, plain_file, part_with, section_with}
 
--- code of a machine with one relocation, and how many bytes the stub behind it has
+-- code of a machine with one relocation, and the size of the stub after it
 pub record Code : Type 0 where
   pub machine : Machine
   pub bytes : List ℕ
   pub reference : InputRelocation
   pub stub : ℕ
 
--- where the code stands, its stub, and the slot
+-- addresses of the code, its stub, and the slot
 abbrev pub code_at : ℕ
 code_at = 256
 
@@ -66,7 +67,7 @@ called c flags place raw index stub = record {
   resolution = Some (record { raw_value = raw; flags = record { 0 = flags }; dynamic_symbol_index = index; got_address = Some (slot_at c); plt_address = stub });
 }
 
--- `call [rip + slot]`, and two returns, of which the second is the function where the output has it
+-- `call [rip + slot]`, and two returns; the second is the function if the output defines it
 abbrev pub call_reference : InputRelocation
 call_reference = record { offset = 2; number = r_x86_64_gotpcrelx; symbol = Some 0; addend = negsuc 3; malformed = false }
 
@@ -110,12 +111,13 @@ calling_code c = record {
   relocations = c.reference ∷ [];
 }
 
--- the part of the stub, where there is one
+-- the part of the stub, if there is one
 abbrev pub stub_part : ℕ → List Part
 stub_part zero = []
 stub_part (suc n) = part_with role.PltGot 4 stub_at stub_at (suc n) 8 ∷ []
 
--- the parts; the entry of the slot is of one role or another, and symbols and their names take so many bytes
+-- the parts; `entries` is the role of the part with the slot's relocation entry, `symbols` and `strings` are the sizes of .dynsym
+-- and .dynstr
 abbrev pub calling_parts : Code → Role → ℕ → ℕ → List Part
 calling_parts c entries symbols strings =
     part_with role.FileHeader 0 0 0 64 8
@@ -147,14 +149,14 @@ calling_sections c symbols strings =
     ∷ section_with (codes ".shstrtab") sht_strtab 0 0 (slot_at c + 264) 57 1
     ∷ []
 
--- one segment that is loaded, and the dynamic section
+-- one loaded segment, and the one of the dynamic section
 abbrev pub calling_segments : Code → List Segment
 calling_segments c =
     record { kind = pt_load; flags = 7; offset = 0; address = 0; physical = 0; file_size = slot_at c + 264; mem_size = slot_at c + 264; align = 4096 }
     ∷ record { kind = pt_dynamic; flags = 6; offset = slot_at c + 8; address = slot_at c + 8; physical = slot_at c + 8; file_size = 256; mem_size = 256; align = 8 }
     ∷ []
 
--- a layout of that kind with that code, whose only symbol is the function
+-- a layout of that kind with that code; its only symbol is the function
 abbrev pub calling : Code → OutputKind → Role → ℕ → ℕ → Symbol → Layout
 calling code kind entries symbols strings function = record empty_layout {
   machine = code.machine;
@@ -177,22 +179,23 @@ calling code kind entries symbols strings function = record empty_layout {
   } ∷ [];
 }
 
--- a program without a dynamic linker: the function is its own (NON_INTERPOSABLE, GOT), and its address in the slot moves
+-- a program without a dynamic linker: it defines the function (NON_INTERPOSABLE, GOT), and the address in the slot moves with the
+-- base
 unfoldable pub calling_static : Layout
 calling_static = calling by_slot (kind.StaticExecutable Relocatable) role.RelaDynRelative 24 1 (called by_slot 0x28 (at.Section 0) 262 None None)
 
--- a program with a dynamic linker, and a shared object: the function is another module's (DYNAMIC, GOT)
+-- a program with a dynamic linker, and a shared object: another module defines the function (DYNAMIC, GOT)
 unfoldable pub calling_dynamic : Layout
 calling_dynamic = calling by_slot (kind.DynamicExecutable Relocatable) role.RelaDynGeneral 48 3 (called by_slot 0x22 at.Undefined 0 (Some 1) None)
 
 unfoldable pub calling_shared : Layout
 calling_shared = calling by_slot kind.SharedObject role.RelaDynGeneral 48 3 (called by_slot 0x22 at.Undefined 0 (Some 1) None)
 
--- a program of AArch64 without a dynamic linker: the function is its own, the return behind the branch
+-- a program of AArch64 without a dynamic linker: it defines the function, which is the return after the branch
 unfoldable pub calling_words_static : Layout
 calling_words_static = calling by_branch (kind.StaticExecutable Relocatable) role.RelaDynRelative 24 1 (called by_branch 0x28 (at.Section 0) 260 None None)
 
--- one with a dynamic linker, and a shared object: the function is another module's, and has a stub (DYNAMIC, GOT, PLT)
+-- one with a dynamic linker, and a shared object: another module defines the function, which has a stub (DYNAMIC, GOT, PLT)
 unfoldable pub calling_words : Layout
 calling_words = calling by_stub (kind.DynamicExecutable Relocatable) role.RelaDynGeneral 48 3 (called by_stub 0x62 at.Undefined stub_at (Some 1) (Some stub_at))
 

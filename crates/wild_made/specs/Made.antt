@@ -1,4 +1,4 @@
--- The plan of n groups: the smallest plan, with a group for each number below n.
+-- The plan of n groups: the smallest executable, with a group for each number below n.
 --   made_symbol i           symbol i, at the start of group i's code
 --   made_relocation n i j   relocation j of group i
 --   made_section n i        the code of group i: eight calls
@@ -38,7 +38,7 @@ use Rattle.wild_types.specs.declared.layout.Layout.{Layout}
 abbrev pub start_of : ℕ → ℕ
 start_of i = 4194432 + 64 * i
 
--- symbol i stands at the start of group i's code
+-- symbol i, at the start of group i's code
 abbrev pub made_symbol : ℕ → Symbol
 made_symbol i = record {
   name = [];
@@ -62,7 +62,7 @@ callee n i j = (5 * (8 * i + j) + 3) % n
 abbrev pub made_relocation : ℕ → ℕ → ℕ → InputRelocation
 made_relocation n i j = record { offset = 8 * j + 1; number = r_x86_64_pc32; symbol = Some (callee n i j); addend = negsuc 3; malformed = false }
 
--- a call, and three bytes that do nothing
+-- a call and three `nop`s
 abbrev pub call_bytes : List ℕ
 call_bytes = 0xe8 ∷ 0 ∷ 0 ∷ 0 ∷ 0 ∷ 0x90 ∷ 0x90 ∷ 0x90 ∷ []
 
@@ -103,7 +103,7 @@ file_with role first count sections = record {
   verneed = None;
 }
 
--- a file without symbols or sections
+-- a file without symbols and sections
 abbrev pub plain_file : FileRole → File
 plain_file role = file_with role 0 0 []
 
@@ -117,7 +117,7 @@ made_files n i =
     (if i == 0 then plain_file file_role.Prelude ∷ [] else [])
     ++ (made_object n i ∷ (if i + 1 == n then plain_file file_role.Epilogue ∷ [] else []))
 
--- how many bytes of each part are group i's
+-- group i's share of each part, in bytes
 abbrev pub made_sizes : ℕ → List ℕ
 made_sizes i = if i == 0 then 64 ∷ 56 ∷ 64 ∷ 17 ∷ 192 ∷ [] else 0 ∷ 0 ∷ 64 ∷ 0 ∷ 0 ∷ []
 

@@ -13,16 +13,16 @@ use wild_types::{
 };
 use wild_words::{Bytes, Items};
 
-/// Where the code of the first group begins.
+/// The address of the first group's code.
 const START: u64 = 4194432;
 
-/// How many bytes the code of a group has.
+/// The size of a group's code.
 const CODE_SIZE: u64 = 64;
 
 /// `SHF_ALLOC` and `SHF_EXECINSTR`.
 const TEXT_FLAGS: u64 = 6;
 
-/// Eight calls, with three bytes behind each that do nothing.
+/// Eight calls, each with three `nop`s after it.
 #[rattlefmt::skip]
 const CODE: [u8; 64] = [
     0xe8, 0, 0, 0, 0, 0x90, 0x90, 0x90, 0xe8, 0, 0, 0, 0, 0x90, 0x90, 0x90,
@@ -165,14 +165,14 @@ fn sections(alloc: Global, groups: u32, group: u32) -> Result<Items<InputSection
     Ok(Items::from_vec(all))
 }
 
-/// A file without symbols or sections.
+/// A file without symbols and sections.
 fn plain_file(alloc: Global, role: FileRole) -> File
     ensures { result ≡ plain_file role }
 {
     file(role, 0, 0, Items::new(alloc), alloc)
 }
 
-/// The files of the first or of the last group, whose object is this.
+/// The files of the first or of the last group, with this object.
 #[inline(never)]
 fn files_at_an_end(
     alloc: Global,

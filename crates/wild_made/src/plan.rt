@@ -15,7 +15,7 @@ use wild_types::{
 };
 use wild_words::{Bytes, Items};
 
-/// The header index of a part that stands in no section.
+/// The header index of a part that is in no section.
 const NO_SECTION: SectionIndex = SectionIndex(0);
 
 fn part(role: Role, section: SectionIndex, offset: u64, address: u64, size: u64, align: u64) -> Part
@@ -128,7 +128,7 @@ fn groups(alloc: Global, count: u32) -> Result<Items<Group>, AllocError>
     Ok(Items::from_vec(all))
 }
 
-/// What the link of a made plan is asked for.
+/// The options of a made plan.
 fn options(alloc: Global) -> Options
     ensures { result ≡ record no_options { relax = true; strip_all = true } }
 {
@@ -139,7 +139,7 @@ fn options(alloc: Global) -> Options
     }
 }
 
-/// A layout of so many groups, with a call from each into others.
+/// A layout of `count` groups, whose code calls that of other groups.
 #[tactic(auto, unfolding(crate::specs::Made::made))]
 pub fn make_plan(alloc: Global, count: u32) -> Result<Layout, AllocError>
     requires { (1 ≤ count) × (count ≤ 65536) }

@@ -1,4 +1,4 @@
-//! The program over standard input and output: `link W` and `make N W`.
+//! The program `link W` and `make N W` over standard input and output.
 #![tactic(auto)]
 
 use std::process::ExitCode;

@@ -1,8 +1,8 @@
 -- What the program answers.
 --   IsLink words n            the words are `link` and the number n of workers
---   IsDue words turn answer   when each answer is due
---   IsSaid told status text said   how an answer was said: the whole text was taken, or a write failed
---   IsLinkedText layout text  the text is that of an image that is what it owes the layout
+--   IsDue words turn answer   the answer is the right one for these words and this input
+--   IsSaid told status text said   how an answer was written: the whole text, or a write failed
+--   IsLinkedText layout text  the text is that of a sound image of the layout
 use Rattle.std.specs.Prelude.{◌≡◌, ℕ, ◌+◌, ◌^◌, ◌≤◌, List, [], ◌∷◌, ◌++◌, length, map, codes, decimal, string_bytes, String, Option, ◌⊎◌}
 use Rattle.std.specs.List.{sum}
 use Rattle.std.specs.declared.alloc.Global.{Global}
@@ -30,11 +30,11 @@ IsLink words n = (map string_bytes words ≡ codes "link" ∷ decimal n ∷ []) 
 abbrev pub IsMake : List (String Global) → ℕ → ℕ → Type 0
 IsMake words n w = (map string_bytes words ≡ codes "make" ∷ decimal n ∷ decimal w ∷ []) × (1 ≤ n) × (n ≤ 65536) × (1 ≤ w) × (w ≤ 64)
 
--- the words ask for the image of a plan
+-- the words are `link W`
 abbrev pub IsLinked : List (String Global) → Type 0
 IsLinked words = (n : ℕ) × IsLink words n
 
--- the words ask for the summary of a made plan's image
+-- the words are `make N W`
 abbrev pub IsMade : List (String Global) → Type 0
 IsMade words = (n : ℕ) × (w : ℕ) × IsMake words n w
 
@@ -42,12 +42,12 @@ IsMade words = (n : ℕ) × (w : ℕ) × IsMake words n w
 abbrev pub IsCommand : List (String Global) → Type 0
 IsCommand words = IsLinked words ⊎ IsMade words
 
--- what a command asks for
+-- the words are that command
 abbrev pub Asks : List (String Global) → Command → Type 0
 Asks words (command.Link w) = IsLink words w
 Asks words (command.Make n w) = IsMake words n w
 
--- what may be answered
+-- the possible answers
 pub data Answer : Type 0 where
   usage : Answer
   read_fault : Answer
@@ -55,7 +55,7 @@ pub data Answer : Type 0 where
   of_plan : Meaning → Answer
   of_make : ℕ → Answer
 
--- of a layout with these faults
+-- the status for a layout with these faults
 abbrev pub errors_status : List Error → ℕ
 errors_status [] = exit.linked
 errors_status (e ∷ es) = exit.refused
@@ -64,11 +64,11 @@ abbrev pub errors_text : Layout → List Error → List ℕ
 errors_text l [] = image_text l (bytes l) (warnings l) (counts l)
 errors_text l (e ∷ es) = refusal_text e
 
--- linked where the layout has no faults
+-- `linked` if the layout has no faults, else `refused`
 abbrev pub layout_status : Layout → ℕ
 layout_status l = errors_status (errors l)
 
--- the image, or the first fault
+-- the text of the image, or of the first fault
 abbrev pub layout_text : Layout → List ℕ
 layout_text l = errors_text l (errors l)
 
@@ -76,7 +76,7 @@ layout_text l = errors_text l (errors l)
 abbrev pub summary_text : ℕ → List ℕ → List ℕ → List ℕ
 summary_text n image counts = codes "groups " ++ decimal n ++ codes "\n" ++ image_line (length image) ++ count_lines 0 counts ++ codes "sum " ++ decimal (sum image) ++ codes "\n"
 
--- that of the made plan of n groups
+-- the summary for the made plan of n groups
 abbrev pub made_text : ℕ → List ℕ
 made_text n = summary_text n (bytes (made n)) (counts (made n))
 
@@ -98,11 +98,11 @@ text (of_plan (no_plan path)) = no_plan_text path
 text (of_plan (plan layout)) = layout_text layout
 text (of_make n) = made_text n
 
--- how many bytes a plan may have
+-- the maximal size of a plan in bytes
 abbrev pub limit : ℕ
 limit = 2 ^ 31
 
--- how the source stood before and after
+-- the state of the source before and after: the bytes not yet read, and the number of failed reads
 pub record Turn : Type 0 where
   pub left_before : Option (List ℕ)
   pub left_after : Option (List ℕ)
@@ -112,7 +112,7 @@ pub record Turn : Type 0 where
 abbrev pub turn : Option (List ℕ) → Option (List ℕ) → ℕ → ℕ → Turn
 turn left_before left_after faults_before faults_after = record { left_before = left_before; left_after = left_after; faults_before = faults_before; faults_after = faults_after }
 
--- the bytes were read to the end, and are not too many
+-- the bytes were read to the end and do not exceed the limit
 pub record IsRead (t : Turn) (whole : List ℕ) : Type 0 where
   pub taken : Consumes t.left_before t.left_after whole
   pub ended : IsAtEnd t.left_after
@@ -123,15 +123,15 @@ pub record IsUntouched (t : Turn) : Type 0 where
   pub left : t.left_after ≡ t.left_before
   pub faults : t.faults_after ≡ t.faults_before
 
--- more bytes came than a plan may have
+-- one byte more than the limit was read
 abbrev pub IsTooLong : Turn → Type 0
 IsTooLong t = (taken : List ℕ) × Consumes t.left_before t.left_after taken × (length taken ≡ limit + 1)
 
--- bytes that were read to the end stand for that
+-- bytes that were read to the end have that meaning
 abbrev pub IsMeant : Turn → Meaning → Type 0
 IsMeant t meaning = (whole : List ℕ) × IsRead t whole × Means whole meaning
 
--- when each answer is due
+-- the answer is the right one for these words and this input
 abbrev pub IsDue : List (String Global) → Turn → Answer → Type 0
 IsDue words t usage = (IsCommand words → ⊥) × IsUntouched t
 IsDue words t read_fault = IsLinked words × Rose t.faults_before t.faults_after
@@ -139,7 +139,7 @@ IsDue words t too_long = IsLinked words × IsTooLong t
 IsDue words t (of_plan meaning) = IsLinked words × IsMeant t meaning
 IsDue words t (of_make n) = ((w : ℕ) × IsMake words n w) × IsUntouched t
 
--- how the sink stood before and after
+-- the state of the sink before and after: the bytes written so far, and the number of failed writes
 pub record Told : Type 0 where
   pub taken_before : Option (List ℕ)
   pub taken_after : Option (List ℕ)
@@ -149,20 +149,20 @@ pub record Told : Type 0 where
 abbrev pub told : Option (List ℕ) → Option (List ℕ) → ℕ → ℕ → Told
 told taken_before taken_after faults_before faults_after = record { taken_before = taken_before; taken_after = taken_after; faults_before = faults_before; faults_after = faults_after }
 
--- a write failed, and some first bytes of the text were taken
+-- a write failed, and only a prefix of the text was written
 pub record IsCutShort (t : Told) (text : List ℕ) : Type 0 where
   pub cause : Rose t.faults_before t.faults_after
   pub front : AppendsFront t.taken_before t.taken_after text
 
--- the whole text was taken and the status is the answer's; or a write failed and the text was cut short
+-- the whole text was written and the status is the answer's; or a write failed and only a prefix was written
 abbrev pub IsSaid : Told → ℕ → List ℕ → ℕ → Type 0
 IsSaid t status text said = ((said ≡ status) × Appends t.taken_before t.taken_after text) ⊎ ((said ≡ exit.cut_short) × IsCutShort t text)
 
--- the status that was answered, with its cause and its text
+-- the returned status belongs to an answer that is right for the input, and that was written
 abbrev pub IsAnswered : List (String Global) → Turn → Told → ℕ → Type 0
 IsAnswered words t u said = (a : Answer) × IsDue words t a × IsSaid u (status a) (text a) said
 
--- the text is that of an image for the layout; the loader accepts the image in every legal world, with each kept reference as
--- it has to be
+-- the text is that of an image of the layout; the loader accepts the image in every legal world, and each kept reference has the
+-- value or target that its relocation requires
 abbrev pub IsLinkedText : Layout → List ℕ → Type 0
 IsLinkedText layout text = (image : List ℕ) × (warnings : List EntryWarning) × (counts : List ℕ) × (text ≡ image_text layout image warnings counts) × IsSound layout image

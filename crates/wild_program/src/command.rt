@@ -1,10 +1,10 @@
-//! What the words ask for.
+//! The commands of the program.
 
 /// A command.
 #[derive(Clone, Copy)]
 pub enum Command {
-    /// The image of the plan that is read, by so many workers: 1 to 64.
+    /// Writes the image of the plan that is read; 1 to 64 workers.
     Link { workers: u8 },
-    /// The summary of the image of so many groups, 1 to 65,536, by so many workers, 1 to 64.
+    /// Writes the summary of the image of 1 to 65,536 groups; 1 to 64 workers.
     Make { groups: u32, workers: u8 },
 }

@@ -1,5 +1,5 @@
 //! The program as a library: `link W` reads a plan and writes its image as text; `make N W` writes the summary of the
-//! image of N groups. Where it reads and writes is the caller's choice.
+//! image of N groups. The caller chooses the source and the sink.
 #![tactic(auto)]
 
 mod command;

@@ -1,4 +1,4 @@
-//! All that the program does, over any source and sink.
+//! The whole program, over any source and sink.
 ghost use Rattle.std.specs.Prelude.{◌≡◌, ◌≢◌, ◌≤◌, Some, None, IfOk, OnErr};
 ghost use Rattle.wild_outside.specs.Memory.{sure_left};
 ghost use Rattle.wild_program.specs.Exit.{read_fault, cut_short};
@@ -22,10 +22,10 @@ use wild_text::{
     PlanFault, image_answer, no_plan_answer, plans_are_read, read_plan, refusal_answer,
 };
 
-/// How many bytes a plan may have.
+/// The maximal size of a plan in bytes.
 pub const LIMIT: usize = 1 << 31;
 
-/// Writes the text, and answers the status, or that a write failed.
+/// Writes the text, and returns the status, or the one for a failed write.
 pub fn say<K: Sink>(sink: &mut K, answer: &[u8], code: u8) -> u8
     ensures { IsSaid (told (K.taken sink.old) (K.taken sink.new) (K.faults sink.old) (K.faults sink.new))
         code answer.now result }
@@ -61,7 +61,7 @@ fn layout_answer(
     }
 }
 
-/// The status and the text for a fault; for want of memory there is none.
+/// The status and the text for a fault; out of memory has none.
 fn refusal_of(alloc: Global, error: Error) -> Result<(u8, Vec<u8>), AllocError>
     ensures { IfOk result (λ a. IsRefusal error a.0 a.1.items) }
 {
@@ -106,7 +106,7 @@ fn plan_answer(
     Ok(answer)
 }
 
-/// Reads the plan, decides and says.
+/// Reads the plan and writes the answer.
 fn linked<S: Source, K: Sink>(
     rt: &(impl Threads + Sync),
     alloc: Global,
@@ -131,7 +131,7 @@ fn linked<S: Source, K: Sink>(
     Ok(say(sink, &answer, code))
 }
 
-/// Reads where that is asked for, decides and says.
+/// Reads the plan if the command needs one, and writes the answer.
 fn answered<S: Source, K: Sink>(
     rt: &(impl Threads + Sync),
     alloc: Global,
@@ -154,10 +154,14 @@ fn answered<S: Source, K: Sink>(
     }
 }
 
-/// All that the program does: reads the plan that the words ask for, and writes the answer's text. The status is 0
-/// (`LINKED`) for an image or the summary of one, 1 (`REFUSED`) for a layout with a fault, 2 (`USAGE`) for words that are no command, 3
-/// (`NO_PLAN`) for bytes that are no plan, 4 (`READ_FAULT`) for a read that failed, 5 (`CUT_SHORT`) for a write that
-/// failed, 7 (`TOO_LONG`) for a plan that is too long.
+/// The whole program: reads the plan if the words need one, and writes the answer's text. The status is
+/// - 0 (`LINKED`): an image or a summary was written;
+/// - 1 (`REFUSED`): the layout has a fault;
+/// - 2 (`USAGE`): the words are not a command;
+/// - 3 (`NO_PLAN`): the bytes are not a plan;
+/// - 4 (`READ_FAULT`): a read failed;
+/// - 5 (`CUT_SHORT`): a write failed;
+/// - 7 (`TOO_LONG`): the plan is too long.
 pub fn run<S: Source, K: Sink>(
     rt: &(impl Threads + Sync),
     alloc: Global,
@@ -165,27 +169,27 @@ pub fn run<S: Source, K: Sink>(
     source: &mut S,
     sink: &mut K,
 ) -> Result<u8, AllocError>
-    // The status and the text are those of an answer that is due.
+    // The status and the text belong to an answer that is right for the input.
     ensures answer { IfOk result (λ said. IsAnswered words.now
         (turn (S.left source.old) (S.left source.new) (S.faults source.old) (S.faults source.new))
         (told (K.taken sink.old) (K.taken sink.new) (K.faults sink.old) (K.faults sink.new)) said) }
-    // Where an image of an executable or a shared object is written, the text is that of an image that the loader accepts in every
-    // legal world, with each kept reference as its relocation demands.
+    // If an image of an executable or a shared object is written, the loader accepts it in every legal world, and each kept
+    // reference has the value or target that its relocation requires.
     ensures headline { IfOk result (λ said. IsHeadline words.now
         (turn (S.left source.old) (S.left source.new) (S.faults source.old) (S.faults source.new))
         (told (K.taken sink.old) (K.taken sink.new) (K.faults sink.old) (K.faults sink.new)) said) }
-    // Each status comes only with its cause.
+    // Each status is returned only for its cause.
     ensures causes { IfOk result (λ said. HasItsCause words.now
         (turn (S.left source.old) (S.left source.new) (S.faults source.old) (S.faults source.new))
         (told (K.taken sink.old) (K.taken sink.new) (K.faults sink.old) (K.faults sink.new)) said) }
-    // Where nothing fails, the words and the plan determine the status and the text.
+    // If no read or write fails, the words and the plan determine the status and the text.
     ensures determined { IfOk result (λ said. IsCalm
         (turn (S.left source.old) (S.left source.new) (S.faults source.old) (S.faults source.new))
         (told (K.taken sink.old) (K.taken sink.new) (K.faults sink.old) (K.faults sink.new))
         → IsDetermined words.now
         (turn (S.left source.old) (S.left source.new) (S.faults source.old) (S.faults source.new))
         (told (K.taken sink.old) (K.taken sink.new) (K.faults sink.old) (K.faults sink.new)) said) }
-    // Where nothing fails, a plan without faults gives its image.
+    // If no read or write fails, the image of a plan without faults is written.
     ensures complete { IfOk result (λ said. IsCalm
         (turn (S.left source.old) (S.left source.new) (S.faults source.old) (S.faults source.new))
         (told (K.taken sink.old) (K.taken sink.new) (K.faults sink.old) (K.faults sink.new))
@@ -195,7 +199,7 @@ pub fn run<S: Source, K: Sink>(
     ensures made { IfOk result (λ said. IsMadeBy words.now
         (turn (S.left source.old) (S.left source.new) (S.faults source.old) (S.faults source.new))
         (told (K.taken sink.old) (K.taken sink.new) (K.faults sink.old) (K.faults sink.new)) said) }
-    // Where memory is refused, nothing has been written.
+    // If memory is refused, no byte has been written.
     ensures memory { OnErr result (K.taken sink.new ≡ K.taken sink.old) }
 {
     plans_are_read();
@@ -203,7 +207,7 @@ pub fn run<S: Source, K: Sink>(
     answered(rt, alloc, words, source, sink)
 }
 
-/// The program over a source and a sink that never fail: no status says that a read or a write did, and the words and
+/// The program over a source and a sink that never fail: no status reports a failed read or write, and the words and
 /// the plan determine the status.
 pub fn run_surely(
     rt: &(impl Threads + Sync),

@@ -1,4 +1,4 @@
-//! Which words are a command.
+//! Parses the words of a command.
 ghost use Rattle.std.specs.Prelude.{◌≡◌, ◌≤◌, ◌<◌, ◌^◌, ℕ, [], drop, IfOk, MatchOption, MatchResult, decimal};
 ghost use Rattle.std.specs.Vec.Iter.{into_iter_items};
 ghost use Rattle.std.specs.IoError.{error_kind};
@@ -9,7 +9,7 @@ use crate::command::Command;
 use std::alloc::{AllocError, Global};
 use std::{env, io};
 
-/// The words behind the first.
+/// The words after the first.
 fn behind_first(alloc: Global, args: env::Args<Global>) -> Result<Vec<String>, AllocError>
     ensures { IfOk result (λ words. words.items ≡ drop 1 (into_iter_items args)) }
 {
@@ -22,7 +22,7 @@ fn behind_first(alloc: Global, args: env::Args<Global>) -> Result<Vec<String>, A
     Ok(words)
 }
 
-/// The words of a command line behind the first, which is the program's name; words that are no text are no words.
+/// The words of a command line after the first, which is the program's name; no words if the arguments are not valid text.
 pub fn words_of(
     alloc: Global,
     args: io::Result<env::Args<Global>>,

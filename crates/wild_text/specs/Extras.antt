@@ -1,4 +1,4 @@
--- Which JSON values stand for the order of sections, merged strings, the linker's name of itself and properties. Members not named here
+-- Which JSON values encode the order of sections, merged strings, the linker's identity string and properties. Other members
 -- are unknown.
 use Rattle.std.specs.Prelude.{ℕ, ◌||◌, List, [], ◌∷◌, codes, is_some, if◌then◌else◌, Result, Ok}
 use Rattle.serde_json.specs.Data.{Data}
@@ -12,7 +12,7 @@ use Rattle.wild_text.specs.Reads.{◌>>=◌}
 use Rattle.wild_text.specs.Values.{u32_in, u64_in, hex_in, list_in}
 use Rattle.wild_text.specs.Members.{field, an_object, known_only}
 
--- a section that stands in an order of its own
+-- a section whose place follows the order of the layout
 unfoldable pub sorted_section_in : Data → Result SortedSection (List ℕ)
 sorted_section_in d = do
   whole ← an_object d
@@ -31,7 +31,7 @@ merged_in d = do
   all_known ← known_only (codes "part" ∷ codes "strings" ∷ []) d
   Ok (record { part = part; strings = strings })
 
--- the text in which the linker names itself
+-- the linker's identity string
 unfoldable pub identity_in : Data → Result Identity (List ℕ)
 identity_in d = do
   whole ← an_object d
@@ -57,7 +57,7 @@ word_property_in d = do
   all_known ← known_only (codes "ptype" ∷ codes "value" ∷ []) d
   Ok (record { ptype = ptype; value = values.Word value })
 
--- a property, of pointer authentication where it has a member of that
+-- a property; one of pointer authentication if that member is present
 unfoldable pub property_in : Data → Result Property (List ℕ)
 property_in d = do
   whole ← an_object d

@@ -1,4 +1,4 @@
--- Which JSON value stands for what the link was asked for. Options not named here are unknown.
+-- Which JSON value encodes the options of a link. Other options are unknown.
 --   options_in d   the options of an object
 use Rattle.std.specs.Prelude.{ℕ, List, [], ◌∷◌, codes, Result, Ok, None, false}
 use Rattle.serde_json.specs.Data.{Data}
@@ -32,7 +32,7 @@ output_options d = do
     execstack = execstack;
   })
 
--- options that the dynamic section tells (gABI, "Dynamic Section"), and of what debuggers read
+-- options that the dynamic section records (gABI, "Dynamic Section"), and those for debuggers
 unfoldable pub dynamic_options : Options → Data → Result Options (List ℕ)
 dynamic_options before d = do
   new_dtags ← field (codes "new_dtags") bool_in false d
@@ -62,12 +62,12 @@ dynamic_options before d = do
     auxiliary = auxiliary;
   })
 
--- the members of options
+-- the names of all options
 abbrev pub option_members : List (List ℕ)
 option_members = codes "relax" ∷ codes "relr" ∷ codes "strip_all" ∷ codes "eh_frame_hdr" ∷ codes "terminator" ∷ codes "bti" ∷ codes "versions"
     ∷ codes "got_plt_syms" ∷ codes "execstack" ∷ codes "new_dtags" ∷ codes "origin" ∷ codes "nodelete" ∷ codes "interpose" ∷ codes "textrel" ∷ codes "static_tls" ∷ codes "variant_pcs" ∷ codes "only_keep_debug" ∷ codes "new_tombstones" ∷ codes "rpath" ∷ codes "soname" ∷ codes "auxiliary" ∷ []
 
--- what the link was asked for
+-- the options of a link
 unfoldable pub options_in : Data → Result Options (List ℕ)
 options_in d = do
   whole ← an_object d

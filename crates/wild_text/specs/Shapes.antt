@@ -1,4 +1,4 @@
--- Which JSON values stand for the shapes of hash tables, and for thunks. Members not named here are unknown.
+-- Which JSON values encode the shapes of hash tables, and for thunks. Other members are unknown.
 use Rattle.std.specs.Prelude.{ℕ, List, [], ◌∷◌, codes, Result, Ok}
 use Rattle.serde_json.specs.Data.{Data}
 use Rattle.wild_types.specs.declared.layout.GnuHash.{GnuHash}

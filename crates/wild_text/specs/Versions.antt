@@ -1,4 +1,4 @@
--- Which JSON values stand for symbol versions (LSB, "Symbol Versioning"). Members not named here are unknown.
+-- Which JSON values encode symbol versions (LSB, "Symbol Versioning"). Other members are unknown.
 use Rattle.std.specs.Prelude.{ℕ, List, [], ◌∷◌, codes, Result, Ok, None, false}
 use Rattle.serde_json.specs.Data.{Data}
 use Rattle.wild_types.specs.declared.file.NeededVersion.{NeededVersion}
@@ -8,7 +8,7 @@ use Rattle.wild_text.specs.Reads.{◌>>=◌}
 use Rattle.wild_text.specs.Values.{u64_in, u16_in, bool_in, hex_in, list_in, nullable}
 use Rattle.wild_text.specs.Members.{field, an_object, known_only}
 
--- a version that the output defines, with the place of the one that it is built on
+-- a version that the output defines, with the place of its parent
 unfoldable pub version_definition_in : Data → Result VersionDefinition (List ℕ)
 version_definition_in d = do
   whole ← an_object d
@@ -17,7 +17,7 @@ version_definition_in d = do
   all_known ← known_only (codes "name" ∷ codes "parent" ∷ []) d
   Ok (record { name = name; parent = parent })
 
--- a version that is needed of a library, with the index that symbols have of it
+-- a version needed from a library, with the index that symbols use for it
 unfoldable pub needed_version_in : Data → Result NeededVersion (List ℕ)
 needed_version_in d = do
   whole ← an_object d
@@ -26,7 +26,7 @@ needed_version_in d = do
   all_known ← known_only (codes "name" ∷ codes "index" ∷ []) d
   Ok (record { name = name; index = index })
 
--- the versions that are needed of a library, and whether no library behind it has any
+-- the versions needed from a library, and whether this is the last library with versions
 unfoldable pub version_needs_in : Data → Result VersionNeeds (List ℕ)
 version_needs_in d = do
   whole ← an_object d

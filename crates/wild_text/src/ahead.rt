@@ -1,4 +1,4 @@
-//! Members of an object, read one after another in the order of their names.
+//! Members of an object, read in the order of their names.
 ghost use Rattle.std.specs.Prelude.{◌≡◌, true, IfSome};
 ghost use Rattle.serde_json.specs.Data.{no_members, object};
 ghost use Rattle.serde_json.specs.View.{view};
@@ -26,7 +26,7 @@ impl<'a> Ahead<'a> {
         Some(Ahead { next, later })
     }
 
-    // The next member, where it has that name.
+    // The next member, if it has that name.
     fn take(&mut self, name: &str) -> Option<&'a Value>
         ensures { left self.old ≡ seated name.now (seen result) (left self.new) }
     {
@@ -38,7 +38,7 @@ impl<'a> Ahead<'a> {
         Some(value)
     }
 
-    /// The next member, or the default where it has not that name; nothing where it is wrong.
+    /// The next member, or the default if the next has another name; nothing if the member is wrong.
     pub(crate) fn read<T: Planned + Drop>(
         &mut self,
         alloc: Global,

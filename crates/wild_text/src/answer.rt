@@ -1,4 +1,4 @@
-//! The text for an image, and for what is no plan.
+//! The texts for an image, and for a value that is not a plan.
 ghost use Rattle.std.specs.Prelude.{◌≡◌, ◌++◌, ◌*◌, IfOk, OnOk, string_bytes, length};
 ghost use Rattle.hex.specs.Hex.{encode_lower};
 ghost use Rattle.wild_text.specs.Answer.{image_text, count_lines, hex_text, no_plan_text};
@@ -8,10 +8,10 @@ use std::alloc::{AllocError, Global};
 use std::fmt::Write;
 use wild_types::{EntryWarning, Layout};
 
-/// How many bytes of an image a line shows.
+/// How many bytes of an image one line shows.
 const LINE: usize = 32;
 
-/// Adds a line for each section that has relocations.
+/// Appends a line for each section that has relocations.
 pub fn push_counts(out: &mut String, counts: &[u64]) -> Result<(), AllocError>
     ensures { OnOk result (string_bytes out.new ≡ string_bytes out.old ++ count_lines 0 counts.now) }
 {
@@ -46,7 +46,7 @@ fn push_hex(out: &mut Vec<u8>, bytes: &[u8]) -> Result<(), AllocError>
     Ok(())
 }
 
-/// The text for an image of a layout, with what is said beside it and the number of relocations of each section.
+/// The text for an image of a layout, with its warnings and the number of relocations of each section.
 pub fn image_answer(
     alloc: Global,
     layout: &Layout,

@@ -1,4 +1,4 @@
-//! The order of sections, merged strings, the linker's name of itself, properties.
+//! The order of sections, merged strings, the linker's identity string, properties.
 ghost use Rattle.serde_json.specs.View.{view};
 ghost use Rattle.wild_text.specs.Reads.{Gives};
 ghost use Rattle.wild_text.specs.Extras.{sorted_section_in, merged_in, identity_in, authentication_in, word_property_in, property_in};

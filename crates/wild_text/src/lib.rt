@@ -1,4 +1,4 @@
-//! The texts of the program: which JSON value stands for which layout, and what is answered.
+//! The texts of the program: which JSON value encodes which layout, and what the program writes.
 #![tactic(auto)]
 
 mod ahead;

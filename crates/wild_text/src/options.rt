@@ -1,4 +1,4 @@
-//! What the link was asked for.
+//! The options of a link.
 ghost use Rattle.serde_json.specs.View.{view};
 ghost use Rattle.wild_text.specs.Reads.{Gives};
 ghost use Rattle.wild_text.specs.Options.{output_options, dynamic_options, options_in};
@@ -10,7 +10,7 @@ use std::alloc::Global;
 use wild_types::Options;
 use wild_words::Items;
 
-/// Options of every output; all others are absent.
+/// Options of every output; all others are unset.
 #[tactic(auto, unfolding(crate::specs::Options::output_options))]
 fn output_options(alloc: Global, json: &Value) -> std::result::Result<Options, PlanFault>
     ensures { Gives result (output_options (view json.now)) }
@@ -38,7 +38,7 @@ fn output_options(alloc: Global, json: &Value) -> std::result::Result<Options, P
     })
 }
 
-/// Options that the dynamic section tells and those of what debuggers read, added to those before.
+/// The same options with those that the dynamic section records, and those for debuggers.
 #[tactic(auto, unfolding(crate::specs::Options::dynamic_options))]
 fn dynamic_options(
     alloc: Global,

@@ -1,4 +1,4 @@
-//! Symbol versions: those that the output defines, and those that it needs of libraries.
+//! Symbol versions: those that the output defines, and those needed from libraries.
 ghost use Rattle.wild_text.specs.Versions.{version_definition_in, needed_version_in, version_needs_in};
 
 use crate::fault::PlanFault;

@@ -1,4 +1,4 @@
-//! The lines for what is said beside an image.
+//! The lines of warnings that precede an image's bytes.
 ghost use Rattle.std.specs.Prelude.{◌≡◌, ◌++◌, IfOk, OnOk, string_bytes, slice_get};
 ghost use Rattle.std.specs.List.{flat_map, list_any};
 ghost use Rattle.wild_text.specs.Answer.{is_control, shown_name, name_of, warning_text, warning_line};
@@ -14,7 +14,7 @@ fn has_control(name: &[u8]) -> bool
     name.iter().any(|byte| *byte < b' ' || *byte == 0x7f)
 }
 
-/// A name as it is shown: itself where it is text without control characters, else in hex.
+/// The printed form of a name: unchanged if it is text without control characters, else in hex.
 fn name_text(alloc: Global, name: &[u8]) -> Result<String, AllocError>
     ensures { IfOk result (λ s. string_bytes s ≡ shown_name name.now) }
 {
@@ -27,7 +27,7 @@ fn name_text(alloc: Global, name: &[u8]) -> Result<String, AllocError>
     }
 }
 
-/// The name of a symbol as it is shown.
+/// The printed form of a symbol's name.
 fn symbol_text(alloc: Global, layout: &Layout, symbol: SymbolIndex) -> Result<String, AllocError>
     ensures { IfOk result (λ s. string_bytes s ≡ shown_name (name_of (slice_get layout.now.symbols symbol))) }
 {
@@ -37,7 +37,7 @@ fn symbol_text(alloc: Global, layout: &Layout, symbol: SymbolIndex) -> Result<St
     }
 }
 
-/// What is said of an entry without an address.
+/// The warning for an entry symbol without an address.
 fn warning_words(
     alloc: Global,
     layout: &Layout,
