@@ -21,7 +21,7 @@ use Rattle.wild_relax.specs.RewriteX86_64.{rewrite_of}
 use Rattle.wild_relax.specs.Linked.{pattern_of, pattern_size, IsChanging, linked}
 use Rattle.wild_relax.specs.KeepX86_64.{IsWhole}
 
--- where the row's pattern begins
+-- the start of the row's pattern
 abbrev pub start_of : Question → Row → ℕ
 start_of q row = (relocation_of q).offset - field_of (pattern_of row)
 
