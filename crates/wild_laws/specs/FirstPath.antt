@@ -74,7 +74,7 @@ pub record IsBehind (l : Layout) (w : World) (s : Item) (r : InputRelocation) (a
   pub absent : NamesAbsent l r
   pub behind : a ≡ (address_at w s r.offset + 4) % 2 ^ 64
 
--- execution that starts at a, with the addend, reaches an address that represents the symbol, or a string
+-- a is S or L in a call or a jump: it represents the symbol or, with A, makes a string's address; on AArch64 a thunk may lead there
 abbrev pub IsBranchedTo : Machine → Layout → World → Memory → Item → InputRelocation → ℕ → Type 0
 IsBranchedTo machine.X86_64 l w m s r a = IsTarget l w m r.symbol a ⊎ (NamesStrings l r × IsString l w r a)
 IsBranchedTo machine.AArch64 l w m s r a = ComesTo l w m r a ⊎ IsBehind l w s r a
