@@ -1,6 +1,5 @@
 -- The entries of the symbol tables of a layout without faults, and the number of local symbols in their section header (gABI,
 -- "Symbol Table", "Section Header").
--- tells (gABI, "Symbol Table", "Section Header").
 --   TableSymbolsHaveFields    each symbol of .symtab has its fields, and its entry has them
 --   ListedSymbolsHaveFields   the same for each symbol that other modules see
 --   HasOwnInfo l table        sh_info of the local symbols' section has no other meaning
