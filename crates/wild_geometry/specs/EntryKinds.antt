@@ -1,6 +1,6 @@
--- What a loader does with the dynamic entries of each kind.
+-- The effect of each kind of dynamic entry in a loader.
 --   address_kind p    how a processor's loader stores a symbol's address in a slot
---   loaded_kind p k   what it does with the entries of a kind
+--   loaded_kind p k   the loader's kind for the entries of a kind
 use Rattle.wild_reloc.specs.declared.dynamic.DynamicRelocationKind.{DynamicRelocationKind}
 use Rattle.wild_reloc.specs.declared.dynamic.DynamicRelocationKind.TheVariants as entry_kinds
 use Rattle.wild_loader.specs.declared.memory.Machine.{Machine}
@@ -8,12 +8,12 @@ use Rattle.wild_loader.specs.declared.memory.Machine.TheVariants as processors
 use Rattle.wild_loader.specs.declared.kind.DynamicKind.{DynamicKind}
 use Rattle.wild_loader.specs.declared.kind.DynamicKind.TheVariants as kinds
 
--- the slots of AArch64 have an addend, which is 0 (x86-64 psABI, "Relocation Types"; aaelf64, "Dynamic relocations")
+-- an AArch64 slot has an addend, which is 0 (x86-64 psABI, "Relocation Types"; aaelf64, "Dynamic relocations")
 abbrev pub address_kind : Machine → DynamicKind
 address_kind processors.X86_64 = kinds.Symbol
 address_kind processors.AArch64 = kinds.SymbolPlus
 
--- what is done with each kind (the same)
+-- the loader's kind for each kind of entry (the same sections)
 abbrev pub loaded_kind : Machine → DynamicRelocationKind → DynamicKind
 loaded_kind p entry_kinds.Absolute = kinds.SymbolPlus
 loaded_kind p entry_kinds.Copy = kinds.Copy

@@ -1,10 +1,10 @@
--- The sections of a layout as they stand in the output: their words reversed where that is asked, frames as their kept entries, and the
--- sorted ones behind those of the last file.
---   IsOf l f owner s   the file has the section, whose branches go by the block of thunks of its owner
---   IsLaid l s         the section is one of those of the layout
+-- The sections of a layout as placed in the output: reversed ones with their words in reverse order, frames as their kept
+-- entries, and the sorted ones after those of the last file.
+--   IsOf l f owner s   the file writes the section; its branches use the owner's block of thunks
+--   IsLaid l s         the section belongs to one of the layout's files
 --   IsKeptLaid l s     it has data, is loaded and written
---   KeptIsLaid         an item that the layout keeps is that of such a section, but in a relocatable object
---   frame_home l s     where such a section stands in the file: frames in their part
+--   KeptIsLaid         an item that the layout keeps comes from such a section, except in a relocatable object
+--   file_place l s     the file offset of such a section; for frames, within their part
 use Rattle.std.specs.Prelude.{◌≡◌, ℕ, true, false, if◌then◌else◌, Contains, slice_get}
 use Rattle.wild_types.specs.declared.part.Part.{Part}
 use Rattle.wild_types.specs.declared.part.Role.TheVariants as role
@@ -24,12 +24,12 @@ use Rattle.wild_layout.specs.Geometry.{IsLaidOut}
 use Rattle.wild_layout.specs.Image.{offset_in}
 use Rattle.wild_meaning.specs.Item.{IsKept}
 
--- the section is the file's own, or a sorted one of the owner, which stands with the last file
+-- the section is the file's own, or a sorted one of the owner, which is written with the last file
 pub data IsOf (l : Layout) (f owner : File) (s : InputSection) : Type 0 where
   Own : owner ≡ f → Contains f.sections s → IsOf l f owner s
   Ordered : is_epilogue f.role ≡ true → (x : Input) → Contains (sorted_inputs l) x → owner ≡ x.file → s ≡ as_turned x.section → IsOf l f owner s
 
--- the section is one of a file of the layout
+-- the section belongs to a file of the layout
 pub record IsLaid (l : Layout) (s : InputSection) : Type 0 where
   pub group : Group
   pub grouped : Contains l.groups group
@@ -38,14 +38,15 @@ pub record IsLaid (l : Layout) (s : InputSection) : Type 0 where
   pub owner : File
   pub listed : IsOf l file owner s
 
--- it has data, is loaded and written: frames are with their part
+-- it has data, is loaded and written; frames are loaded with their part
 pub record IsKeptLaid (l : Layout) (s : InputSection) : Type 0 where
   pub input : IsLaid l s
   pub reads : is_read s ≡ true
   pub room : is_frame s.slot ≡ false → allocated s.flags ≡ true
   pub written : is_dropped l s ≡ false
 
--- an item that the layout keeps is that of such a section, but in a relocatable object, whose sections stand without relocations
+-- an item that the layout keeps comes from such a section, except in a relocatable object, whose sections are written without
+-- applying relocations
 pub record IsLaidItem (l : Layout) (item : Item) : Type 0 where
   pub section : InputSection
   pub kept : IsKeptLaid l section
@@ -54,6 +55,6 @@ pub record IsLaidItem (l : Layout) (item : Item) : Type 0 where
 abbrev pub KeptIsLaid : Type 0
 KeptIsLaid = (l : Layout) (item : Item) → is_partial_link l.kind ≡ false → IsLaidOut l → IsKept l item → IsLaidItem l item
 
--- where a section stands in the file: frames in their part
+-- the file offset of a section; for frames, within their part
 abbrev pub file_place : Layout → InputSection → ℕ
 file_place l s = offset_in (if is_frame s.slot then part_with role.EhFrame l.parts else slice_get l.parts s.part) s.address

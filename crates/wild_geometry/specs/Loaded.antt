@@ -1,12 +1,12 @@
--- An item in memory, as it was decided: what the loading of an image comes to, and what its references rest on.
---   IsDecided l s         each relocation of the item has a decision, and what they write lies apart
+-- An item in memory, as decided: the result of loading an image, from which its references are proved.
+--   IsDecided l s         each relocation of the item has a decision, and no two write the same byte
 --   InNoSite l s k        no relocation writes byte k of the item
---   Stage                 before the entries of the image are applied, or behind that
+--   Stage                 before or after the entries of the image are applied
 --   number_at stage w     the number at the place of an address that moves
 --   HasDecision ..        relocation i has that decision
---   MakesChange p w ..    what an entry makes a loader do
+--   MakesChange p w ..    the change that a loader makes for an entry
 --   ReadsLeft p stage ..  the bytes of a field that is left to an entry
---   HasItem ..         memory has the item's values, its addresses, what is left to entries, and its other bytes
+--   HasItem ..         memory has the item's values, its addresses, the fields left to entries, and its other bytes
 use Rattle.std.specs.Prelude.{◌≡◌, ℕ, ◌+◌, ◌%◌, ◌^◌, ◌<◌, ◌≤◌, ◌⊎◌, Bool, if◌then◌else◌, List, [], length, replicate, Some, Ok, All, slice_index, slice_get}
 use Rattle.std.specs.Int.{w64, cast_signed}
 use Rattle.wild_words.specs.Words.{word}
@@ -41,23 +41,23 @@ pub record IsDecided (l : Layout) (s : Item) : Type 0 where
 abbrev pub InNoSite : Layout → Item → ℕ → Type 0
 InNoSite l s k = All (λ (p : Piece). (k < p.at) ⊎ (p.at + length p.bytes ≤ k)) (sites l s)
 
--- memory before the entries of the image are applied, and behind that
+-- memory before and after the entries of the image are applied
 pub data Stage : Type 0 where
   InFile : Stage
   InMemory : Stage
 
--- the number at the place of an address v that moves: in the file v where it is packed, and 0 beside an entry; in memory v more
--- by the base (gABI, "Relative Relocation Table"; x86-64 psABI, R_X86_64_RELATIVE)
+-- The number at the place of an address v that moves with the base. In the file it is v for a packed place, and 0 for one with an
+-- entry. In memory it is v plus the base (gABI, "Relative Relocation Table"; x86-64 psABI, R_X86_64_RELATIVE).
 abbrev pub number_at : Stage → World → ℕ → Bool → ℕ
 number_at InFile w v packed = if packed then v else 0
 number_at InMemory w v packed = (v + w.base) % 2 ^ 64
 
--- an entry of that number, with an index in the dynamic symbol table and an addend modulo 2^64; where it stands does not change
--- what it stores
+-- an entry of that type, with an index in the dynamic symbol table and an addend modulo 2^64; its offset does not affect what it
+-- stores
 abbrev pub entry_with : ℕ → ℕ → ℕ → Rela
 entry_with number symbol addend = record { offset = 0; number = number; symbol = symbol; addend = cast_signed w64 addend }
 
--- such an entry makes a loader of the processor do that
+-- a loader of the processor makes that change for such an entry
 pub record MakesChange (p : Processor) (w : World) (number symbol addend : ℕ) (c : Change) : Type 0 where
   pub kind : DynamicKind
   pub known : kind_of p number ≡ Some kind
@@ -69,7 +69,7 @@ stored_bytes (changes.Word v) = word 8 v
 stored_bytes (changes.Half v) = word 4 v
 stored_bytes other = []
 
--- the bytes of a field of that size that is left to such an entry: 0 in the file, and in memory what the entry stores
+-- the bytes of a field of that size that is left to such an entry: 0 in the file, and in memory the number that the entry stores
 abbrev pub ReadsLeft : Processor → Stage → World → RelocationSize → (number symbol addend : ℕ) → List ℕ → Type 0
 ReadsLeft p InFile w z number symbol addend bs = bs ≡ replicate (size_width z) 0
 ReadsLeft p InMemory w z number symbol addend bs = (c : Change) × MakesChange p w number symbol addend c × (bs ≡ stored_bytes c) × (length bs ≡ size_width z)
@@ -79,9 +79,11 @@ pub record HasDecision (l : Layout) (s : Item) (i : ℕ) (r : InputRelocation) (
   pub listed : slice_get s.relocations i ≡ Some r
   pub decided : decide l s i ≡ Ok d
 
--- memory has an item as it was decided, at its address and the base: each value in its field, each address that
--- moves as eight bytes, each field that is left to an entry, each instruction that is rewritten as its row writes it, and every
--- byte that no relocation writes as the input has it
+-- Memory has an item as decided, at its address plus the base:
+-- - each value in its field, and each address that moves as eight bytes;
+-- - each field that is left to an entry;
+-- - each rewritten instruction as its row writes it;
+-- - every byte that no relocation writes as in the input.
 pub record HasItem (l : Layout) (w : World) (m : Memory) (s : Item) (stage : Stage) : Type 0 where
   pub ends : 1 ≤ length s.bytes → w.base + s.address + length s.bytes ≤ 2 ^ 64
   pub values : (i : ℕ) (r : InputRelocation) (z : RelocationSize) (v : ℕ) → HasDecision l s i r (Field z v) → Holds m (w.base + s.address + r.offset) (field_site s r.offset z v).bytes

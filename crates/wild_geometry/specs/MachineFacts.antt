@@ -1,7 +1,7 @@
--- What the laws need of a machine: what the layout's definitions say of it is what the judge's say.
+-- The facts about a machine that the laws need: the layout's definitions agree with the judge's.
 --   StoresSize p n z   entries of type n store a size in a field of that size
---   MachineFacts m     the number of the header, the types of entries, and the thread pointer
---   RowsAreRead        what the row of a relocation type lets be written is what its formula reads
+--   MachineFacts m     the machine number of the header, the types of entries, and the thread pointer
+--   RowsAreRead        the row of a relocation type writes what its formula reads
 use Rattle.std.specs.Prelude.{◌≡◌, ℕ, ◌%◌, ◌^◌, ◌<◌, ◌⊎◌, ◌==◌, ◌||◌, true, Some}
 use Rattle.wild_records.specs.Abi.Header.{em_x86_64, em_aarch64}
 use Rattle.wild_records.specs.declared.file_header.FileHeader.{FileHeader}
@@ -31,9 +31,9 @@ use Rattle.wild_geometry.specs.EntryKinds.{loaded_kind}
 abbrev pub StoresSize : Processor → ℕ → RelocationSize → Type 0
 StoresSize p n z = ((kind_of p n ≡ Some kinds.Size32) × (z ≡ ByteSize Four)) ⊎ ((kind_of p n ≡ Some kinds.Size64) × (z ≡ ByteSize Eight))
 
--- a loader takes the number of e_machine for the machine (gABI, "ELF Header"); it knows the entries of each kind by their type, and
--- those that a size is left to by the type of its row (x86-64 psABI, "Relocation Types"; aaelf64, "Dynamic relocations"); and the thread
--- pointer is where the system has it ("ELF Handling For Thread-Local Storage", "Run-Time Handling of TLS")
+-- A loader accepts the machine's e_machine (gABI, "ELF Header"). It knows the entries of each kind by their type, and those for
+-- sizes by the type of their row (x86-64 psABI, "Relocation Types"; aaelf64, "Dynamic relocations"). The thread pointer is at the
+-- system's place ("ELF Handling For Thread-Local Storage", "Run-Time Handling of TLS").
 pub record MachineFacts (m : Machine) : Type 0 where
   pub number : machine_number m < 2 ^ 16
   pub taken : (machine_number m == em_x86_64 || machine_number m == em_aarch64) ≡ true

@@ -1,4 +1,4 @@
--- Thunks in memory: what the loading of an image comes to for them, and what branches through them rest on.
+-- Thunks in memory: the result of loading an image, from which branches through them are proved.
 --   HasThunk l w m t   memory has a thunk, which reaches its target
 --   HasThunks l w m    it has each thunk of each block
 use Rattle.std.specs.Prelude.{◌≡◌, ℕ, ◌+◌, true, List, Ok, Contains}
@@ -10,7 +10,7 @@ use Rattle.wild_loader.specs.declared.memory.Memory.{Memory}
 use Rattle.wild_loader.specs.declared.world.World.{World}
 use Rattle.wild_loader.specs.Memory.{Holds}
 
--- the thunk has a target, reaches it, and stands at its address and the base
+-- the thunk has a target, reaches it, and is at its address plus the base
 pub record HasThunk (l : Layout) (w : World) (m : Memory) (t : Thunk) : Type 0 where
   pub target : ℕ
   pub known : thunk_target l t ≡ Ok target

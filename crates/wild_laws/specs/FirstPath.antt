@@ -1,13 +1,14 @@
--- What an image owes a layout of either machine in any world, told by fields, calls and jumps. It follows from the meaning of all layouts.
---   IsNamed ..             a is S of an address or a distance
---   IsBranchedTo ..        a is S, or L, of a call or a jump
---   BranchReaches ..       a direct call or jump goes to what stands for its symbol
---   SlotBranchReaches ..   one through a slot goes to what comes to its symbol
---   HasFormula ..          the field in memory is the formula's
---   IsFollowed ..          a reference is asked in the world, of the image, and not of the output's own symbol alone
---   HoldsByForms ..        what the judge has for every type
---   HoldsByFields ..       what these say of an input section; of other types by their forms
---   NamesAreAddresses      what this says of symbols that no resolver answers for
+-- The requirements of a layout on an image for either machine in any world, in terms of fields, calls and jumps. They follow from
+-- the definitions for all layouts.
+--   IsNamed ..             a is S in an address or a distance
+--   IsBranchedTo ..        a is S or L in a call or a jump
+--   BranchReaches ..       a direct call or jump goes to an address that represents its symbol
+--   SlotBranchReaches ..   one through a slot goes to an address that leads to its symbol
+--   HasFormula ..          the field in memory has the formula's value
+--   IsFollowed ..          a reference is checked in the world and for this image, and not only with the output's own symbol
+--   HoldsByForms ..        the judge's requirements for every type
+--   HoldsByFields ..       the requirements of fields, calls and jumps on an input section; other types by their forms
+--   NamesAreAddresses      the consequences for symbols that are not IFUNCs
 use Rattle.std.specs.Prelude.{◌≡◌, ℕ, ℤ, ◌+◌, ◌-◌, ◌%◌, ◌^◌, ◌<◌, false, List, length, Some, Contains, slice_index, ◌⊎◌}
 use Rattle.std.specs.Int.{w64, cast_unsigned}
 use Rattle.wild_types.specs.declared.kind.Machine.{Machine}
@@ -38,58 +39,58 @@ use Rattle.wild_meaning.specs.Reference.{IsAsked, IsLinkedAlone, IsLeftOut}
 use Rattle.wild_meaning.specs.Linked.{IsLinked}
 use Rattle.wild_laws.specs.FirstTypes.{IsLoadedSection, IsRelocated, address_types, HasFirstTypes, address_at, IsCall, IsJump, IsBranchField, IsSlotCall, IsSlotJump, GivesThreadAddress}
 
--- ---- what S is
+-- ---- S
 
--- the reference names a symbol that nothing defines, and nothing has to
+-- the reference is to a symbol that is weak and undefined
 pub record NamesAbsent (l : Layout) (r : InputRelocation) : Type 0 where
   pub symbol : ℕ
   pub named : r.symbol ≡ Some symbol
   pub absent : IsAbsent l symbol
 
--- on AArch64 the distance of such a symbol is A: it stands at the place itself (aaelf64, "Weak references")
+-- on AArch64 the distance to such a symbol is A, as if it were at the place itself (aaelf64, "Weak references")
 pub record IsDistanceOfAbsent (v : Value) (l : Layout) (r : InputRelocation) : Type 0 where
   pub distance : v ≡ Distance
   pub symbol : NamesAbsent l r
 
--- a is what stands for the symbol in an address or a distance
+-- a represents the symbol in an address or a distance
 abbrev pub StandsFor : Machine → Value → Layout → World → Memory → Item → InputRelocation → ℕ → Type 0
 StandsFor machine.X86_64 v l w m s r a = IsTarget l w m r.symbol a
 StandsFor machine.AArch64 v l w m s r a = (IsDistanceOfAbsent v l r × (a ≡ address_at w s r.offset % 2 ^ 64)) ⊎ ((IsDistanceOfAbsent v l r → ⊥) × IsTarget l w m r.symbol a)
 
--- a is S there: what stands for the symbol, or where that stands for merged strings what with A makes the place of a byte of one
+-- a is S there: it represents the symbol; for merged strings, a and A together make the address of a byte of a string
 abbrev pub IsNamed : Value → Layout → World → Memory → Item → InputRelocation → ℕ → Type 0
 IsNamed v l w m s r a = (NamesStrings l r × IsString l w r a) ⊎ ((NamesStrings l r → ⊥) × StandsFor l.machine v l w m s r a)
 
--- on AArch64 code that goes to a and A is at what stands for the symbol and A, or in a thunk that goes on to there (aaelf64, "Call and
--- Jump relocations")
+-- On AArch64 execution that starts at a + A reaches an address that represents the symbol, plus A; or a thunk that leads there
+-- (aaelf64, "Call and Jump relocations").
 pub record ComesTo (l : Layout) (w : World) (m : Memory) (r : InputRelocation) (a : ℕ) : Type 0 where
   pub present : NamesAbsent l r → ⊥
   pub symbol : ℕ
   pub stands : IsTarget l w m r.symbol symbol
   pub comes : ReachesWithin 1 m ((a + cast_unsigned w64 r.addend) % 2 ^ 64) ((symbol + cast_unsigned w64 r.addend) % 2 ^ 64)
 
--- a symbol that nothing defines stands behind the call or the jump
+-- an undefined weak symbol counts as if it were directly after the call or the jump
 pub record IsBehind (l : Layout) (w : World) (s : Item) (r : InputRelocation) (a : ℕ) : Type 0 where
   pub absent : NamesAbsent l r
   pub behind : a ≡ (address_at w s r.offset + 4) % 2 ^ 64
 
--- code that goes to a, with what the addend has, goes to what stands for the symbol, or to a string
+-- a is S or L in a call or a jump: it represents the symbol or, with A, makes a string's address; on AArch64 a thunk may lead there
 abbrev pub IsBranchedTo : Machine → Layout → World → Memory → Item → InputRelocation → ℕ → Type 0
 IsBranchedTo machine.X86_64 l w m s r a = IsTarget l w m r.symbol a ⊎ (NamesStrings l r × IsString l w r a)
 IsBranchedTo machine.AArch64 l w m s r a = ComesTo l w m r a ⊎ IsBehind l w s r a
 
 -- ---- calls and jumps
 
--- the symbol's value and A, from where the field counts: on x86-64 A takes back the four bytes of the field
+-- the symbol's value plus A, relative to the origin of the field: on x86-64 A contains -4 for the four bytes of the field
 abbrev pub past_field : Machine → InputRelocation → ℕ → ℕ
 past_field m r a = (a + cast_unsigned w64 r.addend + counts_from m) % 2 ^ 64
 
--- the bytes of a direct call or jump, and of one through a slot
+-- the sizes in bytes of a direct call or jump, and of one through a slot
 abbrev pub branch_size : Machine → ℕ
 branch_size machine.X86_64 = 5
 branch_size machine.AArch64 = 4
 
--- the loaded bytes call, or go to, what stands for the symbol, with what the addend has past the field
+-- the loaded bytes call, or jump to, an address that represents the symbol, plus the part of the addend past the field
 pub record BranchReaches (l : Layout) (w : World) (m : Memory) (s : Item) (r : InputRelocation) (k : ℕ) (deed : Deed) : Type 0 where
   pub target : ℕ
   pub stands : IsBranchedTo l.machine l w m s r target
@@ -98,7 +99,7 @@ pub record BranchReaches (l : Layout) (w : World) (m : Memory) (s : Item) (r : I
   pub held : Holds m (address_at w s k) bytes
   pub goes : effect_of l.machine (reads w m) (address_at w s k) bytes ≡ Some (record { deed = deed; width = 64; value = past_field l.machine r target })
 
--- the six loaded bytes call, or go to, what comes to the symbol
+-- the six loaded bytes call, or jump to, an address that leads to the symbol
 pub record SlotBranchReaches (l : Layout) (w : World) (m : Memory) (s : Item) (r : InputRelocation) (k : ℕ) (deed : Deed) : Type 0 where
   pub target : ℕ
   pub comes : IsGoal l w m r.symbol target
@@ -109,20 +110,20 @@ pub record SlotBranchReaches (l : Layout) (w : World) (m : Memory) (s : Item) (r
 
 -- ---- fields
 
--- the formula gives x (x86-64 psABI, "Relocation Types"; aaelf64, "Static data relocations"): S + A, or S + A - P
+-- the formula has the value x (x86-64 psABI, "Relocation Types"; aaelf64, "Static data relocations"): S + A, or S + A - P
 abbrev pub Demands : Value → ℕ → ℤ → ℕ → ℕ → Type 0
 Demands SymbolAddress s a p x = x ≡ (s + cast_unsigned w64 a) % 2 ^ 64
 Demands Distance s a p x = x ≡ ((s + cast_unsigned w64 a) % 2 ^ 64 + (2 ^ 64 - p)) % 2 ^ 64
 Demands other s a p x = ⊥
 
--- memory has at a place a field that reads as x
+-- memory has at a place a field with the value x
 pub record HasField (m : Memory) (form : Form) (p x : ℕ) : Type 0 where
   pub bytes : List ℕ
   pub wide : length bytes ≡ form_width form
   pub held : Holds m p bytes
   pub reads : Reads form bytes x
 
--- the field is the formula of the reference's relocation type
+-- the field has the value of the formula of the reference's relocation type
 pub record HasFormula (l : Layout) (w : World) (m : Memory) (s : Item) (r : InputRelocation) : Type 0 where
   pub formula : Formula
   pub known : formula_of l.machine r.number ≡ Some formula
@@ -132,42 +133,44 @@ pub record HasFormula (l : Layout) (w : World) (m : Memory) (s : Item) (r : Inpu
   pub demanded : Demands formula.value target r.addend (address_at w s r.offset) value
   pub field : HasField m formula.form (address_at w s r.offset) value
 
--- the reference is asked in the world, and whichever module has the relocation's symbol, it is not to the output's own alone; the image has
--- what it goes by
+-- The reference is checked in the world; it does not only refer to the output's own symbol, whichever module defines it. The
+-- image contains what the reference depends on.
 abbrev pub IsFollowed : Layout → World → Item → InputRelocation → Type 0
 IsFollowed l w s r = IsAsked l w s r × (IsLinkedAlone l s r → ⊥) × (IsLeftOut l s r → ⊥)
 
--- each reference of the item is asked, one to the output's own symbol alone at base 0, and the image has what it goes by
+-- each reference of the item is checked, one to the output's own symbol only at base 0, and the image contains what it depends on
 abbrev pub EachIsAsked : Layout → World → Item → Type 0
 EachIsAsked l w s = (r : InputRelocation) → IsRelocated s r → IsAsked l w s r × (IsLinkedAlone l s r → w.base ≡ 0) × (IsLeftOut l s r → ⊥)
 
--- the field reads as the judge's formula of the relocation's type, whichever that is
+-- the field has the value of the judge's formula for the relocation's type, whichever type that is
 pub record HasValueOf (l : Layout) (w : World) (m : Memory) (s : Item) (r : InputRelocation) (f : Formula) : Type 0 where
   pub value : ℕ
   pub gives : Gives f.value l w m s r value
   pub field : HasField m f.form (address_at w s r.offset) value
 
--- an instruction of the input has the reference
+-- the reference belongs to an instruction of the input
 pub record HasInstruction (l : Layout) (s : Item) (r : InputRelocation) : Type 0 where
   pub start : ℕ
   pub instruction : Instruction
   pub first : InputRelocation
   pub template : IsTemplate l s r start instruction first
 
--- the loaded code does what such an instruction demands
+-- the loaded code has the effect that such an instruction requires
 pub record DoesInstruction (l : Layout) (w : World) (m : Memory) (s : Item) (r : InputRelocation) : Type 0 where
   pub of : HasInstruction l s r
   pub does : DoesDemanded (reads w m) l w m s of.first of.start of.instruction
 
--- of every type: a reference in no instruction has its field as the formula, and in one the code does what that
--- demands
+-- for every type: a reference outside instructions has its formula's value in its field; for one in an instruction the code has
+-- the required effect
 pub record HoldsByForms (l : Layout) (w : World) (m : Memory) (s : Item) : Type 0 where
   pub fields : (r : InputRelocation) (f : Formula) → IsRelocated s r → IsFollowed l w s r → formula_of l.machine r.number ≡ Some f → (HasInstruction l s r → ⊥) → HasValueOf l w m s r f
   pub instructions : (r : InputRelocation) → IsRelocated s r → IsFollowed l w s r → HasInstruction l s r → DoesInstruction l w m s r
 
--- each address and each distance in no call and no jump has its field as the formula, each call and each jump reaches its symbol, but
--- for a call that gives a thread address; of every other type it holds by its form; and where no relocation's instruction has other bytes
--- of its own every byte in no field is the input's
+-- The requirements are:
+-- - each address and each distance outside calls and jumps has its formula's value in its field;
+-- - each call and each jump reaches its symbol, except for a call that returns a thread-local address;
+-- - a reference of any other type holds in its form;
+-- - if no relocation belongs to an instruction with other bytes, every byte outside all fields is the input's.
 pub record HoldsByFields (l : Layout) (w : World) (m : Memory) (s : Item) : Type 0 where
   pub references : (r : InputRelocation) → IsRelocated s r → IsFollowed l w s r → Contains (address_types l.machine) r.number → (IsBranchField l.machine l s r → ⊥) → (GivesThreadAddress l.machine l s r → ⊥) → HasFormula l w m s r
   pub calls : (r : InputRelocation) (k : ℕ) → IsRelocated s r → IsFollowed l w s r → (GivesThreadAddress l.machine l s r → ⊥) → IsCall l.machine l s r k → BranchReaches l w m s r k Call
@@ -177,11 +180,11 @@ pub record HoldsByFields (l : Layout) (w : World) (m : Memory) (s : Item) : Type
   pub forms : HoldsByForms l w m s
   pub others : HasFirstTypes l.machine s → EachIsAsked l w s → (k : ℕ) → k < length s.bytes → InNoField l s k → byte_in m (address_at w s k) ≡ Some (slice_index s.bytes k)
 
--- an image that meets the meaning of all layouts in a world, at whatever base, meets this one
+-- an image that meets the requirements for all layouts in a world, at any base, meets these
 abbrev pub MeaningGivesFields : Type 0
 MeaningGivesFields = (l : Layout) (w : World) (image : List ℕ) → (linked : IsLinked l w image) → (s : InputSection) (k : IsLoadedSection l s) → HoldsByFields l w linked.memory (stood_item l k.file s)
 
--- so it gives what is told by forms
+-- it also meets those on forms
 abbrev pub MeaningGivesForms : Type 0
 MeaningGivesForms = (l : Layout) (w : World) (image : List ℕ) → (linked : IsLinked l w image) → (s : InputSection) (k : IsLoadedSection l s) → HoldsByForms l w linked.memory (stood_item l k.file s)
 
@@ -197,8 +200,8 @@ pub record IsAddress (l : Layout) (w : World) (i a : ℕ) : Type 0 where
   pub listed : IsSymbol l definition symbol
   pub moves : a ≡ moved (has_flag symbol.flags absolute) w.base raw
 
--- what stands for a symbol comes to it; of the output's own that is no IFUNC nothing but its address stands for it without a stub,
--- and code that goes to it comes to that address
+-- An address that represents a symbol leads to it. Without a stub, an own symbol that is not an IFUNC is represented only by its
+-- address, and execution that reaches the symbol reaches that address.
 pub record NamesAreAddresses : Type 0 where
   pub stands : (l : Layout) (w : World) (m : Memory) (i a : ℕ) → Denotes l w m i a → IsGoal l w m (Some i) a
   pub alone : (l : Layout) (w : World) (m : Memory) (i a : ℕ) → IsReplaceable l i false → HasFlag l i ifunc false → ((p : ℕ) → HasStub l i p → ⊥) → Denotes l w m i a → IsAddress l w i a

@@ -1,11 +1,13 @@
--- Of which references of an item an image's fields, calls and jumps are told: by the relocation types, and by the input's bytes.
+-- The references of an item to which the requirements on fields, calls and jumps apply: by the relocation types, and by the
+-- input's bytes.
 --   IsLoadedSection l s    an input section with data is loaded, allocated and written
 --   IsRelocated s r        a relocation of an item other than R_X86_64_NONE and R_AARCH64_NONE, which are 0
 --   address_types m        the types of addresses and distances
---   HasFirstTypes m s      no relocation of the item has an instruction with bytes of its own, but direct calls and jumps
+--   HasFirstTypes m s      no relocation of the item belongs to an instruction with bytes outside fields, except direct calls and
+--                          jumps
 --   IsCall, IsJump ..      a relocation is that of a direct call, or of a direct jump
---   IsSlotCall, IsSlotJump ..   or of one through a slot
---   GivesThreadAddress ..  or of a call that gives a thread address
+--   IsSlotCall, IsSlotJump ..   the same for one through a slot
+--   GivesThreadAddress ..  a relocation is that of a call that returns a thread-local address
 use Rattle.std.specs.Prelude.{◌≡◌, ◌≢◌, ℕ, ◌+◌, ◌/◌, ◌%◌, ◌^◌, ◌≤◌, ◌⊎◌, true, false, List, [], ◌∷◌, length, Some, Contains, slice_index, slice_get}
 use Rattle.std.specs.Int.{w64, cast_unsigned}
 use Rattle.wild_words.specs.Words.{number_at}
@@ -52,25 +54,25 @@ abbrev pub address_types : Machine → List ℕ
 address_types machine.X86_64 = addresses_x86_64
 address_types machine.AArch64 = addresses_aarch64
 
--- on x86-64 those of a direct call or jump, and of one through a slot
+-- on x86-64 the types of a direct call or jump, and of one through a slot
 abbrev pub branch_types : List ℕ
 branch_types = r_x86_64_pc32 ∷ r_x86_64_plt32 ∷ []
 
 abbrev pub slot_types : List ℕ
 slot_types = r_x86_64_gotpcrel ∷ r_x86_64_gotpcrelx ∷ []
 
--- those that ask for a thread address, and of the call behind them (x86-64 psABI, "Thread-Local Storage")
+-- the types that refer to a pair, and those of the call after them (x86-64 psABI, "Thread-Local Storage")
 abbrev pub thread_types : List ℕ
 thread_types = r_x86_64_tlsgd ∷ r_x86_64_tlsld ∷ []
 
 abbrev pub call_types : List ℕ
 call_types = r_x86_64_pc32 ∷ r_x86_64_plt32 ∷ r_x86_64_gotpcrel ∷ r_x86_64_gotpcrelx ∷ r_x86_64_rex_gotpcrelx ∷ r_x86_64_pltoff64 ∷ []
 
--- the types of addresses and distances, or none, or R_X86_64_PLT32
+-- the types of addresses and distances, NONE, and R_X86_64_PLT32
 abbrev pub first_types : List ℕ
 first_types = r_x86_64_none ∷ r_x86_64_plt32 ∷ addresses_x86_64
 
--- on AArch64 a field is the whole word, but for the call through a descriptor, which has none
+-- on AArch64 a field is the whole word; the call through a descriptor has no field
 abbrev pub IsFirstType : Machine → ℕ → Type 0
 IsFirstType machine.X86_64 n = Contains first_types n
 IsFirstType machine.AArch64 n = n ≢ r_aarch64_tlsdesc_call
@@ -84,8 +86,8 @@ address_at w s offset = w.base + s.address + offset
 
 -- ---- calls and jumps of x86-64
 
--- the input's byte at an offset is the opcode of a direct call or jump (Intel SDM, "CALL": e8; "JMP": e9), which no field has, and the
--- field behind it is the relocation's, of type R_X86_64_PC32 or R_X86_64_PLT32
+-- The input's byte at an offset is the opcode of a direct call or jump (Intel SDM, "CALL": e8; "JMP": e9) and is in no field. The
+-- field after it is the relocation's, of type R_X86_64_PC32 or R_X86_64_PLT32.
 pub record IsBranch (l : Layout) (s : Item) (r : InputRelocation) (k opcode : ℕ) : Type 0 where
   pub code : executable s.flags ≡ true
   pub behind : r.offset ≡ k + 1
@@ -94,9 +96,9 @@ pub record IsBranch (l : Layout) (s : Item) (r : InputRelocation) (k opcode : �
   pub inside : r.offset + 4 ≤ length s.bytes
   pub free : InNoField l s k
 
--- the input's bytes at an offset are the opcode of a call or a jump through a slot (Intel SDM, "CALL": ff 15; "JMP": ff 25), which no
--- field has, and the field behind them is the relocation's, of type R_X86_64_GOTPCREL or R_X86_64_GOTPCRELX, whose addend takes
--- back its four bytes
+-- The input's bytes at an offset are the opcode of a call or a jump through a slot (Intel SDM, "CALL": ff 15; "JMP": ff 25) and
+-- are in no field. The field after them is the relocation's, of type R_X86_64_GOTPCREL or R_X86_64_GOTPCRELX, with the addend -4
+-- for its four bytes.
 pub record IsSlotBranch (l : Layout) (s : Item) (r : InputRelocation) (k opcode : ℕ) : Type 0 where
   pub code : executable s.flags ≡ true
   pub behind : r.offset ≡ k + 2
@@ -108,8 +110,8 @@ pub record IsSlotBranch (l : Layout) (s : Item) (r : InputRelocation) (k opcode 
   pub free : InNoField l s k
   pub free_too : InNoField l s (k + 1)
 
--- the relocation is that of a call of the function that gives thread addresses, right behind one that asks for such an address: both may
--- be rewritten as one
+-- The relocation is that of a call of the function that returns thread-local addresses, directly after one that refers to a pair.
+-- Both may be rewritten together.
 pub record IsThreadCall (l : Layout) (s : Item) (r : InputRelocation) : Type 0 where
   pub number : Contains call_types r.number
   pub getter : NamesGetter l r
@@ -130,9 +132,9 @@ pub record IsBranchWord (s : Item) (r : InputRelocation) (k opcode type : ℕ) :
   pub number : r.number ≡ type
   pub inside : k + 4 ≤ length s.bytes
 
--- ---- of either machine
+-- ---- both machines
 
--- the relocation's field is that of a direct call, or of a direct jump, that begins at an offset
+-- the relocation's field is that of a direct call, or of a direct jump, that starts at an offset
 abbrev pub IsCall : Machine → Layout → Item → InputRelocation → ℕ → Type 0
 IsCall machine.X86_64 l s r k = IsBranch l s r k 0xe8
 IsCall machine.AArch64 l s r k = IsBranchWord s r k 37 r_aarch64_call26
@@ -144,7 +146,7 @@ IsJump machine.AArch64 l s r k = IsBranchWord s r k 5 r_aarch64_jump26
 abbrev pub IsBranchField : Machine → Layout → Item → InputRelocation → Type 0
 IsBranchField m l s r = (k : ℕ) × (IsCall m l s r k ⊎ IsJump m l s r k)
 
--- or of one through a slot: on AArch64 no one instruction is
+-- the same for one through a slot; AArch64 has no single instruction for this
 abbrev pub IsSlotCall : Machine → Layout → Item → InputRelocation → ℕ → Type 0
 IsSlotCall machine.X86_64 l s r k = IsSlotBranch l s r k 0x15
 IsSlotCall machine.AArch64 l s r k = ⊥
@@ -153,7 +155,8 @@ abbrev pub IsSlotJump : Machine → Layout → Item → InputRelocation → ℕ 
 IsSlotJump machine.X86_64 l s r k = IsSlotBranch l s r k 0x25
 IsSlotJump machine.AArch64 l s r k = ⊥
 
--- or of a call that gives a thread address: on AArch64 that is through a descriptor alone, and has no field
+-- the same for a call that returns a thread-local address; on AArch64 that is only a call through a descriptor, which has no
+-- field
 abbrev pub GivesThreadAddress : Machine → Layout → Item → InputRelocation → Type 0
 GivesThreadAddress machine.X86_64 l s r = IsThreadCall l s r
 GivesThreadAddress machine.AArch64 l s r = ⊥

@@ -1,4 +1,4 @@
--- What the tables of an image change.
+-- The changes of an image's tables.
 --   TablesAreMade   over the loaded segments each place and each entry makes a known change, and no two share a byte
 use Rattle.std.specs.Prelude.{◌≡◌, [], AllPairs}
 use Rattle.wild_types.specs.declared.layout.Layout.{Layout}
@@ -21,6 +21,6 @@ pub record AreMade (l : Layout) (w : World) : Type 0 where
   pub made : HasMade w (image_memory l w) (tables_of l) (place_change w (image_memory l w)) (entry_change w (image_memory l w))
   pub apart : AllPairs IsApart (runs_of_patches (patches_of (tables_of l) (place_change w (image_memory l w)) (entry_change w (image_memory l w))))
 
--- where no group has a fault, each is known, and no two share a byte
+-- if no group has a fault, each change is known, and no two share a byte
 abbrev pub TablesAreMade : Type 0
 TablesAreMade = (l : Layout) (w : World) → KeepsAll l → IsLoadable l.kind → NumbersFit l → IsLegal l w → IsLaidOut l → EachDecided l → HasWholeSlots l → flat_map_from (group_errors l) 0 l.groups ≡ [] → AreMade l w

@@ -1,22 +1,22 @@
--- What a loader makes of the image of a laid out layout before any entry is applied.
+-- The memory that a loader makes of the image of a laid out layout, before any entry is applied.
 --   OwnersAreKnown         each byte of the image has one owner, or is padding
---   HeadersStand           a reader finds the headers, and a loader takes them
---   HeadersTell            the file header tells the output's type, and where the program begins
+--   HeadersStand           a reader finds the headers, and a loader accepts them
+--   HeadersTell            the file header has the output's type and entry
 --   SegmentsAreLoadable    the segments can be loaded in a legal world
---   SectionsAreCarried     a kept section that has bytes has them in the file, and each is carried to its address
---   SectionsAreStored      their memory has each kept section as the file has it
---   ZerosAreStored         and zeros behind the file bytes
---   BlanksAreStored        and in sections without data that lie in one with file bytes
---   SlotsAreThere          the slots of a layout without faults are whole
+--   SectionsAreCarried     a kept section with bytes has them in the file, and each is loaded at its address
+--   SectionsAreStored      memory has each kept section as the file has it
+--   ZerosAreStored         memory is zero after the file bytes of segments
+--   BlanksAreStored        memory is zero in sections without data that are in a section with file bytes
+--   SlotsAreThere          the slots of a layout without faults are complete
 --   PartsAreStored         memory has the tables of slots and stubs
---   SlotsAreStored         and each word, each stub and the pair of the output's own thread-local data
---   ThunksAreThere         and, without faults, each thunk
---   DynamicSectionsStand   the dynamic section stands where its segment is
---   DynamicSectionsTell    and tells a dynamic linker what it is to do
---   TablesAreFound         a loader finds the tables that fill addresses and slots by the dynamic section
---   SectionTablesAreFound  or, without one, by their sections
---   EntriesHaveChanges     what entries of slots, of fields and of copies make a loader do in a legal world
---   CopiesAreThere         and each symbol that is copied has an answer
+--   SlotsAreStored         memory has each word, each stub and the pair of the output's own thread-local data
+--   ThunksAreThere         memory has each thunk, if there are no faults
+--   DynamicSectionsStand   the dynamic section is where its segment is
+--   DynamicSectionsTell    it has the information that a dynamic linker needs
+--   TablesAreFound         a loader finds the tables that fill addresses and slots through the dynamic section
+--   SectionTablesAreFound  without a dynamic section it finds them through their sections
+--   EntriesHaveChanges     the changes of entries of slots, fields and copies in a legal world
+--   CopiesAreThere         each copied symbol has an answer
 use Rattle.std.specs.Prelude.{◌≡◌, ℕ, ◌+◌, ◌*◌, ◌<◌, ◌≤◌, true, false, [], ◌++◌, length, Some, Ok, Contains, slice_get}
 use Rattle.wild_types.specs.declared.input.InputSection.{InputSection}
 use Rattle.wild_types.specs.Item.{Item, item_of}
@@ -66,83 +66,86 @@ use Rattle.wild_loaded.specs.WholeSlots.{HasWholeSlots}
 use Rattle.wild_loaded.specs.Stored.{IsPartStored, IsWordStored, IsStubStored, FillsSlot, FillsField, Copies}
 use Rattle.wild_loaded.specs.Tables.{HasTablesIn, HasSectionsIn}
 
--- no byte of the image is of two pieces, each piece stands in it, and every other byte is padding
+-- no byte of the image belongs to two pieces, each piece is in the image, and every other byte is padding
 abbrev pub OwnersAreKnown : Type 0
 OwnersAreKnown = (l : Layout) → IsLaidOut l → HasOneOwnerEach l
 
--- the headers stand in the image where they tell, each number in its field's range, and the loader takes the file header
+-- the headers are in the image at their offsets, each number is in its field's range, and the loader accepts the file header
 pub record HeadersStand : Type 0 where
   pub stand : (l : Layout) → IsLoadable l.kind → NumbersFit l → IsLaidOut l → HasHeaders (bytes l) (file_header l) (headers_of l) (section_headers_of l l.sections)
   pub taken : (l : Layout) → IsLoadable l.kind → is_loadable_header (file_header l) ≡ true
 
--- the file header tells what the layout owes of it
+-- the file header has what the layout requires
 abbrev pub HeadersTell : Type 0
 HeadersTell = (l : Layout) → IsLoadable l.kind → NumbersFit l → IsLaidOut l → HasHeader l (bytes l)
 
--- in a legal world the segments ascend and do not wrap, and their memory is of the layout's machine
+-- in a legal world the segments are in ascending order and do not wrap, and their memory is for the layout's machine
 pub record SegmentsAreLoadable : Type 0 where
   pub loadable : (l : Layout) (w : World) → IsLoadable l.kind → IsLegal l w → IsLaidOut l → AreLoadable w.base (bytes l) (headers_of l)
   pub machine : (l : Layout) (w : World) → (image_memory l w).machine ≡ processor_of l.machine
 
--- a kept section as it stands that has bytes has them in the file, and loaded segments carry each to its address
+-- a kept section with bytes, as placed, has them in the file, and loaded segments have each at its address
 abbrev pub SectionsAreCarried : Type 0
 SectionsAreCarried = (l : Layout) (s : InputSection) → IsLoadable l.kind → IsLaidOut l → IsKeptLaid l s → 1 ≤ length s.bytes → IsStored l s
 
--- a kept section is there as the file has it: of an address that moves what stands at its place in the file
+-- memory has a kept section as the file has it; for an address that moves with the base, memory has the file's content of its
+-- place
 abbrev pub SectionsAreStored : Type 0
 SectionsAreStored = (l : Layout) (w : World) (s : InputSection) → IsLoadable l.kind → IsLegal l w → IsLaidOut l → (k : IsKeptLaid l s) → IsDecided l (item_of l k.input.owner s) → HasItem l w (image_memory l w) (item_of l k.input.owner s) InFile
 
--- behind the file bytes of a loaded segment are zeros
+-- the memory after the file bytes of a loaded segment is zero
 abbrev pub ZerosAreStored : Type 0
 ZerosAreStored = (l : Layout) (w : World) (a : ℕ) → IsLoadable l.kind → IsLegal l w → IsLaidOut l → IsBehind l a → byte_in (image_memory l w) (w.base + a) ≡ Some 0
 
--- an input section without data has zeros where its section has bytes in the file
+-- the memory of an input section without data is zero, if its output section has bytes in the file
 abbrev pub BlanksAreStored : Type 0
 BlanksAreStored = (l : Layout) (w : World) (s : InputSection) (k : ℕ) → IsLoadable l.kind → IsLegal l w → IsLaidOut l → IsBlank l s → HasFileBytes l s.part → k < s.size → byte_in (image_memory l w) (w.base + (s.address + k)) ≡ Some 0
 
--- slots are whole where no group has a fault and all is written
+-- slots are complete if no group has a fault and all tables are written
 abbrev pub SlotsAreThere : Type 0
 SlotsAreThere = (l : Layout) → KeepsAll l → HaveTheirFlags l → IsLaidOut l → flat_map_from (group_errors l) 0 l.groups ≡ [] → HasWholeSlots l
 
--- memory has the table of each role that a program reads, unless nothing of its section is written
+-- memory has the table of each role that a program reads, unless only the header of its section is written
 abbrev pub PartsAreStored : Type 0
 PartsAreStored = (l : Layout) (w : World) (r : Role) (p : Part) → is_loaded_role r ≡ true → IsLoadable l.kind → IsLegal l w → IsLaidOut l → part_with r l.parts ≡ Some p → is_hollow_at l p.section ≡ false → IsPartStored l w r p
 
--- each word of the slots of symbols, 8 bytes behind the one before it, their stubs, and the pair, where all is written
+-- if all tables are written, memory has each word of the symbols' slots, 8 bytes after the word before it, their stubs, and the
+-- pair
 pub record SlotsAreStored : Type 0 where
   pub words : (l : Layout) (w : World) (i at k : ℕ) (s : Symbol) (d : SlotWord) → KeepsAll l → IsLoadable l.kind → NumbersFit l → IsLegal l w → IsLaidOut l → HasWholeSlots l → slice_get l.symbols i ≡ Some s → got_of s ≡ Some at
       → slice_get (slots_of l s).words k ≡ Some d → IsWordStored l w (at + word_size * k) d
   pub stubs : (l : Layout) (w : World) (i at stub : ℕ) (s : Symbol) → KeepsAll l → IsLoadable l.kind → IsLegal l w → IsLaidOut l → HasWholeSlots l → slice_get l.symbols i ≡ Some s → got_of s ≡ Some at → plt_of s ≡ Some stub → IsStubStored l w at stub
   pub pair : (l : Layout) (w : World) (at k : ℕ) (d : SlotWord) → KeepsAll l → IsLoadable l.kind → IsLegal l w → IsLaidOut l → HasWholeSlots l → l.tlsld ≡ Some at → slice_get (storage_words l) k ≡ Some d → IsWordStored l w (at + word_size * k) d
 
--- each thunk, where no group has a fault and all is written
+-- each thunk, if no group has a fault and all tables are written
 abbrev pub ThunksAreThere : Type 0
 ThunksAreThere = (l : Layout) (w : World) → KeepsAll l → IsLoadable l.kind → IsLegal l w → IsLaidOut l → flat_map_from (group_errors l) 0 l.groups ≡ [] → HasThunks l w (image_memory l w)
 
--- the image has a dynamic section: the entries of libraries, those of the last file, and zeros up to the end of its room
+-- the image has a dynamic section: the entries of libraries, those of the last file, and zeros up to the end of its part
 pub record HasEntries (l : Layout) : Type 0 where
   pub room : ℕ
   pub dynamic : HasDynamic (bytes l) (headers_of l) (all_needed l ++ dynamic_records l room)
 
--- so it is where the output needs one and all is written
+-- this is so if the output needs one and all tables are written
 abbrev pub DynamicSectionsStand : Type 0
 DynamicSectionsStand = (l : Layout) → KeepsAll l → needs_dynamic l.kind ≡ true → NumbersFit l → IsLaidOut l → HasEntries l
 
--- in whatever legal world, its entries tell a dynamic linker what it is to do
+-- in every legal world its entries have the information that a dynamic linker needs
 abbrev pub DynamicSectionsTell : Type 0
 DynamicSectionsTell = (l : Layout) (w : World) → KeepsAll l → IsLoadable l.kind → needs_dynamic l.kind ≡ true → NumbersFit l → IsLegal l w → IsLaidOut l → HasWholeSlots l → TellsLinker (processor_of l.machine) (bytes l)
 
--- the image of an output that needs a dynamic section has one, by which a loader finds the tables that the groups give
+-- the image of an output that needs a dynamic section has one, and through it a loader finds the tables that the groups write
 abbrev pub TablesAreFound : Type 0
 TablesAreFound = (l : Layout) → KeepsAll l → needs_dynamic l.kind ≡ true → NumbersFit l → IsLaidOut l → HasWholeSlots l → HasTablesIn l
 
--- any other has none, and a loader finds them by a section
+-- any other image has none, and a loader finds the tables through a section
 abbrev pub SectionTablesAreFound : Type 0
 SectionTablesAreFound = (l : Layout) → KeepsAll l → IsLoadable l.kind → needs_dynamic l.kind ≡ false → NumbersFit l → IsLaidOut l → HasWholeSlots l → HasSectionsIn l
 
--- what entries make a loader do in a legal world: that of a word of a slot stores a number or notes a descriptor, by the symbol's
--- answer or its resolver's, and so does that of the pair; that of a field that is left to it stores a number there; that of a
--- copy copies the answer's bytes
+-- The changes of entries in a legal world:
+-- - that of a word of a slot, or of the pair, stores a number or notes a descriptor, from the symbol's answer or its resolver's;
+-- - that of a field that is left to an entry stores a number there;
+-- - that of a copy copies the answer's bytes.
 pub record EntriesHaveChanges : Type 0 where
   pub slots : (l : Layout) (w : World) (i k : ℕ) (s : Symbol) (d : SlotWord) (e : SlotEntry) → NumbersFit l → IsLegal l w → IsLaidOut l → HasWholeSlots l
       → slice_get l.symbols i ≡ Some s → slice_get (slots_of l s).words k ≡ Some d → entry_in d ≡ Some e → FillsSlot (processor_of l.machine) w e
@@ -151,6 +154,6 @@ pub record EntriesHaveChanges : Type 0 where
       → decided l s r ≡ Ok (Left z number symbol addend) → FillsField (processor_of l.machine) w z number symbol addend
   pub copies : (l : Layout) (w : World) (i raw : ℕ) (x : Answer) → NumbersFit l → IsLegal l w → IsLaidOut l → HasCopy l w i raw x → Copies (processor_of l.machine) w (copy_entry l i) raw x.bytes
 
--- where no group has a fault, each symbol that is copied has an address and an answer
+-- if no group has a fault, each copied symbol has an address and an answer
 abbrev pub CopiesAreThere : Type 0
 CopiesAreThere = (l : Layout) (w : World) (i : ℕ) → IsLegal l w → IsLaidOut l → flat_map_from (group_errors l) 0 l.groups ≡ [] → IsCopied l i → (raw : ℕ) × (x : Answer) × HasCopy l w i raw x

@@ -1,10 +1,10 @@
 -- The memory that a loader makes of an image.
 --   headers_of l       the program headers of the image
 --   image_memory l w   its loaded segments in a world, before any entry is applied
---   IsStored l s       the section's bytes stand in the file, and loaded segments carry each to its address; a section as it stands
---   EachDecided l      each section that is read and written is decided
---   HasMemory l w      the loader accepts the image, and memory has each kept item as it was decided, the slots and the thunks
---   HasBareMemory l w  the loader accepts the image of which no table is written, and memory has each kept item as the file has it
+--   IsStored l s       the section, as placed, has its bytes in the file, and loaded segments have each at its address
+--   EachDecided l      each section that is read and written has decisions
+--   HasMemory l w      the loader accepts the image, and memory has each kept item as decided, the slots and the thunks
+--   HasBareMemory l w  the loader accepts the image without tables, and memory has each kept item as the file has it
 use Rattle.std.specs.Prelude.{◌≡◌, ℕ, ◌+◌, ◌<◌, ◌≤◌, true, false, List, length, map, Some, Ok}
 use Rattle.wild_records.specs.declared.program_header.ProgramHeader.{ProgramHeader}
 use Rattle.wild_types.specs.declared.input.InputSection.{InputSection}
@@ -32,18 +32,18 @@ use Rattle.wild_meaning.specs.World.{IsBehind, HasCopy}
 use Rattle.wild_meaning.specs.Linked.{IsBlank, IsNotCopied, processor_of}
 use Rattle.wild_geometry.specs.Laid.{IsLaid, file_place}
 
--- the section has bytes of its own in the file, or in the part of frames
+-- the section has bytes in the file, or in the part of frames
 pub data HasPlace (l : Layout) (s : InputSection) : Type 0 where
   Filled : is_filled l s ≡ true → HasPlace l s
   Framed : is_frame s.slot ≡ true → HasPlace l s
 
--- and each is carried to its address
+-- each of its bytes is loaded at its address
 pub record IsStored (l : Layout) (s : InputSection) : Type 0 where
   pub some : 1 ≤ s.size
   pub place : HasPlace l s
   pub carried : (k : ℕ) → k < s.size → (h : Segment) × CarriesByte l h (file_place l s + k) (s.address + k)
 
--- the program headers of the image, one a segment
+-- the program headers of the image, one for each segment
 abbrev pub headers_of : Layout → List ProgramHeader
 headers_of l = map (program_header l) l.segments
 
@@ -51,12 +51,12 @@ headers_of l = map (program_header l) l.segments
 abbrev pub image_memory : Layout → World → Memory
 image_memory l w = loaded_memory (machine_of (file_header l)) w.base (bytes l) (headers_of l)
 
--- each section that is written and whose relocations are read has decisions that lie apart
+-- each section that is written and whose relocations are read has decisions whose fields do not overlap
 abbrev pub EachDecided : Layout → Type 0
 EachDecided l = (s : InputSection) (k : IsLaid l s) → is_read s ≡ true → is_dropped l s ≡ false → IsDecided l (item_of l k.owner s)
 
--- the loader accepts the image; memory has each kept item as it was decided, addresses that move more by the base, the
--- slots, stubs and thunks, copies of symbols, and else zeros behind the file bytes of segments, and in sections without data
+-- The loader accepts the image. Memory has each kept item as decided, with the base added to addresses that move; the slots,
+-- stubs and thunks; and copies of symbols. Otherwise it is zero after the file bytes of segments, and in sections without data.
 pub record HasMemory (l : Layout) (w : World) : Type 0 where
   pub memory : Memory
   pub accepted : load w (bytes l) ≡ Ok memory
@@ -68,8 +68,8 @@ pub record HasMemory (l : Layout) (w : World) : Type 0 where
   pub blanks : (s : InputSection) (k : ℕ) → IsBlank l s → HasFileBytes l s.part → k < s.size → byte_in memory (w.base + (s.address + k)) ≡ Some 0
   pub copies : (i raw : ℕ) (x : Answer) → HasCopy l w i raw x → Holds memory (w.base + raw) x.bytes
 
--- the loader accepts the image, of which no table is written that it applies; memory has each kept item as the file has it, zeros behind the
--- file bytes of segments, and in sections without data
+-- The loader accepts the image, which has no table for it to apply. Memory has each kept item as the file has it. It is zero
+-- after the file bytes of segments, and in sections without data.
 pub record HasBareMemory (l : Layout) (w : World) : Type 0 where
   pub memory : Memory
   pub accepted : load w (bytes l) ≡ Ok memory

@@ -1,6 +1,6 @@
--- The memory of an image whose tables were applied.
---   HasApplied l w m   memory has what each place and each entry changes, and every other byte is as before
---   HasMoved l w m     memory has each kept item as it was decided, the slots, stubs and thunks, copies, and zeros where they were
+-- The memory of an image after its tables were applied.
+--   HasApplied l w m   memory has the change of each place and each entry, and every other byte is as before
+--   HasMoved l w m     memory has each kept item as decided, the slots, stubs and thunks, copies, and zeros where they were
 use Rattle.std.specs.Prelude.{◌≡◌, ℕ, ◌+◌, ◌<◌, ◌++◌, Some, All}
 use Rattle.wild_records.specs.declared.relocations.Rela.{Rela}
 use Rattle.wild_types.specs.Item.{Item}
@@ -27,20 +27,20 @@ use Rattle.wild_loaded.specs.Memory.{image_memory}
 use Rattle.wild_loaded.specs.Tables.{tables_of}
 use Rattle.wild_loaded.specs.Words.{place_change, entry_change}
 
--- memory has the bytes of a change, and its descriptor where it notes one
+-- memory has the bytes of a change, and its descriptor if it notes one
 pub record IsMade (m : Memory) (p : Patch) : Type 0 where
   pub held : Holds m p.run.start p.run.bytes
   pub noted : (o : ℕ) → p.offset ≡ Some o → first_value m.descriptors p.run.start ≡ Some o
 
--- memory has what each packed place and each entry changes of the loaded segments, and every other byte is as before
+-- memory has the change of each packed place and each entry over the loaded segments, and every other byte is as before
 pub record HasApplied (l : Layout) (w : World) (m : Memory) : Type 0 where
   pub machine : m.machine ≡ processor_of l.machine
   pub words : All (λ x. IsMade m (place_change w (image_memory l w) x)) (places (tables_of l).words)
   pub entries : All (λ (e : Rela). IsMade m (entry_change w (image_memory l w) e)) ((tables_of l).entries ++ (tables_of l).jumps)
   pub others : (a : ℕ) → All (IsElsewhere a) (runs_of_patches (patches_of (tables_of l) (place_change w (image_memory l w)) (entry_change w (image_memory l w)))) → byte_in m a ≡ byte_in (image_memory l w) a
 
--- memory has each kept item with its addresses more by the base and what is left to entries, the slots, stubs and thunks,
--- copies of symbols, and else zeros behind the file bytes of segments, and in sections without data
+-- Memory has each kept item, with the base added to its addresses and with the fields that entries fill; the slots, stubs and
+-- thunks; and copies of symbols. Otherwise it is zero after the file bytes of segments, and in sections without data.
 pub record HasMoved (l : Layout) (w : World) (m : Memory) : Type 0 where
   pub items : (item : Item) → IsKept l item → HasItem l w m item InMemory
   pub slots : HasSlots l w m

@@ -1,7 +1,7 @@
 -- The image of a laid out layout is loaded in every legal world.
 --   MemoryIsMoved     applying the tables moves the addresses, fills fields, slots and copies, and changes no other byte
---   ImagesAreLoaded   the loader accepts the image, and memory has each kept section as it was decided, and the slots
---   BareImagesAreLoaded   it accepts an image for debuggers alone, and memory has each kept section as the file has it
+--   ImagesAreLoaded   the loader accepts the image, and memory has each kept section as decided, and the slots
+--   BareImagesAreLoaded   it accepts an image only for debuggers, and memory has each kept section as the file has it
 use Rattle.std.specs.Prelude.{◌≡◌, []}
 use Rattle.wild_types.specs.declared.layout.Layout.{Layout}
 use Rattle.wild_types.specs.Hollow.{KeepsAll}
@@ -16,16 +16,16 @@ use Rattle.wild_meaning.specs.Section.{IsForDebuggers}
 use Rattle.wild_loaded.specs.WholeSlots.{HasWholeSlots}
 use Rattle.wild_loaded.specs.Moved.{HasApplied, HasMoved}
 
--- where the tables were applied to the loaded segments of an image without faults, each address is more by the base, each field
--- and each slot has what fills it, each copy its bytes, and every other byte is as before
+-- After the tables were applied to the loaded segments of an image without faults, the base is added to each address. Each field
+-- and each slot has the value that fills it, each copy has its bytes, and every other byte is as before.
 abbrev pub MemoryIsMoved : Type 0
 MemoryIsMoved = (l : Layout) (w : World) (m : Memory) → KeepsAll l → IsLoadable l.kind → NumbersFit l → IsLegal l w → IsLaidOut l → EachDecided l → HasWholeSlots l → flat_map_from (group_errors l) 0 l.groups ≡ []
     → HasApplied l w m → HasMoved l w m
 
--- so the image of an output is loaded in every legal world, with a dynamic section and without one
+-- so the image of an output can be loaded in every legal world, with or without a dynamic section
 abbrev pub ImagesAreLoaded : Type 0
 ImagesAreLoaded = (l : Layout) (w : World) → KeepsAll l → IsLoadable l.kind → NumbersFit l → IsLegal l w → IsLaidOut l → EachDecided l → HasWholeSlots l → flat_map_from (group_errors l) 0 l.groups ≡ [] → HasMemory l w
 
--- of an image for debuggers alone no table is written, and the loader applies none
+-- an image only for debuggers has no table, and the loader applies none
 abbrev pub BareImagesAreLoaded : Type 0
 BareImagesAreLoaded = (l : Layout) (w : World) → IsForDebuggers l → IsLoadable l.kind → NumbersFit l → IsLegal l w → IsLaidOut l → EachDecided l → HasBareMemory l w

@@ -6,7 +6,7 @@ use Rattle.wild_types.specs.declared.layout.Layout.{Layout}
 use Rattle.wild_types.specs.Lookups.{image_size}
 use Rattle.wild_layout.specs.Image.{bytes, pieces, padding}
 
--- no byte is of two pieces, each piece stands in the image, and every other byte is padding
+-- no byte belongs to two pieces, each piece is in the image, and every other byte is padding
 pub record HasOneOwnerEach (l : Layout) : Type 0 where
   pub size : length (bytes l) ≡ image_size l
   pub apart : AreApart (image_size l) (pieces l)

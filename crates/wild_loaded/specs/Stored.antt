@@ -1,5 +1,5 @@
--- Parts and slots in the memory of an image before any entry is applied.
---   IsPartStored l w r p  memory has the table of a role where its part is
+-- Parts and slots in the memory of an image, before any entry is applied.
+--   IsPartStored l w r p  memory has the table of a role at its part
 --   IsWordStored l w a d  memory has a word of a slot as the file has it
 --   IsStubStored l w ..   memory has a stub
 --   FillsSlot p w e       the entry of a slot fills its words
@@ -47,12 +47,12 @@ pub record IsWordStored (l : Layout) (w : World) (at : ℕ) (d : SlotWord) : Typ
   pub ends : w.base + at + 8 ≤ 2 ^ 64
   pub held : Holds (image_memory l w) (w.base + at) (word 8 value)
 
--- memory has the stub, which stands in its table
+-- memory has the stub, which is in its table
 pub record IsStubStored (l : Layout) (w : World) (at stub : ℕ) : Type 0 where
   pub stands : StandsAt l role.PltGot stub (stub_in l at stub).bytes
   pub held : Holds (image_memory l w) (w.base + stub) (stub_in l at stub).bytes
 
--- the bytes that the entry of a slot fills: a descriptor's two words, else one
+-- the number of bytes that the entry of a slot fills: two words for a descriptor, otherwise one
 abbrev pub filled_width : SlotEntry → ℕ
 filled_width e = width_by e.kind
   where
@@ -66,14 +66,14 @@ FillsWords n (changes.Word v) = (n ≡ 8) × (v < 2 ^ 64)
 FillsWords n (changes.Descriptor o) = n ≡ 16
 FillsWords n other = ⊥
 
--- so does the entry of a slot, by what a loader of the processor does with those of its kind
+-- the same for the entry of a slot, with the change that the processor's loader makes for its kind
 pub record FillsSlot (p : Processor) (w : World) (e : SlotEntry) : Type 0 where
   pub index : e.symbol < 2 ^ 32
   pub change : Change
   pub makes : change_of w (loaded_kind p e.kind) (entry_with 0 e.symbol e.addend) ≡ Ok change
   pub fills : FillsWords (filled_width e) change
 
--- an entry of that number, index and addend stores a number in a field of that size
+-- an entry of that type, index and addend stores a number in a field of that size
 pub record FillsField (p : Processor) (w : World) (z : RelocationSize) (number symbol addend : ℕ) : Type 0 where
   pub type_fits : number < 2 ^ 32
   pub index_fits : symbol < 2 ^ 32

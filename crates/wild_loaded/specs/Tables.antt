@@ -1,10 +1,10 @@
 -- The tables that fill addresses and slots, in the image.
---   group_words l g   the words of packed places of a group
+--   group_words l g   the words of a group's packed places
 --   relatives l f     the relative entries of a file
---   generals l f      its entries that name symbols and resolvers
---   tables_of l       the words and entries that the groups of a layout give
---   HasTablesIn l     the image has a dynamic section, and it names these tables
---   HasSectionsIn l   the image has no dynamic section, and these entries stand in its sections
+--   generals l f      its other entries, with symbols, resolvers or modules
+--   tables_of l       the words and entries that the groups of a layout write
+--   HasTablesIn l     the image has a dynamic section, which names these tables
+--   HasSectionsIn l   the image has no dynamic section, and its sections have these entries
 use Rattle.std.specs.Prelude.{◌≡◌, ℕ, ◌<◌, if◌then◌else◌, List, [], ◌++◌, All, IsPermutation}
 use Rattle.std.specs.List.{flat_map}
 use Rattle.wild_records.specs.declared.dynamic.DynamicEntry.{DynamicEntry}
@@ -28,8 +28,8 @@ use Rattle.wild_loader.specs.declared.tables.Tables.{Tables}
 use Rattle.wild_loader.specs.Laws.{HasDynamic, HasTables, HasSectionTables, section_relas, IsStatic}
 use Rattle.wild_loaded.specs.Memory.{headers_of}
 
--- the words of packed places: file by file those of input sections and those of slots, and then those of the block, and those of the
--- sorted sections where the group has the last file
+-- the words of packed places: for each file those of input sections, then those of slots; after them those of the RELR block and,
+-- if the group has the last file, those of the sorted sections
 abbrev pub file_packed : Layout → File → List ℕ
 file_packed l f = file_words l f ++ flat_places_of l f
 
@@ -43,15 +43,15 @@ group_words l g = flat_map (file_packed l) (laid_files l g) ++ (block_words l g 
 abbrev pub relatives : Layout → File → List Rela
 relatives l f = file_entries l f ++ slot_entries_of entries.Relative l f
 
--- its other entries: of the first file that of the pair that stands once; those of copies and of fields; and those of slots
+-- its other entries: in the first file that of the shared module pair; those of copies and of fields; and those of slots
 abbrev pub first_generals : Layout → File → List Rela
 first_generals l f = if is_prelude f.role then storage_entries l else []
 
 abbrev pub generals : Layout → File → List Rela
 generals l f = first_generals l f ++ (file_generals l f ++ slot_entries_of entries.General l f)
 
--- what the groups give, file by file: words of packed places, relative entries and then the others, and those of the slots that
--- stubs go through
+-- the tables that the groups write, in file order: words of packed places, relative entries followed by the others, and those of
+-- the slots that stubs use
 abbrev pub tables_of : Layout → Tables
 tables_of l = record {
   words = flat_map (group_words l) l.groups;
@@ -59,13 +59,13 @@ tables_of l = record {
   jumps = flat_map (λ (g : Group). flat_map (slot_entries_of entries.Plt l) (laid_files l g)) l.groups;
 }
 
--- the image has a dynamic section, and these tables stand in it by its entries
+-- the image has a dynamic section, and its entries lead to these tables
 pub record HasTablesIn (l : Layout) : Type 0 where
   pub entries : List DynamicEntry
   pub dynamic : HasDynamic (bytes l) (headers_of l) entries
   pub tables : HasTables (bytes l) (headers_of l) entries (tables_of l)
 
--- the image has no dynamic section and no packed place, and its sections have the entries, in their own order
+-- the image has no dynamic section and no packed place; its sections have the entries, in their own order
 pub record HasSectionsIn (l : Layout) : Type 0 where
   pub static : All IsStatic (headers_of l)
   pub words : (tables_of l).words ≡ []

@@ -1,5 +1,5 @@
--- What the tables of an image change in the memory of its loaded segments.
---   value_at w m x        the number that memory has at a place
+-- The changes of an image's tables in the memory of its loaded segments.
+--   value_at w m x        the number in memory at a place
 --   place_change w m x    the change at a packed place
 --   entry_change w m e    the change of an entry
 use Rattle.std.specs.Prelude.{ℕ, Option, Some, None, [], Result, Ok, Err}
@@ -18,7 +18,7 @@ abbrev pub number_or : Option ℕ → ℕ
 number_or None = 0
 number_or (Some n) = n
 
--- the number of eight bytes that memory has at a loaded place, 0 without one
+-- the number of eight bytes in memory at a loaded place; 0 if it is not loaded
 abbrev pub value_at : World → Memory → ℕ → ℕ
 value_at w m x = number_or (number_in m (loaded_at w x) 8)
 
@@ -30,6 +30,6 @@ abbrev pub patch_or : Result Patch LoadFault → Patch
 patch_or (Ok p) = p
 patch_or (Err f) = patch_over 0 (changes.Fill []) []
 
--- what an entry changes; nothing where it has a fault
+-- the change of an entry; none if it has a fault
 abbrev pub entry_change : World → Memory → Rela → Patch
 entry_change w m e = patch_or (rela_patch w m e)

@@ -1,4 +1,4 @@
-//! What a loader makes of the image of a laid out layout before any entry is applied.
+//! The memory that a loader makes of the image of a laid out layout, before and after its entries are applied.
 #![tactic(auto)]
 
 ghost use Rattle.wild_loaded.specs.Laws.{BlanksAreStored, CopiesAreThere, DynamicSectionsStand, DynamicSectionsTell, EntriesHaveChanges, HeadersStand, HeadersTell, OwnersAreKnown, PartsAreStored, SectionTablesAreFound, SectionsAreCarried, SectionsAreStored, SegmentsAreLoadable, SlotsAreStored, SlotsAreThere, TablesAreFound, ThunksAreThere, ZerosAreStored};
@@ -20,13 +20,13 @@ use wild_slots::{
 };
 use wild_tables::{dynamic_sections_are_read, entries_are_read, places_are_loaded};
 
-/// Each piece stands in the image, no byte is of two pieces, and a byte that no piece holds is padding.
+/// Each piece is in the image, no byte belongs to two pieces, and a byte outside all pieces is padding.
 pub fn owners_are_known()
     ensures { OwnersAreKnown }
 {}
 
-/// A reader finds each header where the file header tells, and a loader takes them; they tell the output's type, where the program
-/// begins, and the layout's segments.
+/// A reader finds each header at its offset in the file header, and a loader accepts them. They have the output's type and entry,
+/// and describe the layout's segments.
 pub fn headers_stand()
     ensures stand { HeadersStand }
     ensures tell { HeadersTell }
@@ -40,12 +40,13 @@ pub fn segments_are_loadable()
     ensures { SegmentsAreLoadable }
 {}
 
-/// A kept section as it stands that has bytes has them in the file, and loaded segments carry each to its address.
+/// A kept section with bytes, as placed, has them in the file, and loaded segments have each at its address.
 pub fn sections_are_carried()
     ensures { SectionsAreCarried }
 {}
 
-/// The memory of the loaded segments has each kept section as the file has it, and zeros behind the file bytes and in sections without data.
+/// The memory of the loaded segments has each kept section as the file has it. It is zero after the file bytes and in sections
+/// without data.
 pub fn sections_are_stored()
     ensures sections { SectionsAreStored }
     ensures zeros { ZerosAreStored }
@@ -55,7 +56,7 @@ pub fn sections_are_stored()
     parts_are_stored();
 }
 
-/// In a layout without faults the slots of symbols are written whole.
+/// In a layout without faults the slots of symbols are completely written.
 pub fn slots_are_there()
     ensures { SlotsAreThere }
 {}
@@ -86,8 +87,7 @@ pub fn thunks_are_there()
     bytes_are_loaded();
 }
 
-/// The image of an output with a dynamic section has it, with the entries of libraries, those of the last file, and zeros
-/// behind them.
+/// The image of an output with a dynamic section has it: the entries of libraries, those of the last file, and zeros after them.
 pub fn dynamic_sections_stand()
     ensures { DynamicSectionsStand }
 {
@@ -95,7 +95,7 @@ pub fn dynamic_sections_stand()
     dynamic_sections_are_read();
 }
 
-/// A loader finds the tables that fill addresses and slots, by the dynamic section or by sections of theirs.
+/// A loader finds the tables that fill addresses and slots, through the dynamic section or through sections.
 pub fn tables_are_found()
     ensures found { TablesAreFound }
     ensures sections { SectionTablesAreFound }
@@ -108,7 +108,7 @@ pub fn tables_are_found()
     fixed_outputs_move_nothing();
 }
 
-/// The dynamic section tells a dynamic linker to find each symbol at the start, and of the tables what their entries are.
+/// The dynamic section requires a dynamic linker to bind each symbol at load time, and describes the entries of the tables.
 pub fn dynamic_sections_tell()
     ensures { DynamicSectionsTell }
 {
@@ -122,15 +122,15 @@ pub fn dynamic_sections_tell()
     tables_are_found();
 }
 
-/// In a legal world each entry of a slot, of a field and of a copy makes a loader do what the symbol's answer or its
-/// resolver's says.
+/// In a legal world each entry of a slot, of a field and of a copy makes the change that the symbol's answer, or its resolver's,
+/// gives.
 pub fn entries_have_changes()
     ensures { EntriesHaveChanges }
 {
     entries_are_known();
 }
 
-/// In a layout without faults each symbol that is copied has an address and an answer.
+/// In a layout without faults each copied symbol has an address and an answer.
 pub fn copies_are_there()
     ensures { CopiesAreThere }
 {}
@@ -155,9 +155,9 @@ pub fn tables_are_made()
     blocks_are_whole();
 }
 
-/// Where the tables were applied each address is more by the base, whether its place is packed or has an entry; each field
-/// that is left to an entry and each slot has what the entry makes of it, each copy the bytes of its answer, and every other
-/// byte is as before.
+/// After the tables were applied, the base is added to each address, whether its place is packed or has an entry. Each field that
+/// is left to an entry and each slot has the value that the entry gives it. Each copy has the bytes of its answer, and every
+/// other byte is as before.
 pub fn memory_is_moved()
     ensures { MemoryIsMoved }
 {
@@ -179,8 +179,8 @@ pub fn memory_is_moved()
     slots_stand();
 }
 
-/// The loader accepts the image of an output in every legal world, and memory has each kept section as it was decided, the
-/// slots, and the copies.
+/// The loader accepts the image of an output in every legal world, and memory has each kept section as decided, the slots, and
+/// the copies.
 pub fn images_are_loaded()
     ensures { ImagesAreLoaded }
 {
@@ -194,8 +194,8 @@ pub fn images_are_loaded()
     static_images_are_loaded();
 }
 
-/// The loader accepts the image for debuggers alone in every legal world, without tables to apply, and memory has each kept section as the
-/// file has it.
+/// The loader accepts an image only for debuggers in every legal world, without tables to apply, and memory has each kept section
+/// as the file has it.
 pub fn bare_images_are_loaded()
     ensures { BareImagesAreLoaded }
 {

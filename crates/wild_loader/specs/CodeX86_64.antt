@@ -13,14 +13,14 @@ use Rattle.wild_loader.specs.Instruction.{Template, exact, field, jump_through, 
 
 -- ---- one register
 
--- a prefix: its bytes, the width of the registers, and what it adds to their numbers where they stand in ModRM.reg and ModRM.rm
+-- a prefix: its bytes, the register width, and what its bits add to the register numbers in ModRM.reg and ModRM.rm
 pub record Prefix : Type 0 where
   pub cells : List Cell
   pub width : List ℕ → ℕ
   pub high_reg : List ℕ → ℕ
   pub high_rm : List ℕ → ℕ
 
--- none: 32 bits
+-- no prefix: 32 bits
 abbrev pub bare : Prefix
 bare = record { cells = []; width = λ bs. 32; high_reg = λ bs. 0; high_rm = λ bs. 0 }
 
@@ -87,8 +87,8 @@ with_prefix p = map (λ form. form p) one_register
 
 -- ---- branches
 
--- an opcode and a displacement from the instruction's end, to the code there or to the slot of its address (Intel SDM, "CALL",
--- "JMP"); 67 says nothing to a call
+-- an opcode and a displacement from the instruction's end, to the target or to the slot that holds its address (Intel SDM,
+-- "CALL", "JMP"); a prefix 67 does not change a call
 abbrev pub branch : List ℕ → (ℕ → Operand) → Deed → Template
 branch opcode operand deed =
     let n = length opcode in

@@ -1,7 +1,7 @@
--- What the loading of images comes to whose entries store words.
---   AreWords w before t v u        tables whose entries store numbers, and whose packed places hold some
+-- Statements about loading an image whose entries all store words.
+--   AreWords w before t v u        tables whose entries store numbers and whose packed places hold numbers
 --   IsFilled w before t v u m      memory with these numbers
---   HasImage, HasStaticImage ..    what stands in an image with a dynamic section, and in one without
+--   HasImage, HasStaticImage ..    the contents of an image with, and without, a dynamic section
 use Rattle.std.specs.Prelude.{◌≡◌, ℕ, ◌+◌, ◌%◌, ◌^◌, ◌<◌, List, [], ◌++◌, length, map, ◌⊎◌, Some, Ok, All, AllPairs, ◌≤◌, true, slice_get}
 use Rattle.std.specs.List.Sorted.{IsPermutation}
 use Rattle.wild_words.specs.Words.{word}
@@ -44,20 +44,20 @@ pub record StoresWord (w : World) (before : Memory) (u : Rela → ℕ) (r : Rela
 abbrev pub RelativesStoreWords : Type 0
 RelativesStoreWords = (w : World) (r : Rela) → change_of w kinds.Relative r ≡ Ok (changes.Word (plus w.base r))
 
--- one with a resolver stores what the resolver answers
+-- an entry with a resolver stores the resolver's answer
 abbrev pub ResolvedStoreWords : Type 0
 ResolvedStoreWords = (w : World) (r : Rela) (v : ℕ) → answer_at w (plus w.base r) ≡ Ok v → change_of w kinds.Resolved r ≡ Ok (changes.Word v)
 
--- two places of 8 bytes lie beside each other
+-- two places of 8 bytes do not overlap
 abbrev pub AreBeside : ℕ → ℕ → Type 0
 AreBeside a b = (a + 8 ≤ b) ⊎ (b + 8 ≤ a)
 
--- the loaded places of tables, in the order of work
+-- the loaded places of the tables, in the order in which they are applied
 abbrev pub loaded_places : World → Tables → List ℕ
 loaded_places w t = map (λ x. loaded_at w x) (places t.words) ++ map (λ r. loaded_at w r.offset) t.entries ++ map (λ r. loaded_at w r.offset) t.jumps
 
--- each place of the packed relative relocations holds a known number, each entry stores one, and all lie on loaded bytes and
--- beside each other, in whatever order that is told
+-- each place of the packed relative relocations holds a known number, and each entry stores one; all places are on loaded bytes
+-- and do not overlap, in whatever order they are listed
 pub record AreWords (w : World) (before : Memory) (t : Tables) (v : ℕ → ℕ) (u : Rela → ℕ) : Type 0 where
   pub numbers : All (λ x. (v x < 2 ^ 64) × Holds before (loaded_at w x) (word 8 (v x))) (places t.words)
   pub entries : All (StoresWord w before u) t.entries
@@ -66,8 +66,8 @@ pub record AreWords (w : World) (before : Memory) (t : Tables) (v : ℕ → ℕ)
   pub ordered : IsPermutation order (loaded_places w t)
   pub beside : AllPairs AreBeside order
 
--- memory m has at each such place the number more by the base, and at each entry's the number that it stores; every other
--- byte is as before
+-- in memory m each packed place holds its number plus the base, and each entry's place holds the number that the entry stores;
+-- every other byte is as before
 pub record IsFilled (w : World) (before : Memory) (t : Tables) (v : ℕ → ℕ) (u : Rela → ℕ) (m : Memory) : Type 0 where
   pub is : relocate w before t ≡ Ok m
   pub machine : m.machine ≡ before.machine
@@ -76,17 +76,17 @@ pub record IsFilled (w : World) (before : Memory) (t : Tables) (v : ℕ → ℕ)
   pub jumps : All (λ r. Holds m (loaded_at w r.offset) (word 8 (u r))) t.jumps
   pub others : (a : ℕ) → All (λ b. (a < b) ⊎ (b + 8 ≤ a)) (loaded_places w t) → byte_in m a ≡ byte_in before a
 
--- such tables are applied
+-- such tables can be applied
 abbrev pub TablesAreFilled : Type 0
 TablesAreFilled = (w : World) (before : Memory) (t : Tables) (v : ℕ → ℕ) (u : Rela → ℕ) → AreWords w before t v u → (m : Memory) × IsFilled w before t v u m
 
 -- ---- images
 
--- what stands in the file bytes of a segment at an address is in memory at that address's loaded place
+-- bytes in the file bytes of a segment are in memory at their loaded address
 abbrev pub PlacesAreLoaded : Type 0
 PlacesAreLoaded = (machine : Machine) (w : World) (image : List ℕ) (hs : List ProgramHeader) (a : ℕ) (part : List ℕ) → AreLoadable w.base image hs → StandsAt image hs a part → Holds (loaded_memory machine w.base image hs) (loaded_at w a) part
 
--- the headers and the tables that a dynamic section names stand in the image, and its segments can be loaded
+-- the image contains the headers and the tables that its dynamic section names, and its segments can be loaded
 pub record HasImage (w : World) (image : List ℕ) (e : FileHeader) (hs : List ProgramHeader) (ss : List SectionHeader) (ds : List DynamicEntry) (t : Tables) : Type 0 where
   pub headers : HasHeaders image e hs ss
   pub loadable_header : is_loadable_header e ≡ true
@@ -94,26 +94,26 @@ pub record HasImage (w : World) (image : List ℕ) (e : FileHeader) (hs : List P
   pub dynamic : HasDynamic image hs ds
   pub tables : HasTables image hs ds t
 
--- an image whose tables make known changes that share no address is loaded, with these changes
+-- an image whose tables make known changes that share no address can be loaded, and has these changes
 abbrev pub ImagesAreApplied : Type 0
 ImagesAreApplied = (w : World) (image : List ℕ) (e : FileHeader) (hs : List ProgramHeader) (ss : List SectionHeader) (ds : List DynamicEntry) (t : Tables) (g : ℕ → Patch) (f : Rela → Patch) → HasImage w image e hs ss ds t
     → HasMade w (loaded_memory (machine_of e) w.base image hs) t g f → AllPairs IsApart (runs_of_patches (patches_of t g f))
     → (m : Memory) × (load w image ≡ Ok m) × IsApplied w (loaded_memory (machine_of e) w.base image hs) t g f m
 
--- an image whose tables' entries store words is loaded with these
+-- an image whose tables' entries store words can be loaded, and holds these words
 abbrev pub ImagesAreFilled : Type 0
 ImagesAreFilled = (w : World) (image : List ℕ) (e : FileHeader) (hs : List ProgramHeader) (ss : List SectionHeader) (ds : List DynamicEntry) (t : Tables) (v : ℕ → ℕ) (u : Rela → ℕ) → HasImage w image e hs ss ds t
     → AreWords w (loaded_memory (machine_of e) w.base image hs) t v u
     → (m : Memory) × (load w image ≡ Ok m) × IsFilled w (loaded_memory (machine_of e) w.base image hs) t v u m
 
--- no section has entries but the one with this index, which has these, spelled in the image
+-- only the section with this index has entries; its bytes are these entries
 pub record HasSectionTable (image : List ℕ) (ss : List SectionHeader) (rs : List Rela) : Type 0 where
   pub index : ℕ
   pub each : (k : ℕ) (s : SectionHeader) → slice_get ss k ≡ Some s → has_entries s ≡ true → (k ≡ index) × HoldsEntries image s rs
   pub some : 0 < length rs → (s : SectionHeader) × (slice_get ss index ≡ Some s) × (has_entries s ≡ true)
 
--- the headers stand in the image, none is of a dynamic section, its segments can be loaded, and one section at most has
--- entries: those of the tables, in the order of work
+-- the image contains the headers; no dynamic section; its segments can be loaded; at most one section has entries, those of the
+-- tables, in the order in which they are applied
 pub record HasStaticImage (w : World) (image : List ℕ) (e : FileHeader) (hs : List ProgramHeader) (ss : List SectionHeader) (t : Tables) : Type 0 where
   pub headers : HasHeaders image e hs ss
   pub loadable_header : is_loadable_header e ≡ true
@@ -123,7 +123,7 @@ pub record HasStaticImage (w : World) (image : List ℕ) (e : FileHeader) (hs : 
   pub entries : HasSectionTable image ss (t.entries ++ t.jumps)
   pub sections : 0 < length (t.entries ++ t.jumps) → 0 < e.section_offset
 
--- such an image whose entries store words is loaded with these
+-- such an image whose entries store words can be loaded, and holds these words
 abbrev pub StaticImagesAreFilled : Type 0
 StaticImagesAreFilled = (w : World) (image : List ℕ) (e : FileHeader) (hs : List ProgramHeader) (ss : List SectionHeader) (t : Tables) (v : ℕ → ℕ) (u : Rela → ℕ) → HasStaticImage w image e hs ss t
     → AreWords w (loaded_memory (machine_of e) w.base image hs) t v u

@@ -1,28 +1,28 @@
--- Where runs stand, in order of their addresses, so that the run of an address is found by halving.
---   place_of runs a     the place in the list of the first run that has an address
---   located n es        the start and the place of each extent that is not empty, the places from n on
---   IsIndexOf index es  starts and places in order, by which the extent of a number is found
+-- An index of runs by start address, so that the run of an address is found by binary search.
+--   place_of runs a     the index in the list of the first run that contains an address
+--   located n es        the start and the index of each extent that is not empty; indices count from n
+--   IsIndexOf index es  sorted starts and indices, through which the extent of a number is found
 use Rattle.std.specs.Prelude.{◌≡◌, ℕ, suc, ◌+◌, ◌-◌, ◌<◌, ◌≤◌, if◌then◌else◌, nat_lt, nat_le, true, false, List, [], ◌∷◌, length, Option, Some, None, option_map, slice_index_or, All}
 use Rattle.std.specs.List.Sorted.{IsNonDecreasingBy, IsPartitionPoint}
 use Rattle.wild_words.specs.declared.extents.Extent.{Extent}
 use Rattle.wild_loader.specs.declared.memory.Run.{Run}
 use Rattle.wild_loader.specs.Runs.{has_address}
 
--- the place in the list of the first run that has an address
+-- the index in the list of the first run that contains an address
 abbrev pub place_of : List Run → ℕ → Option ℕ
 place_of [] a = None
 place_of (r ∷ rs) a = if has_address r a then Some 0 else option_map (λ n. suc n) (place_of rs a)
 
--- the start and the place of each extent that is not empty, the places from n on
+-- the start and the index of each extent that is not empty; indices count from n
 unfoldable pub located : ℕ → List Extent → List (ℕ × ℕ)
 located n [] = []
 located n (e ∷ es) = if nat_lt e.start e.end then (e.start, n) ∷ located (n + 1) es else located (n + 1) es
 
--- the first k entries begin at a number or below, and the others behind it
+-- the first k entries start at or below a number, and the others above it
 abbrev pub IsPartedAt : List (ℕ × ℕ) → ℕ → ℕ → Type 0
 IsPartedAt index a k = IsPartitionPoint (λ s. nat_le s.0 a ≡ true) (λ s. nat_le s.0 a ≡ false) index k
 
--- starts and places in order: an extent that has a number is the one of the last entry that begins there or below
+-- sorted starts and indices: the extent that contains a number is that of the last entry that starts at or below it
 pub record IsIndexOf (index : List (ℕ × ℕ)) (es : List Extent) : Type 0 where
   pub sorted : IsNonDecreasingBy (λ (s : ℕ × ℕ). s.0) index
   pub sound : All (λ (s : ℕ × ℕ). s.1 < length es) index

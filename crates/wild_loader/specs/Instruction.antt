@@ -1,12 +1,12 @@
--- What code does, read off its bytes: instructions are templates, each a list of what its bytes may be.
---   Cell               what one byte may be
---   Operand            a number, or what stands in memory
+-- The meaning of code, from its bytes: each instruction is a template, a list of the values that its bytes may have.
+--   Cell               the values that one byte may have
+--   Operand            a number, or a value in memory
 --   Action             what is done with an operand
 --   Template           the bytes of an instruction, and what it does at an address with those bytes
---   Idle               what does nothing, and where it may stand
---   meaning ts a bs    what the code of those bytes does at an address
---   Reader             what operands read as
---   effect read act    the deed of an action, with what its operand reads as
+--   Idle               an instruction that does nothing, and where it is allowed
+--   meaning ts a bs    the action of these bytes of code at an address
+--   Reader             the value of each operand
+--   effect read act    the deed of an action, with the value of its operand
 use Rattle.std.specs.Prelude.{ℕ, zero, suc, ◌+◌, ◌-◌, ◌/◌, ◌%◌, ◌^◌, ◌==◌, Bool, true, false, ◌&&◌, nat_le, nat_lt, if◌then◌else◌, List, [], ◌∷◌, length, drop, Option, Some, None, option_map}
 use Rattle.std.specs.Int.RustNames.{bit_and}
 use Rattle.wild_words.specs.Words.{number_at}
@@ -18,8 +18,8 @@ use Rattle.wild_loader.specs.declared.instruction.Deed.{Deed}
 use Rattle.wild_loader.specs.declared.instruction.Deed.TheVariants.{Jump}
 use Rattle.wild_loader.specs.declared.instruction.Action.{Action}
 
--- one byte, one of a range, a ModRM byte of `[rip + displacement]` and any register, a ModRM byte of a register with that digit in
--- place of the other one, or any byte (Intel SDM, "ModR/M and SIB Bytes")
+-- one byte, one of a range, a ModRM byte of `[rip + displacement]` and any register, a ModRM byte of a register with that digit
+-- in place of the other register, or any byte (Intel SDM, "ModR/M and SIB Bytes")
 abbrev pub fits : Cell → ℕ → Bool
 fits (Is n) b = b == n
 fits (From low high) b = nat_le low b && nat_le b high
@@ -27,13 +27,13 @@ fits Slot b = bit_and b 0xc7 == 5
 fits (Digit d) b = b / 8 == 24 + d
 fits Any b = true
 
--- the bytes begin with what the cells say
+-- the bytes start with values that the cells allow
 abbrev pub stands : List Cell → List ℕ → Bool
 stands [] bs = true
 stands (c ∷ cs) [] = false
 stands (c ∷ cs) (b ∷ bs) = fits c b && stands cs bs
 
--- these bytes
+-- exactly these bytes
 abbrev pub exact : List ℕ → List Cell
 exact [] = []
 exact (b ∷ bs) = Is b ∷ exact bs
@@ -42,11 +42,11 @@ exact (b ∷ bs) = Is b ∷ exact bs
 abbrev pub field : List Cell
 field = Any ∷ Any ∷ Any ∷ Any ∷ []
 
--- the code whose address stands at an address is gone to
+-- execution continues at the address that is stored at an address
 abbrev pub jump_through : ℕ → Action
 jump_through a = record { deed = Jump; width = 64; operand = Word a }
 
--- the bytes of an instruction, or of a sequence of them, and what it does at an address with those bytes
+-- the bytes of an instruction, or of a sequence of instructions, and its action at an address, given those bytes
 pub record Template : Type 0 where
   pub cells : List Cell
   pub action : ℕ → List ℕ → Action
@@ -63,12 +63,12 @@ signed_at bs k = signed_32 (number_at bs k 4)
 abbrev pub sum_64 : ℕ → ℕ → ℕ
 sum_64 x y = (x + y) % 2 ^ 64
 
--- what a machine has for doing nothing: the bytes of that instruction, and how often it may stand in front of others
+-- a machine's instruction that does nothing: its bytes, and how often it may precede other code
 pub record Idle : Type 0 where
   pub nop : List ℕ
   pub in_front : ℕ
 
--- the bytes are that instruction again and again, after what is left of one that was begun
+-- the bytes repeat that instruction, after the remainder of one that was begun
 abbrev pub are_idle : (nop left : List ℕ) → List ℕ → Bool
 are_idle nop [] [] = true
 are_idle nop (n ∷ left) [] = false
@@ -76,11 +76,11 @@ are_idle nop (n ∷ left) (b ∷ bs) = b == n && are_idle nop left bs
 are_idle [] [] (b ∷ bs) = false
 are_idle (n ∷ rest) [] (b ∷ bs) = b == n && are_idle (n ∷ rest) rest bs
 
--- the template stands at the front, and behind it nothing but what does nothing
+-- the template matches the start of the bytes, and only instructions that do nothing follow it
 abbrev pub fills : List ℕ → Template → List ℕ → Bool
 fills nop t bs = nat_le (length t.cells) (length bs) && (stands t.cells bs && are_idle nop [] (drop (length t.cells) bs))
 
--- what the first template does that fills the bytes
+-- the action of the first template that matches all of the bytes in this way
 abbrev pub first_meaning : List ℕ → List Template → ℕ → List ℕ → Option Action
 first_meaning nop [] a bs = None
 first_meaning nop (t ∷ ts) a bs = if fills nop t bs then Some (t.action a bs) else first_meaning nop ts a bs
@@ -89,20 +89,20 @@ abbrev pub or_else : Option Action → Option Action → Option Action
 or_else None other = other
 or_else (Some act) other = Some act
 
--- the same behind up to so many that do nothing
+-- the same after up to n instructions that do nothing
 abbrev pub meaning_behind : ℕ → List ℕ → List Template → ℕ → List ℕ → Option Action
 meaning_behind zero nop ts a bs = first_meaning nop ts a bs
 meaning_behind (suc n) nop ts a bs = or_else (first_meaning nop ts a bs) (if stands (exact nop) bs then meaning_behind n nop ts (a + length nop) (drop (length nop) bs) else None)
 
--- what the code of those bytes does at an address
+-- the action of these bytes of code at an address
 abbrev pub meaning : Idle → List Template → ℕ → List ℕ → Option Action
 meaning idle ts a bs = meaning_behind idle.in_front idle.nop ts a bs
 
--- what operands read as
+-- the value of each operand
 abbrev pub Reader : Type 0
 Reader = Operand → Option ℕ
 
--- a deed, the number of bits that it works on, and what it works with
+-- a deed, the number of bits that it works on, and the value of its operand
 pub record Effect : Type 0 where
   pub deed : Deed
   pub width : ℕ
@@ -114,6 +114,6 @@ with_value act v = record { deed = act.deed; width = act.width; value = v % 2 ^ 
 abbrev pub effect : Reader → Action → Option Effect
 effect read act = option_map (with_value act) (read act.operand)
 
--- whatever it is, the operand reads as v
+-- every operand has the value v
 abbrev pub as_value : ℕ → Reader
 as_value v operand = Some v

@@ -1,8 +1,14 @@
--- The instructions of x86-64 that references belong to, and those that linkers write in their place.
+-- The x86-64 instructions that relocations refer to, and those that linkers write in their place.
+-- Instructions differ in length, so the templates are tried from the longest to the shortest.
+-- A `nop` may follow the template, because a linker fills up with it if the new instruction is shorter.
+-- A displacement is relative to the end of its instruction, which in a sequence is not the end of the template.
+-- A thread-local access is a sequence of up to 22 bytes and has one meaning as a whole.
+-- Read Intel SDM, volume 2, for the bytes, x86-64 psABI, "Linker Optimization", for the rewrites, and "ELF Handling For
+-- Thread-Local Storage" for the sequences.
 --   templates_x86_64      the templates, the longest first
---   meaning_x86_64 a bs   what the code of those bytes does at an address
---   effect_x86_64 ..      that, with what its operand reads as
---   demand_x86_64 v a bs  the effect where the operand reads as v
+--   meaning_x86_64 a bs   the action of these bytes of code at an address
+--   effect_x86_64 ..      that action, with the value of its operand
+--   demand_x86_64 v a bs  the effect if the operand has the value v
 use Rattle.std.specs.Prelude.{ℕ, ◌++◌, List, [], ◌∷◌, Option, option_and_then}
 use Rattle.wild_loader.specs.declared.instruction.Cell.{Cell}
 use Rattle.wild_loader.specs.declared.instruction.Operand.TheVariants.{Number, Word}
@@ -40,11 +46,11 @@ branches =
 abbrev pub does_nothing : List Cell → Template
 does_nothing cells = record { cells = cells; action = λ a bs. record { deed = Nothing; width = 64; operand = Number 0 } }
 
--- `call [rax]`, with a descriptor's address in rax ("ELF Handling For Thread-Local Storage", "TLS Descriptors")
+-- `call [rax]`, with the address of a descriptor in rax ("ELF Handling For Thread-Local Storage", "TLS Descriptors")
 abbrev pub descriptor_call : Template
 descriptor_call = record { cells = exact (0xff ∷ 0x10 ∷ []); action = λ a bs. record { deed = CallDescriptor 0; width = 64; operand = Number 0 } }
 
--- that, and what does nothing
+-- the descriptor call, and the instructions that do nothing
 abbrev pub short : List Template
 short =
     descriptor_call
@@ -56,18 +62,18 @@ short =
 abbrev pub templates_x86_64 : List Template
 templates_x86_64 = whole_sequences ++ (with_prefix rex2 ++ (with_prefix rex ++ (with_prefix bare ++ (branches ++ short))))
 
--- `nop` stands behind the instruction that is written in place of a longer one
+-- `nop` may follow an instruction that replaces a longer one
 abbrev pub idle_x86_64 : Idle
 idle_x86_64 = record { nop = nop_byte ∷ []; in_front = 0 }
 
--- what the code of those bytes does at an address
+-- the action of these bytes of code at an address
 unfoldable pub meaning_x86_64 : ℕ → List ℕ → Option Action
 meaning_x86_64 a bs = meaning idle_x86_64 templates_x86_64 a bs
 
--- that, with what its operand reads as
+-- that action, with the value of its operand
 abbrev pub effect_x86_64 : Reader → ℕ → List ℕ → Option Effect
 effect_x86_64 read a bs = option_and_then (effect read) (meaning_x86_64 a bs)
 
--- the effect where the operand reads as v
+-- the effect if the operand has the value v
 abbrev pub demand_x86_64 : ℕ → ℕ → List ℕ → Option Effect
 demand_x86_64 v a bs = effect_x86_64 (as_value v) a bs

@@ -2,7 +2,7 @@
 --   rela_patch w m r          the change of an entry with an addend
 --   place_patch w m place     the change at a place of the packed relative relocations
 --   patched m ps              memory with these changes
---   relocate w m t            memory with the changes of all entries, of which no two share a byte
+--   relocate w m t            memory with the changes of all entries; no two may share a byte
 use Rattle.std.specs.Prelude.{ℕ, ◌+◌, ◌%◌, ◌^◌, List, [], ◌∷◌, ◌++◌, map, Option, Some, None, Result, Ok}
 use Rattle.wild_records.specs.declared.relocations.Rela.{Rela}
 use Rattle.wild_loader.specs.declared.fault.LoadFault.{LoadFault}
@@ -26,20 +26,20 @@ loaded_at w address = (w.base + address) % 2 ^ 64
 unfoldable pub rela_patch : World → Memory → Rela → Result Patch LoadFault
 rela_patch w m r = known (kind_of m.machine r.number) (faults.UnknownDynamic r.number) >>= λ kind. change_of w kind r >>= λ c. patch_at m (loaded_at w r.offset) c
 
--- the change at a place of the packed relative relocations: the base is added to the word there
+-- the change at a place of the packed relative relocations: adds the base to the word there
 unfoldable pub place_patch : World → Memory → ℕ → Result Patch LoadFault
 place_patch w m place = patch_at m (loaded_at w place) (changes.Add w.base)
 
--- changes with those that each of a list makes, or the first fault; a change may be of any sort
+-- the changes, followed by one for each item of a list, or the first fault; changes may be of any type
 unfoldable pub add_all : {X P : Type 0} → (X → Result P LoadFault) → List X → List P → Result (List P) LoadFault
 add_all make [] changes = Ok changes
 add_all make (x ∷ xs) changes = make x >>= λ p. add_all make xs (changes ++ p ∷ [])
 
--- the changes with those of entries
+-- the changes, followed by those of entries
 abbrev pub add_relas : World → Memory → List Rela → List Patch → Result (List Patch) LoadFault
 add_relas w m rs patches = add_all (rela_patch w m) rs patches
 
--- the changes with those at places
+-- the changes, followed by those at places
 abbrev pub add_places : World → Memory → List ℕ → List Patch → Result (List Patch) LoadFault
 add_places w m xs patches = add_all (place_patch w m) xs patches
 
@@ -47,7 +47,7 @@ add_places w m xs patches = add_all (place_patch w m) xs patches
 abbrev pub runs_of_patches : List Patch → List Run
 runs_of_patches ps = map (λ p. p.run) ps
 
--- the changes, of which no two share a byte
+-- the changes, if no two of them share a byte; otherwise Overlap
 unfoldable pub apart : List Patch → Result (List Patch) LoadFault
 apart ps = unless_shared (least_shared (runs_of_patches ps)) >>= λ none. Ok ps
 
@@ -65,7 +65,7 @@ notes (p ∷ ps) = note p.run.start p.offset ++ notes ps
 abbrev pub patched : Memory → List Patch → Memory
 patched m ps = record { machine = m.machine; runs = overlaid (runs_of_patches ps) m.runs; descriptors = notes ps }
 
--- the changes with those that each of a list makes, of which no two share a byte
+-- the changes, followed by one for each item of a list; no two may share a byte
 abbrev pub add_apart : {X : Type 0} → (X → Result Patch LoadFault) → List X → List Patch → Result (List Patch) LoadFault
 add_apart make xs patches = add_all make xs patches >>= λ more. apart more
 

@@ -1,7 +1,7 @@
--- Templates as rows of data: which bytes an instruction has, and where they tell its register, width and operand.
+-- Templates as rows of data: the bytes of an instruction, and where they encode its register, width and operand.
 --   template_of row        the template of a row
---   register_of, width_of  by the prefix and the ModRM byte
---   operand_at             by a field
+--   register_of, width_of  from the prefix and the ModRM byte
+--   operand_at             from a field
 use Rattle.std.specs.Prelude.{ℕ, ◌+◌, ◌/◌, ◌%◌, List, length, take, slice_index}
 use Rattle.wild_loader.specs.declared.template.Prefix as declared-prefix
 use Rattle.wild_loader.specs.declared.template.Prefix.TheVariants as prefixes
@@ -35,13 +35,13 @@ high_reg_of p bs = (prefix_of p).high_reg bs
 abbrev pub high_rm_of : declared-prefix.Prefix → List ℕ → ℕ
 high_rm_of p bs = (prefix_of p).high_rm bs
 
--- the number of the register: ModRM stands behind the prefix and an opcode (Intel SDM, "ModR/M and SIB Bytes")
+-- the number of the register: ModRM follows the prefix and an opcode (Intel SDM, "ModR/M and SIB Bytes")
 abbrev pub register_of : Register → List ℕ → ℕ
 register_of Accumulator bs = 0
 register_of (Reg p) bs = slice_index bs (prefix_length p + 1) / 8 % 8 + high_reg_of p bs
 register_of (Rm p) bs = slice_index bs (prefix_length p + 1) % 8 + high_rm_of p bs
 
--- how many bits the instruction works on
+-- the number of bits that the instruction works on
 abbrev pub width_of : Register → List ℕ → ℕ
 width_of Accumulator bs = 64
 width_of (Reg p) bs = (prefix_of p).width bs
@@ -63,7 +63,7 @@ of_sort sorts.Address a = Number a
 of_sort sorts.Word a = Word a
 of_sort sorts.Pair a = Pair a
 
--- the operand of bytes at an address: a displacement counts from the byte `end`
+-- the operand of bytes at an address; a displacement is relative to the byte `end`
 abbrev pub operand_at : Place → ℕ → List ℕ → Operand
 operand_at (Relative sort field end) a bs = of_sort sort (sum_64 (a + end) (signed_at bs field))
 operand_at (Immediate field) a bs = Number (signed_at bs field)

@@ -1,9 +1,9 @@
--- Bytes that follow one another at addresses, and such bytes put over others.
---   shared r s          the least address that both have
---   least_shared runs   the least address that two of them have
---   unless_shared found nothing is shared; else the fault names the address
---   overlaid parts runs the parts put over the runs, one after another
---   read_bytes m a n    the n bytes from an address on, or the first address of them that is not loaded
+-- Consecutive bytes at addresses, and writing such bytes over others.
+--   shared r s          the lowest address that both contain
+--   least_shared runs   the lowest address that two of them contain
+--   unless_shared found nothing is shared; otherwise the fault has the address
+--   overlaid parts runs the parts written over the runs, in order
+--   read_bytes m a n    the n bytes from an address on, or the first of these addresses that is not loaded
 use Rattle.std.specs.Prelude.{ℕ, zero, suc, ◌+◌, ◌-◌, ◌%◌, ◌^◌, Bool, ◌&&◌, if◌then◌else◌, nat_lt, nat_le, List, [], ◌∷◌, length, map, Option, Some, None, Result, Ok, Err, slice_set}
 use Rattle.wild_words.specs.declared.extents.Extent.{Extent}
 use Rattle.wild_words.specs.Extents.{shared_extents, least_extent}
@@ -14,19 +14,19 @@ use Rattle.wild_loader.specs.declared.memory.Run.{Run}
 use Rattle.wild_loader.specs.Given.{◌>>=◌, known}
 use Rattle.wild_loader.specs.Memory.{byte_in}
 
--- where a run begins and ends
+-- the start and the end of a run
 abbrev pub extent_of : Run → Extent
 extent_of r = record { start = r.start; end = r.start + length r.bytes }
 
--- the least address that both runs have
+-- the lowest address that both runs contain
 abbrev pub shared : Run → Run → Option ℕ
 shared r s = shared_extents (extent_of r) (extent_of s)
 
--- the least address that two of the runs have
+-- the lowest address that two of the runs contain
 abbrev pub least_shared : List Run → Option ℕ
 least_shared runs = least_extent (map extent_of runs)
 
--- no address is shared; else there is an overlap
+-- no address is shared; otherwise the fault is Overlap
 abbrev pub unless_shared : Option ℕ → Result (Unit {0}) LoadFault
 unless_shared None = Ok tt
 unless_shared (Some a) = Err (faults.Overlap a)
@@ -39,22 +39,22 @@ has_address r a = nat_le r.start a && nat_lt (a - r.start) (length r.bytes)
 abbrev pub with_byte : ℕ → ℕ → Run → Run
 with_byte a b r = record { start = r.start; bytes = slice_set r.bytes (a - r.start) b }
 
--- a byte put at an address, in the first run that has one there
+-- a byte written at an address, in the first run that contains it
 unfoldable pub put_byte : ℕ → ℕ → List Run → List Run
 put_byte a b [] = []
 put_byte a b (r ∷ rs) = if has_address r a then with_byte a b r ∷ rs else r ∷ put_byte a b rs
 
--- bytes put from an address on
+-- bytes written from an address on
 unfoldable pub put_bytes : ℕ → List ℕ → List Run → List Run
 put_bytes a [] runs = runs
 put_bytes a (b ∷ bs) runs = put_bytes (a + 1) bs (put_byte a b runs)
 
--- the parts put over the runs, one after another
+-- the parts written over the runs, in order
 unfoldable pub overlaid : List Run → List Run → List Run
 overlaid [] runs = runs
 overlaid (p ∷ ps) runs = overlaid ps (put_bytes p.start p.bytes runs)
 
--- the n bytes from an address on, or the first address of them that is not loaded
+-- the n bytes from an address on, or the first of these addresses that is not loaded
 unfoldable pub read_bytes : Memory → ℕ → ℕ → Result (List ℕ) LoadFault
 read_bytes m a zero = Ok []
 read_bytes m a (suc n) = known (byte_in m a) (faults.Unloaded (a % 2 ^ 64)) >>= λ b. read_bytes m (a + 1) n >>= λ bs. Ok (b ∷ bs)

@@ -1,7 +1,7 @@
--- What the definitions of loaded segments come to.
+-- Statements about the definitions of loaded segments.
 --   IsApart p q                  the runs have no address in common
 --   IsLoaded m a n               memory has a byte at each of n addresses
---   HasHeaders image e hs ss     e, hs and ss are the headers that stand in the image
+--   HasHeaders image e hs ss     e, hs and ss are the headers in the image
 --   AreLoadable base image hs    the segments of these headers can be loaded at a base
 --   loaded_runs base image hs    the runs of these segments, in order
 --   loaded_memory machine ..     memory of these runs, before any entry changes it
@@ -28,13 +28,13 @@ use Rattle.wild_loader.specs.Memory.{memory_of, byte_in, Holds}
 use Rattle.wild_loader.specs.Runs.{shared, overlaid}
 use Rattle.wild_loader.specs.Segments.{runs_of}
 
--- ---- bytes put over memory
+-- ---- bytes written over memory
 
 -- the runs have no address in common
 abbrev pub IsApart : Run → Run → Type 0
 IsApart p q = shared p q ≡ None
 
--- runs that lie beside each other are apart
+-- of two consecutive ranges none contains an address of the other
 abbrev pub BesideIsApart : Type 0
 BesideIsApart = (p q : Run) → (p.start + length p.bytes ≤ q.start) ⊎ (q.start + length q.bytes ≤ p.start) → IsApart p q
 
@@ -46,15 +46,15 @@ IsLoaded m a n = (k : ℕ) → k < n → is_some (byte_in m (a + k)) ≡ true
 abbrev pub IsElsewhere : ℕ → Run → Type 0
 IsElsewhere a p = (a < p.start) ⊎ (p.start + length p.bytes ≤ a)
 
--- memory with parts put over it
+-- memory with parts written over it
 abbrev pub put_over : List Run → Memory → Memory
 put_over parts m = record m { runs = overlaid parts m.runs }
 
--- each of the parts put over memory is there, where no two share an address and all lie on loaded bytes
+-- each part written over memory is there, if no two share an address and all are on loaded bytes
 abbrev pub PartsAreHeld : Type 0
 PartsAreHeld = (m : Memory) (parts : List Run) (p : Run) → AllPairs IsApart parts → Contains parts p → IsLoaded m p.start (length p.bytes) → Holds (put_over parts m) p.start p.bytes
 
--- a byte that no part has is as before
+-- a byte outside every part is as before
 abbrev pub OthersAreKept : Type 0
 OthersAreKept = (m : Memory) (parts : List Run) (a : ℕ) → All (IsElsewhere a) parts → byte_in (put_over parts m) a ≡ byte_in m a
 
@@ -64,12 +64,11 @@ abbrev pub first_size : List SectionHeader → ℕ
 first_size [] = 0
 first_size (s ∷ ss) = s.size
 
--- how many section headers an image tells: e_shnum, or where that is 0 the size that section header 0 has (gABI,
--- "ELF Header")
+-- the number of section headers of an image: e_shnum or, if that is 0, the size of section header 0 (gABI, "ELF Header")
 abbrev pub told_sections : FileHeader → List SectionHeader → ℕ
 told_sections e ss = if e.section_count == shn_undef then first_size ss else e.section_count
 
--- the bytes of records
+-- the bytes of each record
 abbrev pub program_bytes : ProgramHeader → List ℕ
 program_bytes h = spell (program_header_fields h)
 
@@ -85,7 +84,7 @@ rela_bytes r = spell (rela_fields r)
 abbrev pub word_bytes : ℕ → List ℕ
 word_bytes x = word 8 x
 
--- the headers stand in the image where the file header says, each of their numbers in its field's range
+-- the headers are in the image at the offsets in the file header, and each number is in its field's range
 pub record HasHeaders (image : List ℕ) (e : FileHeader) (hs : List ProgramHeader) (ss : List SectionHeader) : Type 0 where
   pub fits : FileHeaderFits e
   pub file_header : Stands image 0 (spell (file_header_fields e))
@@ -99,17 +98,17 @@ pub record HasHeaders (image : List ℕ) (e : FileHeader) (hs : List ProgramHead
 
 -- ---- segments
 
--- a segment whose file bytes lie in an image of n bytes and have room in its memory, which does not wrap
+-- a segment whose file bytes are in an image of n bytes and fit in its memory size, and whose end does not wrap
 pub record IsLoadable (base n : ℕ) (h : ProgramHeader) : Type 0 where
   pub file : h.offset + h.file_size ≤ n
   pub sizes : h.file_size ≤ h.mem_size
   pub end : base + h.address + h.mem_size ≤ 2 ^ 64
 
--- a segment to load (PT_LOAD) ends where a later one begins, or before
+-- a segment to load (PT_LOAD) ends at or before the start of a later one
 abbrev pub Ascends : ProgramHeader → ProgramHeader → Type 0
 Ascends g h = g.kind ≡ pt_load → h.kind ≡ pt_load → g.address + g.mem_size ≤ h.address
 
--- the segments to load ascend, and can be loaded at the base
+-- the segments to load are in ascending order, and can be loaded at the base
 pub record AreLoadable (base : ℕ) (image : List ℕ) (hs : List ProgramHeader) : Type 0 where
   pub each : All (λ h. h.kind ≡ pt_load → IsLoadable base (length image) h) hs
   pub ascend : AllPairs Ascends hs
@@ -123,13 +122,13 @@ loaded_runs base image (h ∷ hs) = (if h.kind == pt_load then runs_of base imag
 abbrev pub loaded_memory : Machine → ℕ → List ℕ → List ProgramHeader → Memory
 loaded_memory machine base image hs = memory_of machine (loaded_runs base image hs)
 
--- what stands in the file bytes of a segment is in memory at the segment's distance
+-- the file bytes of a segment are in memory at the same distance from the segment's address
 abbrev pub BytesAreLoaded : Type 0
 BytesAreLoaded = (machine : Machine) (base : ℕ) (image : List ℕ) (hs : List ProgramHeader) (h : ProgramHeader) (part : List ℕ) (place a : ℕ) → AreLoadable base image hs → Contains hs h → h.kind ≡ pt_load
     → h.address ≤ a → a + length part ≤ h.address + h.file_size → place ≡ h.offset + (a - h.address) → Stands image place part
     → Holds (loaded_memory machine base image hs) (base + a) part
 
--- behind the file bytes of a segment are zeros
+-- the memory after the file bytes of a segment is zero
 abbrev pub ZerosAreLoaded : Type 0
 ZerosAreLoaded = (machine : Machine) (base : ℕ) (image : List ℕ) (hs : List ProgramHeader) (h : ProgramHeader) (a n : ℕ) → AreLoadable base image hs → Contains hs h → h.kind ≡ pt_load
     → h.address + h.file_size ≤ a → a + n ≤ h.address + h.mem_size

@@ -1,7 +1,7 @@
--- What the definition of steps comes to: the effects of known runs of words in memory of an AArch64 image.
---   StubsAreRead, MarkedStubsAreRead, ThunksAreRead   a stub is a jump to the address in its slot, a thunk one to its target
---   RunsAreMeant                                      whatever is known at an address is what its words mean
---   JumpsReach                                        code that jumps reaches where it goes on, on either machine
+-- Statements about the definition of steps: the effects of known runs of words in memory of an AArch64 image.
+--   StubsAreRead, MarkedStubsAreRead, ThunksAreRead   a stub is a jump to the address in its slot, a thunk a jump to its target
+--   RunsAreMeant                                      the effect at an address is the meaning of the words there
+--   JumpsReach                                        code that jumps reaches its target, on either machine
 use Rattle.std.specs.Prelude.{◌≡◌, ℕ, ◌+◌, ◌%◌, ◌^◌, ◌≤◌, List, length, Some}
 use Rattle.std.specs.List.{flat_map}
 use Rattle.wild_words.specs.Words.{word}
@@ -26,7 +26,7 @@ use Rattle.wild_loader.specs.StepLaws.{ReadsMemory, told}
 abbrev pub spelled : List ℕ → List ℕ
 spelled ws = flat_map (word 4) ws
 
--- code of so many bytes goes on at an address
+-- code of n bytes that jumps to an address
 abbrev pub jumps : ℕ → ℕ → Effect
 jumps size v = record { length = size; width = 64; deed = Jump; value = values.Number v }
 
@@ -35,31 +35,31 @@ abbrev pub StubsAreRead : Type 0
 StubsAreRead = (m : Memory) (base p g v : ℕ) → m.machine ≡ machines.AArch64 → HasSlot p g → StandsAt base p g → Holds m (base + p) (spelled (stub p g)) → number_in m (base + g) 8 ≡ Some v
     → step m (base + p) ≡ Some (jumps 16 v)
 
--- the same behind a landing pad
+-- the same after a landing pad
 abbrev pub MarkedStubsAreRead : Type 0
 MarkedStubsAreRead = (m : Memory) (base p g v : ℕ) → m.machine ≡ machines.AArch64 → HasSlot (p + 4) g → StandsAt base p g → Holds m (base + p) (spelled (marked_stub p g)) → number_in m (base + g) 8 ≡ Some v
     → step m (base + p) ≡ Some (jumps 16 v)
 
--- and a thunk is a jump to its target, which is counted modulo 2^64
+-- a thunk is a jump to its target, which is computed modulo 2^64
 abbrev pub ThunksAreRead : Type 0
 ThunksAreRead = (m : Memory) (base p t : ℕ) → m.machine ≡ machines.AArch64 → Within (2 ^ 32) (page p) (page t) → base % 4096 ≡ 0 → base + p + 12 ≤ 2 ^ 64 → Holds m (base + p) (spelled (thunk p t))
     → step m (base + p) ≡ Some (jumps 12 ((base + t) % 2 ^ 64))
 
--- a descriptor's offset is read as it was noted
+-- a descriptor reads as the offset that was noted for it
 abbrev pub ReadsDescriptors : Memory → Reader → Type 0
 ReadsDescriptors m read = (a : ℕ) → read (Offset a) ≡ first_value m.descriptors a
 
--- an effect at an address is what the bytes there mean, which are as many as it tells
+-- an effect at an address is the meaning of the bytes there, as many as its length says
 pub record IsRun (m : Memory) (a : ℕ) (e : Effect) : Type 0 where
   pub bytes : List ℕ
   pub held : Holds m a bytes
   pub long : length bytes ≡ e.length
   pub means : (read : Reader) → ReadsMemory m read → ReadsDescriptors m read → effect_aarch64 read a bytes ≡ told read e
 
--- whatever is known of the code at an address
+-- every effect at an address has this property
 abbrev pub RunsAreMeant : Type 0
 RunsAreMeant = (m : Memory) (a : ℕ) (e : Effect) → step_aarch64 m a ≡ Some e → IsRun m a e
 
--- code that goes on at an address comes to it
+-- code that jumps to an address reaches it
 abbrev pub JumpsReach : Type 0
 JumpsReach = (m : Memory) (a v : ℕ) (e : Effect) → step m a ≡ Some e → jumped e ≡ Some v → Reaches m a v

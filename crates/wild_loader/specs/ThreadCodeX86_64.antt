@@ -1,6 +1,6 @@
--- Code of x86-64 for addresses of thread-local data, which come to rax ("ELF Handling For Thread-Local Storage", "Thread-Local
--- Storage Access Models").
---   thread_address, of_pair ..   what comes there
+-- x86-64 code that computes addresses of thread-local data in rax ("ELF Handling For Thread-Local Storage", "Thread-Local Storage
+-- Access Models").
+--   thread_address, of_pair ..   the value in rax
 --   general_call, local_call ..  sequences that call `__tls_get_addr` with the address of a pair in rdi
 use Rattle.std.specs.Prelude.{ℕ, ◌+◌, ◌++◌, List, [], ◌∷◌, replicate}
 use Rattle.wild_loader.specs.declared.instruction.Cell.{Cell}
@@ -10,7 +10,7 @@ use Rattle.wild_loader.specs.declared.instruction.Operand.TheVariants.{Number, W
 use Rattle.wild_loader.specs.declared.instruction.Deed.TheVariants.{SetThreadAddress}
 use Rattle.wild_loader.specs.Instruction.{Template, exact, field, signed_at, sum_64}
 
--- the byte that does nothing by itself (Intel SDM, "NOP": 90)
+-- the one-byte instruction that does nothing (Intel SDM, "NOP": 90)
 abbrev pub nop_byte : ℕ
 nop_byte = 0x90
 
@@ -40,25 +40,25 @@ add_slot = exact (0x48 ∷ 0x03 ∷ 0x05 ∷ []) ++ field
 abbrev pub thread_address : List Cell → (ℕ → List ℕ → Operand) → Template
 thread_address cells operand = record { cells = cells; action = λ a bs. record { deed = SetThreadAddress 0; width = 64; operand = operand a bs } }
 
--- the pair at the address of the first instruction, whose displacement stands k bytes behind the start
+-- the pair at the address of the first instruction, whose displacement is k bytes after the start
 abbrev pub of_pair : ℕ → List Cell → Template
 of_pair k cells = thread_address cells (λ a bs. Pair (sum_64 (a + (k + 4)) (signed_at bs k)))
 
--- the pointer and the number, which stands 12 bytes behind the start
+-- the thread pointer and the number, which is 12 bytes after the start
 abbrev pub of_number : List Cell → Template
 of_number cells = thread_address cells (λ a bs. Number (signed_at bs 12))
 
--- the pointer and the word in the slot
+-- the thread pointer and the word in the slot
 abbrev pub of_slot : List Cell → Template
 of_slot cells = thread_address cells (λ a bs. Word (sum_64 (a + 16) (signed_at bs 12)))
 
--- the pointer alone
+-- only the thread pointer
 abbrev pub of_pointer : List Cell → Template
 of_pointer cells = thread_address cells (λ a bs. Number 0)
 
 -- ---- sequences that call `__tls_get_addr` with the address of a pair in rdi, and leave a thread address in rax
 
--- by a call, and by one through a slot, with prefixes that make both 16 bytes
+-- by a direct call, and by a call through a slot, with prefixes that make both 16 bytes
 abbrev pub general_call : Template
 general_call = of_pair 4 (Is 0x66 ∷ (lea_rdi ++ (exact (0x66 ∷ 0x66 ∷ 0x48 ∷ 0xe8 ∷ []) ++ field)))
 

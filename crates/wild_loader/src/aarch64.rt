@@ -1,4 +1,12 @@
-//! What AArch64 code in memory does.
+//! The effect of AArch64 code in memory.
+//!
+//! Every instruction is one word of 32 bits, so few of them hold a whole address. An address, a slot's content or a thread
+//! offset is formed by a run of two to four words.
+//! `wild_aarch64` knows these runs (Arm Architecture Reference Manual, C6.2). This file reads at most four words and translates
+//! the result to the terms of both machines.
+//! The longest run that matches is taken. A single `adrp` has a meaning of its own, that of `adrp` and `ldr` is another.
+//! `adrp` works with pages of 4096 bytes, so code has the same effect only at bases that are multiples of the page size.
+//! See aaelf64, "Relocation types", for which word has which field, and "Call and Jump relocations" for stubs and thunks.
 ghost use Rattle.std.specs.Prelude.{◌≡◌, ◌+◌, ◌^◌, ◌<◌, ◌≤◌, IfSome};
 ghost use Rattle.wild_aarch64.specs.Template as longest;
 ghost use Rattle.wild_loader.specs.Memory.{number_in};
@@ -20,7 +28,7 @@ fn full(deed: Deed, operand: Operand) -> Option<Action>
     })
 }
 
-/// What a run of words does with an operand, in the terms of both machines.
+/// The action of a run of words on an operand, in the terms of both machines.
 fn action(deed: Does, operand: Has) -> Option<Action>
     ensures { result ≡ action_with deed operand }
 {
@@ -39,7 +47,7 @@ fn action(deed: Does, operand: Has) -> Option<Action>
     }
 }
 
-/// The word of code at an address; none where it is not loaded.
+/// The word of code at an address; none if it is not loaded.
 #[tactic(auto, using(crate::proofs::TopLemmas::loaded_below))]
 fn word_at(memory: &Memory, address: u128) -> Option<u32>
     requires { address + 4 < 2 ^ 65 }
@@ -50,7 +58,7 @@ fn word_at(memory: &Memory, address: u128) -> Option<u32>
     Some(word as u32)
 }
 
-/// What the longest known run of words at an address does.
+/// The effect of the longest known run of words at an address.
 #[tactic(auto, unfolding(crate::specs::Effect::words_at))]
 fn run_at(memory: &Memory, address: u64) -> Option<Step>
     ensures is { result ≡ longest.step_of address (words_at memory.now address 4) }
@@ -70,8 +78,8 @@ fn run_at(memory: &Memory, address: u64) -> Option<Step>
     }
 }
 
-/// What the AArch64 code at an address does: the longest known run of words that stands there. None where none does, where it is not
-/// loaded, or where it takes a word that is not loaded.
+/// The effect of the AArch64 code at an address: that of the longest known run of words there.
+/// None if no known run is there, if the address is not loaded, or if the run reads a word that is not loaded.
 #[tactic(auto, unfolding(crate::specs::Effect::step_aarch64))]
 pub fn step_aarch64(memory: &Memory, address: u64) -> Option<Effect>
     ensures { result ≡ step_aarch64 memory.now address }

@@ -1,4 +1,4 @@
-//! What an entry changes in memory.
+//! The changes that a relocation entry makes in memory.
 ghost use Rattle.std.specs.Prelude.{◌≡◌, Ok, IfOk, length};
 ghost use Rattle.wild_words.specs.Words.{word, number};
 ghost use Rattle.wild_loader.specs.Given.{Gives};
@@ -16,27 +16,27 @@ use std::alloc::Global;
 use wild_records::Rela;
 use wild_words::{Bytes, read_u64};
 
-/// What an entry changes at its place.
+/// A change that an entry makes at its place.
 #[derive(Drop)]
 pub enum Change {
-    /// Eight bytes are this word.
+    /// Eight bytes are set to this word.
     Word(u64),
-    /// Four bytes are this number.
+    /// Four bytes are set to this number.
     Half(u32),
-    /// The bytes are these.
+    /// The bytes are set to these.
     Fill(Bytes),
-    /// This number is added to the word in eight bytes.
+    /// This number is added to the eight-byte word.
     Add(u64),
-    /// Sixteen bytes are a descriptor of this offset from the thread pointer, and stay as they are.
+    /// The sixteen bytes are a descriptor of this offset from the thread pointer; they keep their values.
     Descriptor(u64),
 }
 
 /// A change at its place in memory.
 #[derive(Drop)]
 pub struct Patch {
-    /// The bytes after it.
+    /// The bytes after the change.
     pub run: Run,
-    /// The thread offset that it notes.
+    /// The thread offset that the change notes.
     pub offset: Option<u64>,
 }
 
@@ -134,7 +134,7 @@ fn read_loaded(
     Ok(Bytes::from_vec(bytes))
 }
 
-/// How many bytes of memory a change takes.
+/// The number of bytes of memory that a change covers.
 fn size(change: &Change) -> usize
     ensures { result ≡ size_of change.now }
 {
@@ -156,7 +156,7 @@ fn word_of(bytes: &Bytes) -> u64
     read_u64(bytes.as_slice(), 0)
 }
 
-/// The bytes after a change of those before.
+/// The bytes after a change, given those before.
 fn changed_bytes(alloc: Global, change: Change, old: Bytes) -> Result<Bytes, LoadFault>
     requires { length old ≡ size_of change }
     ensures { Gives result (Ok (bytes_after change old)) }

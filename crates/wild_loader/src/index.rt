@@ -1,5 +1,5 @@
-//! Memory whose entries are not applied yet, with the places of its runs in order of their addresses: the run of an
-//! address is found by halving.
+//! Memory whose entries are not applied yet, with an index of its runs by start address: the run of an address is found by binary
+//! search.
 ghost use Rattle.std.specs.Prelude.{◌≡◌, map, None, Some, Ok, MatchResult};
 ghost use Rattle.wild_loader.specs.declared.fault.LoadFault.TheVariants.{OutOfMemory};
 ghost use Rattle.wild_loader.specs.Given.{Gives, GivesBy};
@@ -13,12 +13,12 @@ use std::alloc::Global;
 use std::marker::Model;
 use wild_words::Items;
 
-/// Memory whose entries are not applied yet; contracts see it as a memory.
+/// Memory whose entries are not applied yet; contracts treat it as a memory.
 #[derive(Drop)]
 pub(crate) struct IndexedMemory {
     machine: Machine,
     runs: Vec<Run>,
-    /// The start and the place of each run, in order of the starts.
+    /// The start and the list index of each run, sorted by start.
     index: Vec<(u64, usize)>,
 }
 
@@ -36,7 +36,7 @@ impl Model for IndexedMemory {
     ghost invariant = { λ m. IsIndexOf m.index.items (map extent_of m.runs.items) };
 }
 
-/// Whether a run has a byte at an address.
+/// Whether a run contains an address.
 fn has(run: &Run, address: u128) -> bool
     ensures { result ≡ has_address run.now address }
 {
@@ -44,7 +44,7 @@ fn has(run: &Run, address: u128) -> bool
     start <= address && address - start < run.bytes.len() as u128
 }
 
-/// The start and the place of each run that is not empty.
+/// The start and the list index of each run that is not empty.
 #[tactic(auto, unfolding(crate::specs::Index::located))]
 fn locate(alloc: Global, runs: &[Run]) -> Result<Vec<(u64, usize)>, LoadFault>
     ensures { GivesBy (λ v. v.items) result (Ok (located 0 (map extent_of runs.now))) }
@@ -59,7 +59,7 @@ fn locate(alloc: Global, runs: &[Run]) -> Result<Vec<(u64, usize)>, LoadFault>
     Ok(index)
 }
 
-/// The starts and the places of runs, in order of the starts.
+/// The starts and the list indices of runs, sorted by start.
 fn make_index(alloc: Global, runs: &[Run]) -> Result<Vec<(u64, usize)>, LoadFault>
     requires { least_shared runs.now ≡ None }
     ensures { MatchResult result (λ index. IsIndexOf index.items (map extent_of runs.now)) (λ e. e ≡ OutOfMemory) }
@@ -69,7 +69,7 @@ fn make_index(alloc: Global, runs: &[Run]) -> Result<Vec<(u64, usize)>, LoadFaul
     Ok(index)
 }
 
-/// The place of the run that has an address.
+/// The list index of the run that contains an address.
 fn find_place(index: &[(u64, usize)], runs: &[Run], address: u128) -> Option<usize>
     requires { IsIndexOf index.now (map extent_of runs.now) }
     ensures { result ≡ place_of runs.now address }
@@ -86,7 +86,7 @@ fn find_place(index: &[(u64, usize)], runs: &[Run], address: u128) -> Option<usi
     }
 }
 
-/// The byte at an address of the run that has it.
+/// The byte at an address of the run that contains it.
 fn byte_at(runs: &[Run], place: usize, address: u128) -> u8
     requires { place_of runs.now address ≡ Some place }
     ensures { byte_of runs.now address ≡ Some result }
@@ -95,7 +95,7 @@ fn byte_at(runs: &[Run], place: usize, address: u128) -> u8
     run.bytes.as_slice()[(address - run.start as u128) as usize]
 }
 
-/// Puts a byte at an address of the run that has it.
+/// Writes a byte at an address of the run that contains it.
 fn put_at(runs: &mut Vec<Run>, place: usize, address: u128, byte: u8)
     requires { place_of runs.old.items address ≡ Some place }
     ensures { runs.new.items ≡ put_byte address byte runs.old.items }
@@ -125,14 +125,14 @@ impl IndexedMemory {
         })
     }
 
-    /// The machine that it is for.
+    /// The machine of the image.
     pub(crate) fn machine(&self) -> Machine
         ensures { result ≡ self.now.machine }
     {
         self.machine
     }
 
-    /// The byte at an address; none where it is not loaded.
+    /// The byte at an address; none if it is not loaded.
     pub(crate) fn byte(&self, address: u128) -> Option<u8>
         ensures { result ≡ byte_in self.now address }
     {
@@ -146,7 +146,7 @@ impl IndexedMemory {
         Some(byte_at(runs, place, address))
     }
 
-    /// Puts a byte at an address, where one is loaded.
+    /// Writes a byte at an address, if one is loaded there.
     pub(crate) fn put(&mut self, address: u128, byte: u8)
         ensures machine { self.new.machine ≡ self.old.machine }
         ensures runs { self.new.runs ≡ put_byte address byte self.old.runs }

@@ -1,71 +1,71 @@
-//! Instructions: what their bytes may be, and what they do.
+//! Instructions: the values that their bytes may have, and their effects.
 
-/// What one byte of an instruction may be.
+/// The values that one byte of an instruction may have.
 #[derive(Clone, Copy)]
 pub enum Cell {
-    /// That byte.
+    /// This byte.
     Is(u8),
-    /// One from the first to the second.
+    /// A byte from the first to the second, both included.
     From(u8, u8),
     /// A ModRM byte of `[rip + displacement]` and any register (Intel SDM, "ModR/M and SIB Bytes").
     Slot,
-    /// A ModRM byte of a register, with that digit in place of the other one.
+    /// A ModRM byte of a register, with that digit in place of the other register.
     Digit(u8),
     /// Any byte.
     Any,
 }
 
-/// What an action works with.
+/// The operand of an action.
 #[derive(Clone, Copy, PartialEq, Eq)]
 #[non_exhaustive]
 pub enum Operand {
-    /// That number.
+    /// A number.
     Number(u64),
     /// The word at that address.
     Word(u64),
-    /// The offset from the thread pointer that the pair of a module and an offset at that address stands for.
+    /// The thread-pointer offset denoted by the pair of a module and an offset at that address.
     Pair(u64),
     /// The offset from the thread pointer that the descriptor at that address gives.
     Offset(u64),
 }
 
-/// What is done with an operand.
+/// What is done with an operand `x`. Registers are given by their numbers.
 #[derive(Clone, Copy, PartialEq, Eq)]
 #[non_exhaustive]
 pub enum Deed {
-    /// That register is set to it.
+    /// Sets the register to `x`.
     Set(u32),
-    /// The first register is set to the second one and it.
+    /// Sets the first register to the sum of the second and `x`.
     SetSum(u32, u32),
-    /// The first register is set to the word that stands so far behind the second one's address.
+    /// Sets the first register to the word at the second register's address plus `x`.
     Load(u32, u32),
-    /// It is added to that register.
+    /// Adds `x` to the register.
     Add(u32),
-    /// It is taken from that register.
+    /// Subtracts `x` from the register.
     Subtract(u32),
-    /// That register is compared with it.
+    /// Compares the register with `x`.
     Compare(u32),
-    /// The code at its address is called.
+    /// Calls the code at address `x`.
     Call,
-    /// The code at its address goes on.
+    /// Jumps to address `x`.
     Jump,
-    /// The code at its address goes on, on a condition that the number tells: the other bits of the branch.
+    /// Jumps to address `x` on a condition; the number holds the other bits of the branch.
     MayJump(u32),
-    /// That register is set to the thread pointer and it.
+    /// Sets the register to the thread pointer plus `x`.
     SetThreadAddress(u32),
-    /// The function of the descriptor that the register points to is called, and leaves the offset there in the register.
+    /// Calls the function of the descriptor that the register points to; the offset is returned in the register.
     CallDescriptor(u32),
-    /// Nothing.
+    /// Does nothing.
     Nothing,
 }
 
-/// What an instruction, or a sequence of them, does.
+/// The action of an instruction, or of a sequence of instructions.
 #[derive(Clone, Copy, PartialEq, Eq)]
 pub struct Action {
     /// What is done.
     pub deed: Deed,
-    /// How many bits it works on.
+    /// The number of bits that it works on.
     pub width: u64,
-    /// What it works with.
+    /// Its operand.
     pub operand: Operand,
 }

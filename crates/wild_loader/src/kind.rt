@@ -1,4 +1,4 @@
-//! What the entries of a number do.
+//! The meaning of each dynamic relocation type.
 ghost use Rattle.std.specs.Prelude.{◌≡◌};
 ghost use Rattle.wild_loader.specs.Changes.{kind_of, kind_x86_64, kind_aarch64};
 
@@ -11,8 +11,7 @@ use wild_records::abi::relocation::{
     R_X86_64_SIZE64, R_X86_64_TLSDESC, R_X86_64_TPOFF64,
 };
 
-/// What an entry of a relocation table sets, with B the base, S the address that its symbol's answer has, and A its
-/// addend.
+/// The value that an entry of a relocation table sets. B is the base, S the address in its symbol's answer, A the addend.
 #[derive(Clone, Copy)]
 pub enum DynamicKind {
     /// B + A.
@@ -21,7 +20,7 @@ pub enum DynamicKind {
     Symbol,
     /// S + A.
     SymbolPlus,
-    /// What the resolver at B + A answers.
+    /// The answer of the resolver at B + A.
     Resolved,
     /// The symbol's module.
     Module,
@@ -39,7 +38,7 @@ pub enum DynamicKind {
     Size64,
 }
 
-/// What the x86-64 entries of a number do.
+/// The kind of an x86-64 relocation type.
 fn kind_of_x86_64(number: u32) -> Option<DynamicKind>
     ensures { result ≡ kind_x86_64 number }
 {
@@ -60,7 +59,7 @@ fn kind_of_x86_64(number: u32) -> Option<DynamicKind>
     }
 }
 
-/// What the AArch64 entries of a number do.
+/// The kind of an AArch64 relocation type.
 fn kind_of_aarch64(number: u32) -> Option<DynamicKind>
     ensures { result ≡ kind_aarch64 number }
 {
@@ -79,7 +78,7 @@ fn kind_of_aarch64(number: u32) -> Option<DynamicKind>
     }
 }
 
-/// What the entries of a number do; none where the machine has no such dynamic entry.
+/// The kind of a relocation type; none if the machine has no such dynamic entry.
 #[tactic(auto, unfolding(crate::specs::Changes::kind_of))]
 pub(crate) fn dynamic_kind(machine: Machine, number: u32) -> Option<DynamicKind>
     ensures { result ≡ kind_of machine number }

@@ -1,4 +1,4 @@
-//! A model of the loader and of the processor: what an image is in memory, and what its code does.
+//! A model of the loader and of the processor: the memory of a loaded image, and the effect of its code.
 #![tactic(auto)]
 
 mod aarch64;

@@ -1,4 +1,4 @@
-//! Where code goes on.
+//! Where execution continues.
 ghost use Rattle.std.specs.Prelude.{◌≡◌, ◌↔◌, option_and_then, IsTrue};
 ghost use Rattle.wild_loader.specs.Effect.{step};
 ghost use Rattle.wild_loader.specs.Reach.{jumped, Reaches};
@@ -7,7 +7,7 @@ use crate::effect::{Value, step};
 use crate::instruction::Deed;
 use crate::memory::Memory;
 
-/// Where the code at an address goes on by a jump.
+/// Where execution continues after a jump at an address.
 fn next(memory: &Memory, address: u64) -> Option<u64>
     ensures { result ≡ option_and_then jumped (step memory.now address) }
 {
@@ -18,7 +18,7 @@ fn next(memory: &Memory, address: u64) -> Option<u64>
     }
 }
 
-/// Whether code that goes to one address comes to another: by no jump, by that of a stub, or by those of a thunk and a stub.
+/// Whether execution that starts at one address reaches another: with no jump, through a stub, or through a thunk and a stub.
 pub fn reaches(memory: &Memory, from: u64, to: u64) -> bool
     ensures { IsTrue result ↔ Reaches memory.now from to }
 {

@@ -15,7 +15,7 @@ use std::alloc::Global;
 use wild_records::Rela;
 use wild_words::Items;
 
-/// The changes with those of entries.
+/// The changes, followed by those of entries.
 #[tactic(auto, unfolding(crate::specs::Relocate::add_all))]
 fn add_entries(
     alloc: Global,
@@ -49,7 +49,7 @@ fn add_packed(
     Ok(patches)
 }
 
-/// The changes, where no two of them share an address.
+/// The changes, if no two of them share an address.
 #[tactic(auto, unfolding(crate::specs::Relocate::apart))]
 fn checked(alloc: Global, patches: Items<Patch>) -> Result<Items<Patch>, LoadFault>
     ensures { Gives result (apart patches) }
@@ -85,7 +85,7 @@ fn changed(alloc: Global, mut before: IndexedMemory, patches: &[Patch]) -> Resul
     })
 }
 
-/// Memory with the changes of all entries, of which no two share an address.
+/// Memory with the changes of all entries; no two may share an address.
 #[tactic(auto, unfolding(crate::specs::Relocate::relocate))]
 pub(crate) fn apply_tables(
     alloc: Global,

@@ -1,4 +1,4 @@
-//! Bytes at addresses: whether two parts share one, and parts put over others.
+//! Bytes at addresses: whether two parts share one, and writing parts over others.
 ghost use Rattle.std.specs.Prelude.{◌≡◌, map, None, IfOk, Ok};
 ghost use Rattle.wild_loader.specs.Given.{Gives, GivesBy};
 ghost use Rattle.wild_loader.specs.Relocate.{runs_of_patches};
@@ -11,7 +11,7 @@ use crate::memory::Run;
 use std::alloc::Global;
 use wild_words::{Extent, least_shared};
 
-/// Where a run begins and ends.
+/// The start and the end of a run.
 fn extent_of_run(run: &Run) -> Extent
     ensures { result ≡ extent_of run.now }
 {
@@ -21,7 +21,7 @@ fn extent_of_run(run: &Run) -> Extent
     }
 }
 
-/// Where runs begin and end.
+/// The starts and ends of runs.
 fn extents_of_runs(alloc: Global, runs: &[Run]) -> Result<Vec<Extent>, LoadFault>
     ensures { GivesBy (λ v. v.items) result (Ok (map extent_of runs.now)) }
 {
@@ -32,7 +32,7 @@ fn extents_of_runs(alloc: Global, runs: &[Run]) -> Result<Vec<Extent>, LoadFault
     Ok(extents)
 }
 
-/// Where the bytes of changes begin and end.
+/// The starts and ends of the bytes of changes.
 fn extents_of_patches(alloc: Global, patches: &[Patch]) -> Result<Vec<Extent>, LoadFault>
     ensures { GivesBy (λ v. v.items) result (Ok (map extent_of (runs_of_patches patches.now))) }
 {
@@ -66,7 +66,7 @@ pub(crate) fn check_patches(alloc: Global, patches: &[Patch]) -> Result<(), Load
     Ok(())
 }
 
-/// Puts bytes from an address on.
+/// Writes bytes from an address on.
 #[tactic(auto, unfolding(crate::specs::Runs::put_bytes))]
 fn put_all(memory: &mut IndexedMemory, start: u64, bytes: &[u8])
     ensures machine { memory.new.machine ≡ memory.old.machine }
@@ -77,7 +77,7 @@ fn put_all(memory: &mut IndexedMemory, start: u64, bytes: &[u8])
     }
 }
 
-/// Puts the bytes of changes over memory.
+/// Writes the bytes of changes over memory.
 #[tactic(auto, unfolding(crate::specs::Runs::overlaid))]
 pub(crate) fn put_patches(memory: &mut IndexedMemory, patches: &[Patch])
     ensures machine { memory.new.machine ≡ memory.old.machine }

@@ -1,5 +1,12 @@
-//! The instructions of x86-64 that references belong to, and those that linkers write in their place (Intel SDM; x86-64 psABI,
-//! "Procedure Linkage Table"; "ELF Handling For Thread-Local Storage", "Thread-Local Storage Access Models").
+//! The x86-64 instructions that relocations refer to, and those that linkers write in their place, as data.
+//!
+//! Instructions differ in length and have prefixes, so templates are tried from the longest to the shortest.
+//! A displacement is relative to the end of its instruction, which in a sequence is not the end of the template.
+//! A `call` may have a prefix 67, which makes it as long as the `call` through a slot that it replaces.
+//! Each sequence that calls `__tls_get_addr` is one template, because its parts have no meaning without each other.
+//! REX2 (Intel APX) has a form for each instruction that REX has.
+//! Read Intel SDM, volume 2; x86-64 psABI, "Procedure Linkage Table" and "Linker Optimization"; "ELF Handling For Thread-Local
+//! Storage", "Thread-Local Storage Access Models".
 ghost use Rattle.std.specs.Prelude.{◌≡◌, ◌++◌, map, option_map};
 ghost use Rattle.wild_loader.specs.CodeX86_64.{bare, rex, rex2, with_prefix};
 ghost use Rattle.wild_loader.specs.InstructionX86_64.{whole_sequences, branches, short, templates_x86_64};
@@ -15,7 +22,7 @@ use crate::template::Prefix::{Bare, Rex, Rex2};
 use crate::template::Register::{Accumulator, Reg, Rm};
 use crate::template::{Sort, Template};
 
-/// Cells, one for each byte, and four for a field; behind them cells up to the longest template.
+/// Cells, one for each byte and four for a field; padded with cells up to the length of the longest template.
 macro_rules! cells {
     (@ [$($done:expr,)*] [$($hole:tt)*]) => { [$($done,)* $(cells!(# $hole)),*] };
     (@ [$($done:expr,)*] [_ _ _ _ $($hole:tt)*] field $($more:tt)*) => {
@@ -46,7 +53,7 @@ macro_rules! row {
     };
 }
 
-/// A prefix, an opcode, and either a register with `[rip + displacement]`, or one in place of a digit with a number.
+/// A prefix, an opcode, and a register with either `[rip + displacement]` or, with a digit, an immediate.
 macro_rules! one_register {
     (Bare $($form:tt)*) => { one_register!(@ 6 [] 2 Bare $($form)*) };
     (Rex $($form:tt)*) => { one_register!(@ 7 [(Cell::From(0x48, 0x4f))] 3 Rex $($form)*) };
@@ -59,22 +66,21 @@ macro_rules! one_register {
     };
 }
 
-/// `mov rax, fs:0`, and what stands behind it: rax gets a thread address.
+/// `mov rax, fs:0` and the code after it: rax gets a thread address.
 macro_rules! thread_address {
     ($length:literal [$($cell:tt)*] $operand:expr) => {
         row!($length [0x64 0x48 0x8b 0x04 0x25 0 0 0 0 $($cell)*] SetThreadAddress, Accumulator, $operand)
     };
 }
 
-/// Cells in front, `lea rdi, [rip + displacement]` with its field at an offset, and a call behind it: rax gets the address of a pair's
-/// data.
+/// Cells, `lea rdi, [rip + displacement]` with its field at an offset, and a call: rax gets the address of a pair's data.
 macro_rules! pair_address {
     ($length:literal [$($front:tt)*] $field:literal [$($cell:tt)*]) => {
         row!($length [$($front)* 0x48 0x8d 0x3d field $($cell)*] SetThreadAddress, Accumulator, Relative { sort: Sort::Pair, field: $field, end: $field + 4 })
     };
 }
 
-/// An opcode and a displacement behind it.
+/// An opcode followed by a displacement.
 macro_rules! branch {
     ($length:literal [$($opcode:literal)*] $field:literal $sort:ident $operation:ident) => {
         row!($length [$($opcode)* field] $operation, Accumulator, Relative { sort: Sort::$sort, field: $field, end: $field + 4 })
@@ -145,7 +151,7 @@ const OTHERS: [Template; 8] = [
     row!(1 [0x90] Nothing, Accumulator, Absent),
 ];
 
-/// The first of templates that stands at the front of bytes.
+/// The first template that matches the start of the bytes.
 #[tactic(auto, unfolding(crate::specs::Effect::first_standing))]
 fn first_of(templates: &[Template], bytes: &[u8]) -> Option<Template>
     ensures { option_map template_of result ≡ first_standing (map template_of templates.now) bytes.now }
@@ -188,7 +194,7 @@ fn other(bytes: &[u8]) -> Option<Template>
     first_of(&OTHERS, bytes)
 }
 
-/// The longest template of x86-64 that stands at the front of bytes.
+/// The longest x86-64 template that matches the start of the bytes.
 pub fn template_x86_64(bytes: &[u8]) -> Option<Template>
     ensures { option_map template_of result ≡ first_standing templates_x86_64 bytes.now }
 {

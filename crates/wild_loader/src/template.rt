@@ -1,4 +1,4 @@
-//! Templates as data: which bytes an instruction has, and where they say what it works with.
+//! Templates as data: the bytes of an instruction, and where they encode its operand.
 ghost use Rattle.std.specs.Prelude.{◌≡◌, ◌^◌, ◌<◌, slice_index, take};
 ghost use Rattle.wild_words.specs.Words.{number_at};
 ghost use Rattle.wild_loader.specs.Instruction.{fits, stands, signed_at};
@@ -6,13 +6,13 @@ ghost use Rattle.wild_loader.specs.Rows.{template_of, deed_of, register_of, widt
 
 use crate::instruction::{Action, Cell, Deed, Operand};
 
-/// The most bytes that a template has.
+/// The length of the longest template in bytes.
 pub const LONGEST: usize = 22;
 
-/// What stands in front of an opcode, and says how many bits the instruction works on.
+/// The prefix of an opcode, which gives the number of bits that the instruction works on.
 #[derive(Clone, Copy)]
 pub enum Prefix {
-    /// Nothing: 32 bits.
+    /// No prefix: 32 bits.
     Bare,
     /// One byte, for 16 registers (Intel SDM, "REX Prefixes").
     Rex,
@@ -23,7 +23,7 @@ pub enum Prefix {
 /// Where an instruction names its register.
 #[derive(Clone, Copy)]
 pub enum Register {
-    /// Nowhere: it is `rax`, and all of it, where there is one.
+    /// Nowhere: it is `rax`, all 64 bits, if the instruction has a register.
     Accumulator,
     /// In ModRM.reg, with bits of the prefix.
     Reg(Prefix),
@@ -31,7 +31,7 @@ pub enum Register {
     Rm(Prefix),
 }
 
-/// What is done with a register and an operand.
+/// The operation on a register and an operand.
 #[derive(Clone, Copy)]
 pub enum Operation {
     Set,
@@ -45,10 +45,10 @@ pub enum Operation {
     Nothing,
 }
 
-/// What an operand is of the address that a displacement names.
+/// How the operand follows from the address that a displacement names.
 #[derive(Clone, Copy)]
 pub enum Sort {
-    /// The address.
+    /// The address itself.
     Address,
     /// The word there.
     Word,
@@ -56,11 +56,11 @@ pub enum Sort {
     Pair,
 }
 
-/// Where the bytes of an instruction tell its operand, in signed fields of 32 bits.
+/// Where the bytes of an instruction encode its operand, in signed fields of 32 bits.
 #[derive(Clone, Copy)]
 #[non_exhaustive]
 pub enum Place {
-    /// The displacement in the bytes from `field` on counts from the byte `end` to the operand's address.
+    /// The displacement in the bytes from `field` on is relative to the byte `end`; it leads to the operand's address.
     Relative { sort: Sort, field: u8, end: u8 },
     /// The number in the bytes from `field` on.
     Immediate { field: u8 },
@@ -68,22 +68,22 @@ pub enum Place {
     Absent,
 }
 
-/// The bytes of an instruction, or of a sequence of them, and what it does.
+/// The bytes of an instruction, or of a sequence of instructions, and its action.
 #[derive(Clone, Copy)]
 pub struct Template {
-    /// How many bytes it has.
+    /// The number of bytes.
     pub length: u8,
-    /// What each of them may be.
+    /// The values that each byte may have.
     pub cells: [Cell; 22],
-    /// What is done.
+    /// The operation.
     pub operation: Operation,
-    /// With which register.
+    /// Its register.
     pub register: Register,
-    /// With what.
+    /// Its operand.
     pub operand: Place,
 }
 
-/// The items in front, at most so many.
+/// The first items, at most `count`.
 pub(crate) fn front<T>(items: &[T], count: usize) -> &[T]
     ensures { result.now ≡ take count items.now }
 {
@@ -106,7 +106,7 @@ fn is_fit(cell: Cell, byte: u8) -> bool
     }
 }
 
-/// Whether the bytes begin with what the cells say.
+/// Whether the bytes start with values that the cells allow.
 fn is_standing(cells: &[Cell], bytes: &[u8]) -> bool
     ensures { result ≡ stands cells.now bytes.now }
 {
@@ -119,7 +119,7 @@ fn is_standing(cells: &[Cell], bytes: &[u8]) -> bool
     }
 }
 
-/// The byte at an offset; 0 behind the end.
+/// The byte at an offset; 0 past the end.
 fn byte_at(bytes: &[u8], offset: usize) -> u8
     ensures { result ≡ slice_index bytes.now offset }
 {
@@ -129,7 +129,7 @@ fn byte_at(bytes: &[u8], offset: usize) -> u8
     }
 }
 
-/// The number in four bytes, those behind the end being 0.
+/// The number in four bytes; bytes past the end count as 0.
 fn number(bytes: &[u8], offset: u8) -> u64
     ensures number { result ≡ number_at bytes.now offset 4 }
     ensures short { result < 2 ^ 32 }
@@ -163,7 +163,7 @@ impl Prefix {
         }
     }
 
-    /// What it adds to the register's number in ModRM.reg.
+    /// The value that it adds to the register number in ModRM.reg.
     fn high_reg(self, bytes: &[u8]) -> u8
         ensures value { result ≡ high_reg_of self bytes.now }
         ensures low { result < 32 }
@@ -175,7 +175,7 @@ impl Prefix {
         }
     }
 
-    /// What it adds to the register's number in ModRM.rm.
+    /// The value that it adds to the register number in ModRM.rm.
     fn high_rm(self, bytes: &[u8]) -> u8
         ensures value { result ≡ high_rm_of self bytes.now }
         ensures low { result < 32 }
@@ -202,7 +202,7 @@ impl Register {
         }
     }
 
-    /// How many bits the instruction works on.
+    /// The number of bits that the instruction works on.
     fn width(self, bytes: &[u8]) -> u64
         ensures { result ≡ width_of self bytes.now }
     {
@@ -216,7 +216,7 @@ impl Register {
     }
 }
 
-/// That done with a register.
+/// The deed of an operation on a register.
 fn deed(operation: Operation, register: u8) -> Deed
     ensures { result ≡ deed_of operation register }
 {
@@ -234,7 +234,7 @@ fn deed(operation: Operation, register: u8) -> Deed
     }
 }
 
-/// The operand that the bytes tell, at an address.
+/// The operand that the bytes encode, at an address.
 fn operand(place: Place, address: u64, bytes: &[u8]) -> Operand
     ensures { result ≡ operand_at place address bytes.now }
 {
@@ -255,21 +255,21 @@ fn operand(place: Place, address: u64, bytes: &[u8]) -> Operand
 }
 
 impl Template {
-    /// What each byte may be.
+    /// The values that each byte may have.
     pub fn cells(&self) -> &[Cell]
         ensures { result.now ≡ (template_of self.now).cells }
     {
         front(&self.cells, self.length as usize)
     }
 
-    /// Whether it stands at the front of bytes.
+    /// Whether it matches the start of the bytes.
     pub fn is_standing(&self, bytes: &[u8]) -> bool
         ensures { result ≡ stands (template_of self.now).cells bytes.now }
     {
         is_standing(self.cells(), bytes)
     }
 
-    /// What its bytes do at an address.
+    /// The action of its bytes at an address.
     pub fn action(&self, address: u64, bytes: &[u8]) -> Action
         ensures { result ≡ (template_of self.now).action address bytes.now }
     {

@@ -1,6 +1,6 @@
--- What stands for a symbol in memory: its value, or a stub that comes to it.
+-- Addresses that represent a symbol in memory: its value, or a stub that leads to it.
 --   HasStub l i p         the layout has a stub for symbol i at p
---   Denotes l w m i a     a stands for symbol i
+--   Denotes l w m i a     a represents symbol i
 use Rattle.std.specs.Prelude.{◌≡◌, ℕ, ◌+◌, ◌%◌, ◌^◌, ◌⊎◌, Some}
 use Rattle.wild_types.specs.declared.symbol.Resolution.{Resolution}
 use Rattle.wild_types.specs.declared.symbol.Symbol.{Symbol}
@@ -10,7 +10,7 @@ use Rattle.wild_loader.specs.declared.world.World.{World}
 use Rattle.wild_loader.specs.Reach.{Reaches}
 use Rattle.wild_meaning.specs.Value.{IsSymbol, IsDefinedBy, HasValue}
 
--- p is the address that the layout has for the stub of symbol i's definition
+-- p is the address in the layout of the stub of symbol i's definition
 pub record HasStub (l : Layout) (i p : ℕ) : Type 0 where
   pub definition : ℕ
   pub defined : IsDefinedBy l i definition
@@ -20,7 +20,7 @@ pub record HasStub (l : Layout) (i p : ℕ) : Type 0 where
   pub decided : symbol.resolution ≡ Some resolution
   pub stub : resolution.plt_address ≡ Some p
 
--- a is the loaded address of symbol i's stub, from which code comes to the symbol's value
+-- a is the loaded address of symbol i's stub, from which execution reaches the symbol's value
 pub record IsStub (l : Layout) (w : World) (m : Memory) (i a : ℕ) : Type 0 where
   pub stub : ℕ
   pub given : HasStub l i stub
@@ -29,6 +29,6 @@ pub record IsStub (l : Layout) (w : World) (m : Memory) (i a : ℕ) : Type 0 whe
   pub is : HasValue l w i value
   pub reaches : Reaches m a value
 
--- a stands for symbol i in a memory: it is the symbol's value, or its stub (x86-64 psABI, "Function Addresses")
+-- a represents symbol i in a memory: it is the symbol's value, or its stub (x86-64 psABI, "Function Addresses")
 abbrev pub Denotes : Layout → World → Memory → ℕ → ℕ → Type 0
 Denotes l w m i a = HasValue l w i a ⊎ IsStub l w m i a

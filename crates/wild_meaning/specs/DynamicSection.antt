@@ -1,9 +1,9 @@
--- What the dynamic section of an image tells a dynamic linker.
+-- The information in an image's dynamic section for a dynamic linker.
 --   IsFlagged ds tag flag           the flag is set in the value of a tag
---   IsBeside ds tag other n         where there is a tag, another has that value
---   AreRelativeFirst machine n rs   so many entries in front add the base
---   TellsEntries ..                 the entries tell what a dynamic linker is to do
---   TellsLinker machine image       it finds a dynamic section with such entries
+--   IsBeside ds tag other n         if there is a tag, another tag has that value
+--   AreRelativeFirst machine n rs   the first n entries add the base
+--   TellsEntries ..                 the entries give a dynamic linker the information that it needs
+--   TellsLinker machine image       there is a dynamic section with such entries
 use Rattle.std.specs.Prelude.{◌≡◌, ℕ, ◌<◌, List, Some, Ok, slice_get}
 use Rattle.wild_records.specs.Abi.Dynamic.{dt_pltrel, dt_jmprel, dt_symtab, dt_rela, dt_relaent, dt_syment, dt_flags, dt_relr, dt_relrent, dt_relacount, dt_flags_1, df_bind_now, df_1_now}
 use Rattle.wild_records.specs.Relocations.{rela_size, relr_size}
@@ -25,23 +25,24 @@ pub record IsFlagged (ds : List DynamicEntry) (tag flag : ℕ) : Type 0 where
   pub there : tagged tag ds ≡ Some value
   pub set : IsSet value flag
 
--- where there is a tag, another has that value
+-- if there is a tag, another tag has that value
 abbrev pub IsBeside : List DynamicEntry → ℕ → ℕ → ℕ → Type 0
 IsBeside ds tag other n = (a : ℕ) → tagged tag ds ≡ Some a → tagged other ds ≡ Some n
 
--- entry k is there, and adds the base
+-- there is an entry k, and it adds the base
 pub record IsRelativeAt (machine : Machine) (rs : List Rela) (k : ℕ) : Type 0 where
   pub entry : Rela
   pub there : slice_get rs k ≡ Some entry
   pub kind : kind_of machine entry.number ≡ Some kinds.Relative
 
--- so many entries in front add the base (LSB, "Dynamic Entries", DT_RELACOUNT)
+-- the first n entries add the base (LSB, "Dynamic Entries", DT_RELACOUNT)
 abbrev pub AreRelativeFirst : Machine → ℕ → List Rela → Type 0
 AreRelativeFirst machine n rs = (k : ℕ) → k < n → IsRelativeAt machine rs k
 
--- the entries tell that each symbol is to be found at the start (gABI, DF_BIND_NOW; glibc, `elf.h`: DF_1_NOW), how large the entries are of each
--- table that is named, of which sort those of stubs are, and how many are relative (gABI, "Dynamic Section": DT_PLTREL, DT_RELAENT,
--- DT_RELRENT, DT_SYMENT)
+-- The entries say:
+-- - all symbols are bound at load time (gABI, DF_BIND_NOW; glibc, `elf.h`: DF_1_NOW);
+-- - the entry size of each table that is named, the type of the stubs' entries, and the number of relative entries (gABI,
+-- "Dynamic Section": DT_PLTREL, DT_RELAENT, DT_RELRENT, DT_SYMENT).
 pub record TellsEntries (machine : Machine) (image : List ℕ) (ds : List DynamicEntry) : Type 0 where
   pub now : IsFlagged ds dt_flags df_bind_now
   pub now_1 : IsFlagged ds dt_flags_1 df_1_now
@@ -51,7 +52,8 @@ pub record TellsEntries (machine : Machine) (image : List ℕ) (ds : List Dynami
   pub symbol_size : IsBeside ds dt_symtab dt_syment symtab_entry_size
   pub relative : (n : ℕ) (t : Tables) → tagged dt_relacount ds ≡ Some n → named_tables image (headers_in image) ds ≡ Ok t → AreRelativeFirst machine n t.entries
 
--- a dynamic linker finds a dynamic section (gABI, "Program Header": PT_DYNAMIC), and its entries tell it what it is to do
+-- a dynamic linker finds a dynamic section (gABI, "Program Header": PT_DYNAMIC), and its entries have the information that it
+-- needs
 pub record TellsLinker (machine : Machine) (image : List ℕ) : Type 0 where
   pub segment : ProgramHeader
   pub first : first_dynamic (headers_in image) ≡ Some segment

@@ -1,16 +1,17 @@
--- What a formula gives for a relocation of an item, in a world and a memory.
---   IsTarget l w m symbol a  a stands for a reference's symbol: it is its value, or its stub
---   IsReferent ..            a is S in a reference, or L: on x86-64 what stands for its symbol, and of merged strings what with A makes their place
+-- The value of a relocation's formula for an item, in a world and a memory.
+--   IsTarget l w m symbol a  a is the value of a reference's symbol, or its stub
+--   IsReferent ..            a is S or L. On x86-64 it represents the symbol; for merged strings, a and A together make the
+--                            string's address
 --   IsSum value l w m item r x   x is S + A
 --   table_at l w             GOT
 --   IsOffset l w symbol t    t is S's offset from the thread pointer
---   IsExtent l w symbol z    z is Z
---   IsWhole l r n x          x is Z + A, or of another module's symbol in a field of four bytes its low half
---   IsGoal l w m symbol a    code that goes to a comes to S
---   HasOffsetMode l item     a descriptor's reference in the item is the offset itself
---   IsPlaceRelative value    the expression takes a place from an address
+--   IsExtent l w symbol z    z is Z, the symbol's size
+--   IsWhole l r n x          x is Z + A; for another module's symbol in a field of four bytes, x may be its low half
+--   IsGoal l w m symbol a    execution that starts at a reaches S
+--   HasOffsetMode l item     a reference to a descriptor in the item holds the thread-pointer offset itself
+--   IsPlaceRelative value    the expression subtracts P, Page(P) or GOT from an address
 --   Gives value l w m item r x   x is the value of the expression
---   GivesLinked value ..     the same with the output's own S, whatever another module has for it
+--   GivesLinked value ..     the same with the output's own S, whatever definition another module has
 use Rattle.std.specs.Prelude.{◌≡◌, ℕ, ◌+◌, ◌-◌, ◌%◌, ◌^◌, ◌⊎◌, true, ⊤, Option, Some, None}
 use Rattle.std.specs.Int.{w64, cast_unsigned}
 use Rattle.wild_records.specs.Abi.Relocation.{r_x86_64_size32}
@@ -35,18 +36,18 @@ use Rattle.wild_meaning.specs.Strings.{NamesStrings, IsString}
 use Rattle.wild_types.specs.Item.{Item}
 use Rattle.wild_meaning.specs.Item.{place_at}
 
--- a is what S is: it stands for the symbol, or is 0 without one
+-- a is S: it represents the symbol, or is 0 if there is no symbol
 abbrev pub IsTarget : Layout → World → Memory → Option ℕ → ℕ → Type 0
 IsTarget l w m None a = a ≡ 0
 IsTarget l w m (Some i) a = Denotes l w m i a
 
--- code that goes to a comes to what S is
+-- execution that starts at a reaches S
 abbrev pub IsGoal : Layout → World → Memory → Option ℕ → ℕ → Type 0
 IsGoal l w m None a = a ≡ 0
 IsGoal l w m (Some i) a = (v : ℕ) × HasValue l w i v × Reaches m a v
 
--- the expression takes P, Page(P) or GOT from S or L, also where it gives no value yet; GOT + A - P does not, since both
--- move
+-- The expression subtracts P, Page(P) or GOT from S or L, even if it has no value yet. GOT + A - P does not count, because both
+-- terms move with the base.
 abbrev pub IsPlaceRelative : Value → Type 0
 IsPlaceRelative Distance = ⊤
 IsPlaceRelative PageDistance = ⊤
@@ -55,7 +56,7 @@ IsPlaceRelative StubDistance = ⊤
 IsPlaceRelative StubFromTable = ⊤
 IsPlaceRelative other = ⊥
 
--- the expression has the symbol's address, of itself or on a page
+-- the expression contains the symbol's address or its page
 abbrev pub TakesAddress : Value → Type 0
 TakesAddress SymbolAddress = ⊤
 TakesAddress SymbolPart = ⊤
@@ -66,25 +67,25 @@ TakesAddress other = ⊥
 
 -- ---- S and L
 
--- the expression takes a place from a symbol that is not there
+-- the expression subtracts a place from an undefined weak symbol
 abbrev pub TakesOwnPlace : Value → Layout → ℕ → Type 0
 TakesOwnPlace value l i = IsPlaceRelative value × IsAbsent l i
 
--- S or L there: of a symbol that is not there the reference's own place
+-- S or L on AArch64; for an undefined weak symbol, the reference's own place
 abbrev pub IsReferentOnAArch64 : Value → Layout → World → Memory → Item → InputRelocation → Option ℕ → ℕ → Type 0
 IsReferentOnAArch64 value l w m item r None a = a ≡ 0
 IsReferentOnAArch64 value l w m item r (Some i) a = (TakesOwnPlace value l i × (a ≡ own_place w item r)) ⊎ ((TakesOwnPlace value l i → ⊥) × StandsOnAArch64 value l w m r i a)
 
--- a is what stands for the symbol by itself
+-- a represents the symbol; merged strings are treated separately
 abbrev pub IsReferentBy : Machine → Value → Layout → World → Memory → Item → InputRelocation → ℕ → Type 0
 IsReferentBy machine.X86_64 value l w m item r a = IsTarget l w m r.symbol a
 IsReferentBy machine.AArch64 value l w m item r a = IsReferentOnAArch64 value l w m item r r.symbol a
 
--- the expression takes S, and the symbol stands for strings that were merged: they are found by S and A together
+-- the expression contains S, and the symbol is that of a section of merged strings: S and A together determine the string
 abbrev pub TakesString : Value → Layout → InputRelocation → Type 0
 TakesString value l r = TakesAddress value × NamesStrings l r
 
--- a is S, or L, in a reference with that expression, whose place and addend may have a part in it
+-- a is S or L in a reference with that expression; it may depend on the reference's place and addend
 abbrev pub IsReferent : Machine → Value → Layout → World → Memory → Item → InputRelocation → ℕ → Type 0
 IsReferent machine value l w m item r a = (TakesString value l r × IsString l w r a) ⊎ ((TakesString value l r → ⊥) × IsReferentBy machine value l w m item r a)
 
@@ -104,48 +105,48 @@ table_at l w = (w.base + l.got_base) % 2 ^ 64
 abbrev pub page_of : ℕ → ℕ
 page_of n = n - n % 4096
 
--- t is the offset of S from the thread pointer; without a symbol there is none
+-- t is the offset of S from the thread pointer; there is none without a symbol
 abbrev pub IsOffset : Layout → World → Option ℕ → ℕ → Type 0
 IsOffset l w None t = ⊥
 IsOffset l w (Some i) t = HasThreadOffset l w i t
 
--- z is Z, the symbol's size; without a symbol there is none
+-- z is Z, the symbol's size; there is none without a symbol
 abbrev pub IsExtent : Layout → World → Option ℕ → ℕ → Type 0
 IsExtent l w None z = ⊥
 IsExtent l w (Some i) z = HasSize l w i z
 
--- the field has four bytes, and a loader stores there the size that another module has: that may have more bytes than such a
--- field can tell (x86-64 psABI, "Relocation Types": R_X86_64_SIZE32)
+-- The field has four bytes, and a loader stores another module's size there, which may not fit (x86-64 psABI, "Relocation Types":
+-- R_X86_64_SIZE32).
 pub record IsShort (l : Layout) (r : InputRelocation) : Type 0 where
   pub number : r.number ≡ r_x86_64_size32
   pub symbol : ℕ
   pub named : r.symbol ≡ Some symbol
   pub replaceable : IsReplaceable l symbol true
 
--- x is the number n, or its low 32 bits in such a field
+-- x is the number n, or its low 32 bits if the field is of that kind
 abbrev pub IsWhole : Layout → InputRelocation → (n x : ℕ) → Type 0
 IsWhole l r n x = (x ≡ n) ⊎ (IsShort l r × (x ≡ n % 2 ^ 32))
 
--- the expressions of AArch64 that name a slot add nothing: the slot of S + A is the symbol's own where A is 0, and no layout has another one
--- (aaelf64, "Relocation operations": GDAT(S + A))
+-- On AArch64 an expression with a slot needs addend 0: the slot of S + A is the symbol's own slot if A is 0, and no layout has
+-- another one (aaelf64, "Relocation operations": GDAT(S + A)).
 abbrev pub NamesSlot : (sort : Slot) → Layout → World → Memory → InputRelocation → ℕ → Type 0
 NamesSlot sort l w m r g = IsSlot sort l w m r.symbol g × (cast_unsigned w64 r.addend ≡ 0)
 
--- a program of x86-64 whose descriptors' references in code are offsets: one without a loader that fills descriptors, or one that
--- is rewritten so. On AArch64 a descriptor's instructions are taken as a whole
+-- An x86-64 program whose code holds offsets in place of descriptor references: one without a loader that fills descriptors, or
+-- one with rewriting on. On AArch64 the instructions of a descriptor call are treated as a whole.
 abbrev pub KnowsOffsets : Machine → OutputKind → Layout → Type 0
 KnowsOffsets machine.X86_64 (output.StaticExecutable any) l = ⊤
 KnowsOffsets machine.X86_64 (output.DynamicExecutable any) l = l.options.relax ≡ true
 KnowsOffsets machine kind l = ⊥
 
--- in the item's code the reference to a descriptor is the offset itself, and no descriptor's address ("ELF Handling For
+-- in the item's code a reference to a descriptor holds the offset itself, not a descriptor's address ("ELF Handling For
 -- Thread-Local Storage", "Linker Relaxations")
 abbrev pub HasOffsetMode : Layout → Item → Type 0
 HasOffsetMode l item = KnowsOffsets l.machine l.kind l × IsSet item.flags shf_execinstr
 
--- x is the value of the expression (x86-64 psABI, "Relocation Types"; aaelf64, "Relocation operations"; thread-local ones:
--- "ELF Handling For Thread-Local Storage", "TLS Access Models"). The call through a descriptor has no value, and where descriptors'
--- references are offsets it may not stand
+-- x is the value of the expression (x86-64 psABI, "Relocation Types"; aaelf64, "Relocation operations"). For thread-local
+-- expressions see "ELF Handling For Thread-Local Storage", "TLS Access Models".
+-- The call through a descriptor has no value, and is not allowed if references to descriptors hold offsets.
 abbrev pub Gives : Value → Layout → World → Memory → Item → InputRelocation → ℕ → Type 0
 Gives NoValue l w m item r x = HasOffsetMode l item → ⊥
 Gives SymbolAddress l w m item r x = IsSum SymbolAddress l w m item r x
@@ -166,35 +167,35 @@ Gives PointerOffset l w m item r x = (t : ℕ) × IsOffset l w r.symbol t × (x 
 Gives ModuleOffset l w m item r x = (t b : ℕ) × IsOffset l w r.symbol t × IsOffsetBase l.machine l.kind w b × (x ≡ (t + cast_unsigned w64 r.addend + (2 ^ 64 - b)) % 2 ^ 64)
 Gives Size l w m item r x = (z : ℕ) × IsExtent l w r.symbol z × IsWhole l r ((z + cast_unsigned w64 r.addend) % 2 ^ 64) x
 
--- ---- a symbol as the output itself has it
+-- ---- the output's own definition of a symbol
 
--- a is the value of the output's own symbol; without one there is none
+-- a is the value of the output's own symbol; there is none without a symbol
 abbrev pub IsOwnTarget : Layout → World → Option ℕ → ℕ → Type 0
 IsOwnTarget l w None a = ⊥
 IsOwnTarget l w (Some i) a = HasOwnValue l w i a
 
--- on AArch64, of a symbol that is not there, the reference's own place
+-- the same on AArch64; for an undefined weak symbol, the reference's own place
 abbrev pub IsOwnReferentOnAArch64 : Value → Layout → World → Item → InputRelocation → Option ℕ → ℕ → Type 0
 IsOwnReferentOnAArch64 value l w item r None a = ⊥
 IsOwnReferentOnAArch64 value l w item r (Some i) a = (TakesOwnPlace value l i × (a ≡ own_place w item r)) ⊎ ((TakesOwnPlace value l i → ⊥) × HasOwnValue l w i a)
 
--- a is S in a reference with that expression
+-- a is the output's own S in a reference with that expression
 abbrev pub IsOwnReferent : Machine → Value → Layout → World → Item → InputRelocation → ℕ → Type 0
 IsOwnReferent machine.X86_64 value l w item r a = IsOwnTarget l w r.symbol a
 IsOwnReferent machine.AArch64 value l w item r a = IsOwnReferentOnAArch64 value l w item r r.symbol a
 
--- x is S + A
+-- x is S + A, with the output's own S
 pub record IsOwnSum (value : Value) (l : Layout) (w : World) (item : Item) (r : InputRelocation) (x : ℕ) : Type 0 where
   pub symbol : ℕ
   pub denoted : IsOwnReferent l.machine value l w item r symbol
   pub sum : x ≡ (symbol + cast_unsigned w64 r.addend) % 2 ^ 64
 
--- t is the own symbol's offset from the thread pointer
+-- t is the thread-pointer offset of the output's own symbol
 abbrev pub IsOwnOffset : Layout → World → Option ℕ → ℕ → Type 0
 IsOwnOffset l w None t = ⊥
 IsOwnOffset l w (Some i) t = HasOwnOffset l w i t
 
--- x is the value of the expression where S is the output's own: the expressions that take S, or its offset
+-- x is the value of the expression with the output's own S; only expressions that contain S, or its offset, have one
 abbrev pub GivesLinked : Value → Layout → World → Item → InputRelocation → ℕ → Type 0
 GivesLinked SymbolAddress l w item r x = IsOwnSum SymbolAddress l w item r x
 GivesLinked SymbolPart l w item r x = IsOwnSum SymbolPart l w item r x
@@ -205,7 +206,7 @@ GivesLinked PointerOffset l w item r x = (t : ℕ) × IsOwnOffset l w r.symbol t
 GivesLinked ModuleOffset l w item r x = (t b : ℕ) × IsOwnOffset l w r.symbol t × IsOffsetBase l.machine l.kind w b × (x ≡ (t + cast_unsigned w64 r.addend + (2 ^ 64 - b)) % 2 ^ 64)
 GivesLinked other l w item r x = ⊥
 
--- the expression has the symbol's offset from the thread pointer
+-- the expression contains the symbol's offset from the thread pointer
 abbrev pub TakesOffset : Value → Type 0
 TakesOffset PointerOffset = ⊤
 TakesOffset ModuleOffset = ⊤

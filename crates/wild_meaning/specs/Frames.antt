@@ -1,8 +1,8 @@
--- The frames of an input section that are kept, as items (LSB, "The .eh_frame section").
---   frames_in l s          the frames of an input section, with what its relocations' symbols are
---   frames_item l f s at   the kept entries one behind the other, from an address on
---   IsFrameInput l s       an input section of frames, with what stands before it in its group
---   frames_address l s k   where its kept entries stand
+-- The kept entries of an input section of frames, as items (LSB, "The .eh_frame section").
+--   frames_in l s          the frames of an input section, with the targets of its relocations' symbols
+--   frames_item l f s at   the kept entries, consecutively from an address on
+--   IsFrameInput l s       an input section of frames, with the position of the section in its group
+--   frames_address l s k   the address of its kept entries
 use Rattle.std.specs.Prelude.{◌≡◌, ℕ, ◌+◌, ◌-◌, ◌==◌, ◌&&◌, false, not, if◌then◌else◌, List, [], ◌∷◌, ◌++◌, length, map, Contains, Option, Some, None, slice_get}
 use Rattle.std.specs.List.{flat_map}
 use Rattle.std.specs.Int.RustNames.{bit_and}
@@ -30,7 +30,7 @@ use Rattle.wild_frames.specs.declared.entry.KeptEntry.{KeptEntry}
 use Rattle.wild_frames.specs.Frames.{Frames, kept_in, frame_bytes, relocations_in}
 use Rattle.wild_meaning.specs.Section.{IsSet, IsHollow}
 
--- ---- what an FDE is of
+-- ---- the code that an FDE describes
 
 abbrev pub code_section : Layout → Option InputSection → Target
 code_section l None = target.NoSection
@@ -53,7 +53,7 @@ abbrev pub code_of : Layout → Option ℕ → Target
 code_of l None = target.NoSection
 code_of l (Some i) = code_by l i (slice_get l.symbols i)
 
--- the frames of an input section; of one without data none
+-- the frames of an input section; empty if it has no data
 abbrev pub frames_in : Layout → InputSection → Frames
 frames_in l s = record {
   bytes = if s.nobits then [] else s.bytes;
@@ -64,7 +64,7 @@ frames_in l s = record {
 
 -- ---- the kept entries
 
--- a relocation of an entry, where that stands
+-- a relocation of an entry, moved with its entry
 abbrev pub moved_with : KeptEntry → InputRelocation → InputRelocation
 moved_with k r = record { offset = k.to + (r.offset - k.from); number = r.number; symbol = r.symbol; addend = r.addend; malformed = r.malformed }
 
@@ -75,7 +75,7 @@ entry_references fs k = map (moved_with k) (relocations_in k.from (k.from + k.si
 abbrev pub without : ℕ → ℕ → ℕ
 without flags flag = if bit_and flags flag == flag then flags - flag else flags
 
--- the kept entries one behind the other, with their new ids; the program does not write to them, and runs none of their bytes
+-- the kept entries, placed consecutively, with their new CIE ids; they count as read-only and not executable
 abbrev pub frames_item_of : Frames → ℕ → ℕ → ℕ → Item
 frames_item_of fs flags at block = record {
   address = at;
@@ -85,17 +85,17 @@ frames_item_of fs flags at block = record {
   thunk_block = block;
 }
 
--- with the block of thunks that its file has for it
+-- the same, with the block of thunks that the file uses for it
 abbrev pub frames_item : Layout → File → InputSection → ℕ → Item
 frames_item l f s at = frames_item_of (frames_in l s) s.flags at (block_for l f s)
 
--- ---- where they stand
+-- ---- addresses
 
 abbrev pub kept_by : Slot → Layout → InputSection → ℕ
 kept_by slot.Frame l s = length (frame_bytes (frames_in l s))
 kept_by other l s = 0
 
--- how many bytes of frames an input section keeps
+-- the number of frame bytes that are kept of an input section
 abbrev pub kept_bytes : Layout → InputSection → ℕ
 kept_bytes l s = kept_by s.slot l s
 
@@ -106,7 +106,7 @@ abbrev pub address_of_part : Option Part → ℕ
 address_of_part None = 0
 address_of_part (Some p) = p.address
 
--- an allocated input section of frames that are written, with the files of its group and the sections of its file that stand before it
+-- an allocated input section of frames that is written, with the files of its group and the sections of its file before it
 pub record IsFrameInput (l : Layout) (s : InputSection) : Type 0 where
   pub frame : s.slot ≡ slot.Frame
   pub room : IsSet s.flags shf_alloc
@@ -122,6 +122,6 @@ pub record IsFrameInput (l : Layout) (s : InputSection) : Type 0 where
   pub sections_behind : List InputSection
   pub listed : file.sections ≡ sections ++ (s ∷ sections_behind)
 
--- where its kept entries stand: behind those of the sections before it, from the group's start in the part of frames on
+-- the address of its kept entries: after those of the sections before it, from the group's start in the frame part on
 abbrev pub frames_address : (l : Layout) (s : InputSection) → IsFrameInput l s → ℕ
 frames_address l s k = address_of_part (part_with role.EhFrame l.parts) + k.group.eh_frame_start + total (kept_of_file l) k.files + total (kept_bytes l) k.sections

@@ -1,7 +1,8 @@
--- What references are asked of.
---   IsLoadedSlot s   a section of that sort is loaded as it is
---   stood_item l f s an input section as it stands in the output
---   IsKept l item    the item is one of the layout's: the bytes of an input section that is loaded, allocated, has data and is written
+-- Items: the parts of the image whose references are checked.
+--   IsLoadedSlot s   sections of that sort are loaded as placed
+--   stood_item l f s an input section as placed in the output
+--   IsKept l item    the item is one of the layout's: the bytes of an input section that is loaded, allocated, has data and is
+--                    written
 --   IsReference ..   a relocation of an item that refers to something
 use Rattle.std.specs.Prelude.{◌≡◌, ◌≢◌, ℕ, ◌+◌, ◌-◌, ◌%◌, false, ⊤, if◌then◌else◌, List, length, map, Contains, Some, slice_get, slice_index}
 use Rattle.std.specs.List.{range_with_len}
@@ -37,28 +38,28 @@ pub record IsInput (l : Layout) (s : InputSection) : Type 0 where
   pub filed : Contains group.files file
   pub listed : Contains file.sections s
 
--- the sorts of input sections that are loaded as they are, in the order of the files or in a given one
+-- the sorts of input sections that are loaded as placed, in the order of the files or in a given order
 abbrev pub IsLoadedSlot : Slot → Type 0
 IsLoadedSlot slot.Loaded = ⊤
 IsLoadedSlot slot.Sorted = ⊤
 IsLoadedSlot other = ⊥
 
--- ---- reversed sections, whose words of 8 bytes stand in the output with the last first
+-- ---- reversed sections: their words of 8 bytes are written in reverse order
 
--- where the byte of the input is that stands at k
+-- the input offset of the output byte at k
 abbrev pub byte_from : ℕ → ℕ → ℕ
 byte_from n k = n - 8 - (k - k % 8) + k % 8
 
 abbrev pub reversed_bytes : List ℕ → List ℕ
 reversed_bytes bs = map (λ k. slice_index bs (byte_from (length bs) k)) (range_with_len 0 (length bs))
 
--- a relocation of a word of n bytes of words, where that stands
+-- a relocation in a section of n bytes of words, moved with its word
 abbrev pub reversed_relocation : ℕ → InputRelocation → InputRelocation
 reversed_relocation n r = record { offset = n - 8 - r.offset; number = r.number; symbol = r.symbol; addend = r.addend; malformed = r.malformed }
 
 -- ---- items
 
--- an input section as it stands in the output, with the block of thunks that its file has for it
+-- an input section as placed in the output, with the block of thunks that its file uses for it
 abbrev pub stood_item : Layout → File → InputSection → Item
 stood_item l f s = record {
   address = s.address;
@@ -76,9 +77,9 @@ pub record IsKeptSection (l : Layout) (s : InputSection) : Type 0 where
   pub has_data : s.nobits ≡ false
   pub written : (p : Part) → slice_get l.parts s.part ≡ Some p → IsHollow l p → ⊥
 
--- an item of the layout that stands in memory: what it is made of
+-- an item of the layout that is in memory, by its origin
 pub data IsKept (l : Layout) (item : Item) : Type 0 where
   -- an input section
   OfSection : (s : InputSection) (k : IsKeptSection l s) → item ≡ stood_item l k.input.file s → IsKept l item
-  -- the entries that are kept of frames
+  -- the kept entries of a section of frames
   OfFrames : (s : InputSection) (k : IsFrameInput l s) → item ≡ frames_item l k.file s (frames_address l s k) → IsKept l item

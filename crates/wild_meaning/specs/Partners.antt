@@ -1,8 +1,8 @@
--- What the further relocations of a sequence are, and when instructions are one.
---   NamesGetter ..    the relocation names the function that gives thread addresses
+-- The further relocations of a sequence, and when instructions form one.
+--   NamesGetter ..    the relocation's symbol is the function that returns thread-local addresses
 --   HasPartner ..     a relocation fills a further field of a sequence
---   HasPartners ..    those from an index on fill all of them
---   IsMet, AreMet ..  a condition is met, all are
+--   HasPartners ..    the relocations from an index on fill all of them
+--   IsMet, AreMet ..  a condition is met; all conditions are met
 use Rattle.std.specs.Prelude.{◌≡◌, ℕ, ◌+◌, ⊤, true, false, List, [], ◌∷◌, slice_get, Some, Contains}
 use Rattle.wild_types.specs.declared.input.InputRelocation.{InputRelocation}
 use Rattle.wild_types.specs.declared.symbol.Symbol.{Symbol}
@@ -18,7 +18,7 @@ use Rattle.wild_meaning.specs.ReferentAArch64.{IsAbsent}
 abbrev pub tls_get_addr : List ℕ
 tls_get_addr = 95 ∷ 95 ∷ 116 ∷ 108 ∷ 115 ∷ 95 ∷ 103 ∷ 101 ∷ 116 ∷ 95 ∷ 97 ∷ 100 ∷ 100 ∷ 114 ∷ []
 
--- the relocation names the function that gives thread addresses
+-- the relocation's symbol is the function that returns thread-local addresses
 pub record NamesGetter (l : Layout) (r : InputRelocation) : Type 0 where
   pub index : ℕ
   pub named : r.symbol ≡ Some index
@@ -26,7 +26,7 @@ pub record NamesGetter (l : Layout) (r : InputRelocation) : Type 0 where
   pub listed : IsSymbol l index symbol
   pub getter : symbol.name ≡ tls_get_addr
 
--- it names what that of a further field is to name
+-- it has the symbol that the relocation of a further field must have
 abbrev pub NamesIt : Layout → InputRelocation → InputRelocation → Named → Type 0
 NamesIt l first r Getter = NamesGetter l r
 NamesIt l first r SameSymbol = (r.symbol ≡ first.symbol) × (r.addend ≡ first.addend)
@@ -45,7 +45,7 @@ HasPartners l item first start index [] (r ∷ rs) = ⊥
 HasPartners l item first start index (p ∷ ps) [] = ⊥
 HasPartners l item first start index (p ∷ ps) (r ∷ rs) = HasPartner l item first r start index p × HasPartners l item first start (index + 1) ps rs
 
--- of a sequence that names symbol i
+-- for a sequence whose symbol is i
 abbrev pub IsMet : Layout → ℕ → Condition → Type 0
 IsMet l i InExecutable = IsExecutable l.kind
 IsMet l i WithoutResolver = HasFlag l i ifunc false

@@ -1,9 +1,9 @@
--- What S and L are on AArch64.
---   IsAbsent l i             nothing defines symbol i, and nothing has to
---   own_place w item r       what stands for it in a reference that takes a place from it
---   IsOneAddress l w m i a   a is the one address that stands for symbol i
---   IsBranchedTo ..          a is where a branch goes, but for its addend
---   StandsOnAArch64 ..       a stands for symbol i in an expression
+-- S and L on AArch64.
+--   IsAbsent l i             symbol i is weak and undefined, and has no stub
+--   own_place w item r       its address in a reference that subtracts a place from it
+--   IsOneAddress l w m i a   a is the one address that represents symbol i
+--   IsBranchedTo ..          a is the target of a branch, before its addend
+--   StandsOnAArch64 ..       a represents symbol i in an expression
 use Rattle.std.specs.Prelude.{◌≡◌, ℕ, ◌+◌, ◌%◌, ◌^◌, ◌⊎◌, true, false, if◌then◌else◌, List, [], ◌∷◌}
 use Rattle.std.specs.Int.{w64, cast_unsigned}
 use Rattle.wild_records.specs.Abi.Relocation.{r_aarch64_tstbr14, r_aarch64_condbr19, r_aarch64_jump26, r_aarch64_call26}
@@ -20,10 +20,9 @@ use Rattle.wild_meaning.specs.Denotes.{HasStub, Denotes}
 use Rattle.wild_types.specs.Item.{Item}
 use Rattle.wild_meaning.specs.Item.{place_at}
 
--- ---- a weak symbol that is not there (aaelf64, "Weak references", "Relocations for control-flow instructions")
+-- ---- undefined weak symbols (aaelf64, "Weak references", "Relocations for control-flow instructions")
 
--- nothing defines the symbol, which is weak, and no stub goes on to what another module has for it (gABI, "Symbol Table":
--- STB_WEAK)
+-- The symbol is weak and undefined, and has no stub that leads to another module's definition (gABI, "Symbol Table": STB_WEAK).
 pub record IsAbsent (l : Layout) (i : ℕ) : Type 0 where
   pub weak : HasFlag l i undefined_weak true
   pub stubless : HasFlag l i plt_stub false
@@ -32,32 +31,32 @@ pub record IsAbsent (l : Layout) (i : ℕ) : Type 0 where
 abbrev pub branch_types : List ℕ
 branch_types = r_aarch64_tstbr14 ∷ r_aarch64_condbr19 ∷ r_aarch64_jump26 ∷ r_aarch64_call26 ∷ []
 
--- so a distance is A, and a branch goes on behind itself
+-- so a distance is A, and a branch goes to the instruction after it
 abbrev pub own_place : World → Item → InputRelocation → ℕ
 own_place w item r = (place_at w item r.offset + (if is_listed r.number branch_types then 4 else 0)) % 2 ^ 64
 
--- ---- a symbol that is there
+-- ---- other symbols
 
--- the stub at p is what the output takes for symbol i's address: the symbol is one that a resolver answers for, or stands at its
--- stub, which moves with the base (x86-64 psABI, "Function Addresses")
+-- The output uses the stub at p as symbol i's address: the symbol is an IFUNC, or the layout places it at its stub; it moves with
+-- the base (x86-64 psABI, "Function Addresses").
 pub record IsStandIn (l : Layout) (i p : ℕ) : Type 0 where
   pub stub : HasStub l i p
   pub stands : HasFlag l i ifunc true ⊎ HasRaw l i p
   pub moves : HasFlag l i absolute false
 
--- a is the one address that stands for symbol i: such a stub's, else its value
+-- a is the one address that represents symbol i: its stub in this case, otherwise its value
 abbrev pub IsOneAddress : Layout → World → Memory → ℕ → ℕ → Type 0
 IsOneAddress l w m i a = ((p : ℕ) × IsStandIn l i p × (a ≡ (w.base + p) % 2 ^ 64) × Denotes l w m i a) ⊎ (((p : ℕ) → IsStandIn l i p → ⊥) × HasValue l w i a)
 
--- a is L in a branch: code that goes to a + A is at what stands for the symbol and A, or in a thunk, which goes on to there (aaelf64, "Call
--- and Jump relocations")
+-- a is L in a branch. Execution that starts at a + A reaches an address that represents the symbol, plus A; or a thunk that leads
+-- there (aaelf64, "Call and Jump relocations").
 pub record IsBranchedTo (l : Layout) (w : World) (m : Memory) (r : InputRelocation) (i a : ℕ) : Type 0 where
   pub symbol : ℕ
   pub denoted : Denotes l w m i symbol
   pub comes : ReachesWithin 1 m ((a + cast_unsigned w64 r.addend) % 2 ^ 64) ((symbol + cast_unsigned w64 r.addend) % 2 ^ 64)
 
--- on AArch64 several instructions have a part each of one address, and a branch may go by a thunk (aaelf64, "Relocation operations",
--- "Call and Jump relocations")
+-- On AArch64 several instructions each hold a part of one address, and a branch may go through a thunk (aaelf64, "Relocation
+-- operations", "Call and Jump relocations").
 abbrev pub StandsOnAArch64 : Value → Layout → World → Memory → InputRelocation → ℕ → ℕ → Type 0
 StandsOnAArch64 SymbolPart l w m r i a = IsOneAddress l w m i a
 StandsOnAArch64 PageDistance l w m r i a = IsOneAddress l w m i a

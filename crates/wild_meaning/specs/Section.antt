@@ -1,8 +1,8 @@
--- Whether a section has room in memory, and whether an input section has an address.
+-- Whether a section has memory, and whether an input section has an address.
 --   IsSet flags flag       the flag is set
---   IsAllocatedPart l n    part n lies in a section that has room in memory
---   IsHollow l p           nothing is written of the section in which part p lies
---   HasFileBytes l n       part n lies in a section that has bytes in the file
+--   IsAllocatedPart l n    part n is in a section that has memory
+--   IsHollow l p           only the header is written of the section that contains part p
+--   HasFileBytes l n       part n is in a section with bytes in the file
 --   IsPlaced l s           the input section has an address
 use Rattle.std.specs.Prelude.{◌≡◌, ◌≢◌, ℕ, ◌/◌, ◌%◌, ◌⊎◌, true, Some, slice_get}
 use Rattle.wild_records.specs.Abi.Section.{sht_note, sht_nobits, shn_undef, shf_alloc}
@@ -16,7 +16,7 @@ use Rattle.wild_types.specs.declared.layout.Layout.{Layout}
 abbrev pub IsSet : ℕ → ℕ → Type 0
 IsSet flags flag = flags / flag % 2 ≡ 1
 
--- the part lies in a section other than section 0 that has room in memory (gABI, SHF_ALLOC)
+-- the part is in a section other than section 0 that has memory (gABI, SHF_ALLOC)
 pub record IsAllocatedPart (l : Layout) (n : ℕ) : Type 0 where
   pub part : Part
   pub listed : slice_get l.parts n ≡ Some part
@@ -25,12 +25,12 @@ pub record IsAllocatedPart (l : Layout) (n : ℕ) : Type 0 where
   pub found : slice_get l.sections part.section ≡ Some section
   pub room : IsSet section.flags shf_alloc
 
--- the image is for debuggers alone, which read the program itself elsewhere (GNU Binutils, "objcopy": `--only-keep-debug`)
+-- the image is only for debuggers, which read the program itself elsewhere (GNU Binutils, "objcopy": `--only-keep-debug`)
 abbrev pub IsForDebuggers : Layout → Type 0
 IsForDebuggers l = l.options.only_keep_debug ≡ true
 
--- nothing is written of the section in which the part lies: the image is for debuggers alone, and the section has room in memory and no
--- notes, by which debuggers find the image (gABI, "Sections": SHT_NOTE)
+-- Only the header is written of the section that contains the part. The image is only for debuggers; the section has memory and
+-- is not a note, by which debuggers find the image (gABI, "Sections": SHT_NOTE).
 pub record IsHollow (l : Layout) (p : Part) : Type 0 where
   pub bare : IsForDebuggers l
   pub named : p.section ≢ shn_undef
@@ -39,7 +39,7 @@ pub record IsHollow (l : Layout) (p : Part) : Type 0 where
   pub room : IsSet section.flags shf_alloc
   pub other : section.kind ≢ sht_note
 
--- the part lies in a section other than section 0 that has bytes in the file (gABI, "Section Header", sh_type: SHT_NOBITS)
+-- the part is in a section other than section 0 with bytes in the file (gABI, "Section Header", sh_type: SHT_NOBITS)
 pub record HasFileBytes (l : Layout) (n : ℕ) : Type 0 where
   pub part : Part
   pub listed : slice_get l.parts n ≡ Some part
@@ -49,7 +49,7 @@ pub record HasFileBytes (l : Layout) (n : ℕ) : Type 0 where
   pub filled : section.kind ≢ sht_nobits
   pub written : IsHollow l part → ⊥
 
--- the input section is not discarded, and its address is not 0 or its part has no room in memory
+-- the input section is not discarded; its address is not 0, or its part has no memory
 pub record IsPlaced (l : Layout) (s : InputSection) : Type 0 where
   pub kept : s.slot ≢ slot.Discard
   pub address : (s.address ≢ 0) ⊎ (IsAllocatedPart l s.part → ⊥)

@@ -1,9 +1,9 @@
--- What is refused of an image's headers and of its dynamic section.
+-- Headers and dynamic sections of images that are refused.
 --   WrongSegmentsAreRefused   a segment that is not the layout's
---   OtherPlacesAreRefused     a loaded segment whose address and offset are at different places of a page
---   WrongSizesAreRefused      a file header that tells another version, or other sizes of headers
+--   OtherPlacesAreRefused     a loaded segment whose address and offset differ modulo the page size
+--   WrongSizesAreRefused      a file header with another version, or other sizes of headers
 --   NoDynamicIsRefused        an image that a dynamic linker loads, without a dynamic section
---   WrongEntriesAreRefused    with one that tells it something else
+--   WrongEntriesAreRefused    an image whose dynamic section has wrong entries
 use Rattle.std.specs.Prelude.{◌≡◌, ◌≢◌, ℕ, ◌<◌, List, [], ◌∷◌, None, Some, Ok, slice_get}
 use Rattle.wild_records.specs.Abi.Dynamic.{dt_pltrel, dt_jmprel, dt_rela, dt_relaent, dt_flags, dt_relacount, df_bind_now}
 use Rattle.wild_records.specs.FileHeader.{file_header_at}
@@ -27,8 +27,8 @@ use Rattle.wild_meaning.specs.WorkedStatic.{static_pie, static_pie_world}
 abbrev pub first_in : List ℕ → ProgramHeader
 first_in image = program_header_at image (file_header_at image 0).program_offset
 
--- of the worked program without a dynamic linker, which has one segment: another place or size in the file or in memory, other permissions,
--- another alignment, or another number of segments
+-- in the worked program without a dynamic linker, which has one segment: another place or size in the file or in memory, other
+-- permissions, another alignment, or another number of segments
 pub record WrongSegmentsAreRefused : Type 0 where
   pub offset : (image : List ℕ) → IsLinked static_pie static_pie_world image → (first_in image).offset ≢ 0x1000 → ⊥
   pub address : (image : List ℕ) → IsLinked static_pie static_pie_world image → (first_in image).address ≢ 0x1000 → ⊥
@@ -39,21 +39,21 @@ pub record WrongSegmentsAreRefused : Type 0 where
   pub align : (image : List ℕ) → IsLinked static_pie static_pie_world image → (first_in image).align ≢ 0x1000 → ⊥
   pub number : (image : List ℕ) → IsLinked static_pie static_pie_world image → (file_header_at image 0).program_count ≢ 1 → ⊥
 
--- the same program with its segment right behind the headers in the file, where no system can map it to the beginning of a page
+-- the same program with its segment directly after the headers in the file, so that no system can map it to the start of a page
 abbrev pub unpaged : Layout
 unpaged = record static_pie { segments = record (loaded 0x1000 0x110 0x110) { offset = 120 } ∷ [] }
 
 abbrev pub OtherPlacesAreRefused : Type 0
 OtherPlacesAreRefused = (image : List ℕ) → IsLinked unpaged static_pie_world image → ⊥
 
--- of any layout, in any world
+-- for any layout, in any world
 pub record WrongSizesAreRefused : Type 0 where
   pub version : (l : Layout) (w : World) (image : List ℕ) → IsLinked l w image → (file_header_at image 0).version ≢ 1 → ⊥
   pub header : (l : Layout) (w : World) (image : List ℕ) → IsLinked l w image → (file_header_at image 0).header_size ≢ 64 → ⊥
   pub program : (l : Layout) (w : World) (image : List ℕ) → IsLinked l w image → (file_header_at image 0).program_entry_size ≢ 56 → ⊥
   pub section : (l : Layout) (w : World) (image : List ℕ) → IsLinked l w image → (file_header_at image 0).section_entry_size ≢ 64 → ⊥
 
--- of any layout of an output that a dynamic linker loads, which is for more than debuggers, in any world
+-- for any layout of an output that a dynamic linker loads and that is not only for debuggers, in any world
 abbrev pub NoDynamicIsRefused : Type 0
 NoDynamicIsRefused = (l : Layout) (w : World) (image : List ℕ) → (IsForDebuggers l → ⊥) → HasDynamicLinker l.kind → IsLinked l w image → first_dynamic (headers_in image) ≡ None → ⊥
 
@@ -67,7 +67,7 @@ pub record IsDynamic (l : Layout) (image : List ℕ) (ds : List DynamicEntry) : 
   pub first : first_dynamic (headers_in image) ≡ Some segment
   pub read : section_of image segment ≡ Ok ds
 
--- flags that leave symbols to be found late, or none; entries of another sort or size; one among the relative ones that adds no base
+-- flags that allow late binding, or no flags; entries of another type or size; one among the relative ones that adds no base
 pub record WrongEntriesAreRefused : Type 0 where
   pub none : (l : Layout) (image : List ℕ) (ds : List DynamicEntry) → IsDynamic l image ds → tagged dt_flags ds ≡ None → ⊥
   pub late : (l : Layout) (image : List ℕ) (ds : List DynamicEntry) (f : ℕ) → IsDynamic l image ds → tagged dt_flags ds ≡ Some f → (IsSet f df_bind_now → ⊥) → ⊥

@@ -1,7 +1,7 @@
--- The segments of an image are those of its layout.
+-- The segments of an image match those of its layout.
 --   headers_in image        the program headers that a loader reads
---   TellsSegment l g h      a program header tells a segment of the layout
---   AreTold l gs hs         one header a segment, in their order
+--   TellsSegment l g h      a program header describes a segment of the layout
+--   AreTold l gs hs         one header for each segment, in order
 --   HasDynamicLinker kind   a dynamic linker loads the output
 use Rattle.std.specs.Prelude.{◌≡◌, ◌≢◌, ℕ, ◌%◌, ⊤, true, false, max, List, [], ◌∷◌}
 use Rattle.wild_records.specs.Abi.Segment.{pt_load, pt_gnu_stack, pf_x}
@@ -18,9 +18,10 @@ use Rattle.wild_meaning.specs.Section.{IsSet}
 abbrev pub headers_in : List ℕ → List ProgramHeader
 headers_in image = program_headers image (file_header_at image 0).program_count (file_header_at image 0).program_offset
 
--- the header tells what the layout has of the segment: its type and permissions, where it is in the file and in memory, and its alignment. A
--- loaded one is aligned to pages at least, and its address and offset are at equal places of a page (gABI, "Program Header"); that of the
--- stack tells nothing but permissions, to execute too where the layout asks for it (LSB, "Program Header", PT_GNU_STACK)
+-- The header has the segment's type and permissions, its place in the file and in memory, and its alignment.
+-- A loaded segment is at least page-aligned, and its address and offset are equal modulo the page size (gABI, "Program Header").
+-- That of the stack has only permissions; the stack is executable if the layout requires it (LSB, "Program Header",
+-- PT_GNU_STACK).
 pub record TellsSegment (l : Layout) (g : Segment) (h : ProgramHeader) : Type 0 where
   pub kind : h.kind ≡ g.kind
   pub flags : (g.kind ≡ pt_gnu_stack → l.options.execstack ≡ false) → h.flags ≡ g.flags
@@ -34,7 +35,7 @@ pub record TellsSegment (l : Layout) (g : Segment) (h : ProgramHeader) : Type 0 
   pub pages : g.kind ≡ pt_load → h.align ≡ max l.page_size g.align
   pub congruent : g.kind ≡ pt_load → h.address % l.page_size ≡ h.offset % l.page_size
 
--- one header a segment, in their order
+-- one header for each segment, in order
 abbrev pub AreTold : Layout → List Segment → List ProgramHeader → Type 0
 AreTold l [] [] = ⊤
 AreTold l [] (h ∷ hs) = ⊥

@@ -1,8 +1,8 @@
--- The instructions that relocations fill: which bytes are their fields, and what their operands stand for.
---   Sort               what an operand stands for
---   Named              what the relocation of a further field names
+-- The instructions that relocations fill: which of their bytes are fields, and what their operands represent.
+--   Sort               what an operand represents
+--   Named              the symbol that the relocation of a further field must have
 --   Partner            a further field of a sequence
---   Condition          when instructions are a sequence
+--   Condition          when instructions form a sequence
 --   Instruction        an instruction, or a sequence of them, with its fields
 --   instructions_of m  those of a machine
 --   IsOwnByte o k      byte k of an instruction is in none of its fields
@@ -21,9 +21,13 @@ use Rattle.wild_aarch64.specs.declared.template.Template as runs
 use Rattle.wild_aarch64.specs.declared.template.Template.TheVariants as kinds
 use Rattle.wild_meaning.specs.WordsAArch64.{is_filled, is_run, filled_numbers}
 
--- code, which is called or gone to, itself or by its address in a slot; an address in a slot; an offset from the thread pointer in
--- a slot or by a descriptor's call; the pair of a symbol, and that of the output's own thread-local data; a descriptor; or nothing, at
--- the call through one. On AArch64 also an address that two instructions have a part each of, and the bits of an instruction's field
+-- What an operand represents:
+-- - code that is called or jumped to, directly or through its address in a slot;
+-- - an address in a slot;
+-- - a thread-pointer offset in a slot or from a descriptor call;
+-- - the pair of a symbol, or that of the output's own thread-local data;
+-- - a descriptor; nothing, for the call through one;
+-- - on AArch64 also an address of which two instructions each hold a part, and the bits of an instruction's field.
 pub data Sort : Type 0 where
   Target : Sort
   TargetInSlot : Sort
@@ -36,30 +40,31 @@ pub data Sort : Type 0 where
   Address : Sort
   FieldBits : Sort
 
--- what the relocation of a further field names: the function that gives thread addresses, or the symbol of the first relocation, with
--- its addend
+-- the symbol that the relocation of a further field must have: the function that returns thread-local addresses, or the symbol of
+-- the first relocation, with the same addend
 pub data Named : Type 0 where
   Getter : Named
   SameSymbol : Named
 
--- where a further field of a sequence begins, how many bytes it has, the relocation types that fill it, and what these name
+-- the start of a further field of a sequence, its size in bytes, its relocation types, and the symbol that they must have
 pub record Partner : Type 0 where
   pub field : ℕ
   pub width : ℕ
   pub numbers : List ℕ
   pub names : Named
 
--- instructions are a sequence in executables alone; where no resolver answers for the symbol; of a symbol that others may define, where
--- instructions are rewritten; and where the symbol is there. Else each is an instruction of its own
+-- Conditions: the output is an executable; the symbol is not an IFUNC; if it is interposable, instructions are rewritten; the
+-- symbol is defined. If one fails, each instruction is separate.
 pub data Condition : Type 0 where
   InExecutable : Condition
   WithoutResolver : Condition
   RewrittenIfReplaceable : Condition
   UnlessAbsent : Condition
 
--- an instruction: what its bytes may be, and which words they are on a machine whose instructions are words; where its field begins
--- and how many bytes that has, what its operand stands for, the relocation types that fill the field; and of a sequence its further
--- fields, whose relocations follow the first one, and when it is one
+-- An instruction:
+-- - the values that its bytes may have and, on a machine whose instructions are words, which words they are;
+-- - the start and size of its field, what its operand represents, and the relocation types that fill the field;
+-- - for a sequence its further fields, whose relocations follow the first one, and its conditions.
 pub record Instruction : Type 0 where
   pub template : Template
   pub words : List ℕ → Bool
@@ -86,7 +91,7 @@ pub record IsOwnByte (o : Instruction) (k : ℕ) : Type 0 where
 
 -- ---- x86-64
 
--- bytes alone tell the instruction
+-- the bytes alone determine the instruction
 abbrev pub any_words : List ℕ → Bool
 any_words ws = true
 
@@ -94,7 +99,7 @@ any_words ws = true
 abbrev pub of_field : Template → ℕ → Sort → List ℕ → Instruction
 of_field t field sort numbers = record { template = t; words = any_words; field = field; width = 4; sort = sort; numbers = numbers; partners = []; conditions = [] }
 
--- the same with a call
+-- the same for a sequence with a call
 abbrev pub of_sequence : Template → ℕ → Sort → ℕ → List Condition → Partner → Instruction
 of_sequence t field sort number conditions call = record {
   template = t;
@@ -117,7 +122,7 @@ branches =
     ∷ of_field (branch (0xff ∷ 0x25 ∷ []) Word Jump) 2 TargetInSlot (r_x86_64_gotpcrel ∷ r_x86_64_gotpcrelx ∷ [])
     ∷ []
 
--- a register and the address in a slot, with a field n bytes behind the start
+-- a register and the address in a slot; the field starts n bytes after the start
 abbrev pub of_addresses : Prefix → ℕ → ℕ → List Instruction
 of_addresses p n number =
     of_field (with_slot 0x8b Word Set p) n AddressInSlot (number ∷ [])
@@ -133,7 +138,7 @@ of_offsets p n number =
     ∷ of_field (with_slot 0x03 Word Add p) n OffsetInSlot (number ∷ [])
     ∷ []
 
--- R_X86_64_GOTPCREL does not tell the prefix
+-- R_X86_64_GOTPCREL does not determine the prefix
 abbrev pub of_loads : List Instruction
 of_loads =
     of_field (with_slot 0x8b Word Set rex) 3 AddressInSlot (r_x86_64_gotpcrel ∷ [])
@@ -148,7 +153,7 @@ of_descriptors =
     ∷ record { template = descriptor_call; words = any_words; field = 0; width = 0; sort = DescribedCall; numbers = r_x86_64_tlsdesc_call ∷ []; partners = []; conditions = [] }
     ∷ []
 
--- the calls of sequences (x86-64 psABI, "Thread-Local Storage"), which name the function that gives thread addresses
+-- the calls of sequences (x86-64 psABI, "Thread-Local Storage"), to the function that returns thread-local addresses
 abbrev pub by_call : ℕ → Partner
 by_call n = record { field = n; width = 4; numbers = r_x86_64_pc32 ∷ r_x86_64_plt32 ∷ []; names = Getter }
 
@@ -158,7 +163,8 @@ by_slot n = record { field = n; width = 4; numbers = r_x86_64_gotpcrel ∷ r_x86
 abbrev pub by_distance : ℕ → Partner
 by_distance n = record { field = n; width = 8; numbers = r_x86_64_pltoff64 ∷ []; names = Getter }
 
--- when a linker may take a sequence as one: a pair of the output's own, and one of a symbol, which another module may have
+-- when a linker may treat instructions as a sequence: for a pair of the output's own data, and for one of a symbol, which another
+-- module may define
 abbrev pub of_output : List Condition
 of_output = InExecutable ∷ WithoutResolver ∷ []
 
@@ -177,7 +183,7 @@ sequences =
 
 -- ---- AArch64: words of four bytes, each with one field
 
--- what bytes of so many words may be: which words they are is told beside them, and what they do by the machine
+-- any bytes of n words; which words they are is checked separately, and `wild_aarch64` gives their meaning
 abbrev pub bytes_of : ℕ → Template
 bytes_of zero = does_nothing []
 bytes_of (suc n) = does_nothing (field ++ (bytes_of n).cells)
@@ -186,7 +192,7 @@ bytes_of (suc n) = does_nothing (field ++ (bytes_of n).cells)
 abbrev pub of_word : Sort → ℕ → Instruction
 of_word sort n = record { template = bytes_of 1; words = is_filled n; field = 0; width = 4; sort = sort; numbers = n ∷ []; partners = []; conditions = [] }
 
--- a run of words of that kind, the first of them with its relocation type, each further one with its partner's
+-- a run of words of that kind; the first has its relocation type, each further word that of its partner
 abbrev pub of_words : runs.Template → ℕ → Sort → ℕ → List Condition → List Partner → Instruction
 of_words run words sort number conditions partners = record {
   template = bytes_of words;
@@ -199,11 +205,11 @@ of_words run words sort number conditions partners = record {
   conditions = conditions;
 }
 
--- a further word, n bytes behind the first, whose field has so many bytes
+-- a further word, n bytes after the first, whose field has that many bytes
 abbrev pub by_word : ℕ → ℕ → ℕ → Partner
 by_word n width number = record { field = n; width = width; numbers = number ∷ []; names = SameSymbol }
 
--- a descriptor's call, the slot of an offset, and an address (aaelf64, "Relocation operations": instructions that belong together)
+-- a descriptor call, the slot of an offset, and an address (aaelf64, "Relocation operations": instructions that belong together)
 abbrev pub descriptor_call_words : Instruction
 descriptor_call_words =
     of_words kinds.DescriptorCall 4 OffsetInSlot r_aarch64_tlsdesc_adr_page21 [] (by_word 4 4 r_aarch64_tlsdesc_ld64_lo12 ∷ by_word 8 4 r_aarch64_tlsdesc_add_lo12 ∷ by_word 12 0 r_aarch64_tlsdesc_call ∷ [])

@@ -1,11 +1,11 @@
--- What stands in the global offset table, and where (x86-64 psABI, "Global Offset Table (GOT)"; thread-local slots: "ELF Handling
--- For Thread-Local Storage", "TLS Access Models").
+-- The content and place of GOT slots (x86-64 psABI, "Global Offset Table (GOT)"; thread-local slots: "ELF Handling For
+-- Thread-Local Storage", "TLS Access Models").
 --   HasWord m g x         the word at an address is x
---   IsPair w m g t        the module and the offset in the two words at an address stand for t
---   HoldsSlot sort ..     what stands at an address is what a slot of that sort has of symbol i
---   behind_first sort f   how far behind the first slot of a symbol with these flags its slot of that sort stands
+--   IsPair w m g t        the module and the offset in the two words at an address represent the thread-pointer offset t
+--   HoldsSlot sort ..     memory at an address holds what a slot of that sort holds for symbol i
+--   behind_first sort f   the distance from the first slot of a symbol with these flags to its slot of that sort
 --   HasSlot sort l i p    the layout has the slot of that sort of symbol i at p
---   IsSlot sort ..        g is the loaded address of that slot of a reference's symbol, which has what it is to have
+--   IsSlot sort ..        g is the loaded address of that slot of a reference's symbol, and its content is right
 use Rattle.std.specs.Prelude.{◌≡◌, ℕ, ◌+◌, ◌%◌, ◌^◌, ◌||◌, if◌then◌else◌, Option, Some, None, Ok}
 use Rattle.wild_reloc.specs.Formula.{Slot, AddressSlot, ModulePair, OwnModulePair, ThreadOffset, Descriptor}
 use Rattle.wild_types.specs.declared.symbol.ValueFlags.{ValueFlags}
@@ -25,7 +25,7 @@ use Rattle.wild_meaning.specs.Thread.{HasThreadOffset, IsOffsetBase}
 abbrev pub HasWord : Memory → ℕ → ℕ → Type 0
 HasWord m g x = number_in m g 8 ≡ Some x
 
--- a module, and behind it an offset in that module's thread-local data: they stand for the offset t from the thread pointer
+-- a module, followed by an offset in that module's thread-local data; together they represent the thread-pointer offset t
 pub record IsPair (w : World) (m : Memory) (g t : ℕ) : Type 0 where
   pub owner : ℕ
   pub first : HasWord m g owner
@@ -35,14 +35,14 @@ pub record IsPair (w : World) (m : Memory) (g t : ℕ) : Type 0 where
   pub known : distance_of w owner ≡ Ok distance
   pub sum : t ≡ (distance + offset) % 2 ^ 64
 
--- the pair of the output's own module stands for what its offsets count from
+-- the pair of the output's own module represents the base of its offsets
 pub record IsOwnPair (l : Layout) (w : World) (m : Memory) (g : ℕ) : Type 0 where
   pub begin : ℕ
   pub counted : IsOffsetBase l.machine l.kind w begin
   pub pair : IsPair w m g begin
 
--- a slot has an address that stands for symbol i, or its offset from the thread pointer; a pair, or the descriptor that the
--- loader noted, stands for that offset
+-- A slot holds an address that represents symbol i, or its thread-pointer offset. A pair, or the descriptor that the loader
+-- noted, represents that offset.
 abbrev pub HoldsSlot : Slot → Layout → World → Memory → ℕ → ℕ → Type 0
 HoldsSlot AddressSlot l w m i g = (a : ℕ) × HasWord m g a × Denotes l w m i a
 HoldsSlot ThreadOffset l w m i g = (t : ℕ) × HasWord m g t × HasThreadOffset l w i t
@@ -50,17 +50,17 @@ HoldsSlot ModulePair l w m i g = (t : ℕ) × IsPair w m g t × HasThreadOffset 
 HoldsSlot OwnModulePair l w m i g = IsOwnPair l w m g
 HoldsSlot Descriptor l w m i g = (t : ℕ) × (first_value m.descriptors g ≡ Some t) × HasThreadOffset l w i t
 
--- ---- where a slot stands
+-- ---- places of slots
 
--- how far behind a symbol's first slot the one of that sort stands: its offset is the first word; a pair stands behind it, and a
--- descriptor behind both. Of two words for an address the first is the stub's, and references take the second
+-- The distance from a symbol's first slot to the one of that sort. The offset is first, then the pair, then the descriptor. If
+-- there are two words for an address, the first is the stub's, and references use the second.
 abbrev pub behind_first : Slot → ValueFlags → ℕ
 behind_first AddressSlot f = if has_flag f ifunc_got_for_address || has_flag f canonical_plt_got_for_address then 8 else 0
 behind_first ModulePair f = if has_flag f got_tls_offset then 8 else 0
 behind_first Descriptor f = (if has_flag f got_tls_offset then 8 else 0) + (if has_flag f got_tls_module then 16 else 0)
 behind_first other f = 0
 
--- p is the address that the layout has for the slot of that sort of symbol i's definition
+-- p is the address in the layout of the slot of that sort of symbol i's definition
 pub record IsDecidedSlot (sort : Slot) (l : Layout) (i p : ℕ) : Type 0 where
   pub definition : ℕ
   pub defined : IsDefinedBy l i definition
@@ -72,19 +72,19 @@ pub record IsDecidedSlot (sort : Slot) (l : Layout) (i p : ℕ) : Type 0 where
   pub given : resolution.got_address ≡ Some first
   pub place : p ≡ first + behind_first sort symbol.flags
 
--- the pair of the output's own module stands once, for all symbols
+-- all symbols share one pair of the output's own module
 abbrev pub HasSlot : Slot → Layout → ℕ → ℕ → Type 0
 HasSlot OwnModulePair l i p = l.tlsld ≡ Some p
 HasSlot sort l i p = IsDecidedSlot sort l i p
 
--- g is the loaded address of the slot of that sort of symbol i, the only one, and memory has there what such a slot has
+-- g is the loaded address of symbol i's only slot of that sort, and memory holds there what such a slot holds
 pub record IsSlotOf (sort : Slot) (l : Layout) (w : World) (m : Memory) (i g : ℕ) : Type 0 where
   pub slot : ℕ
   pub given : HasSlot sort l i slot
   pub moves : g ≡ (w.base + slot) % 2 ^ 64
   pub holds : HoldsSlot sort l w m i g
 
--- g is G, for the symbol of a reference; without a symbol there is none
+-- g is G, for the symbol of a reference; there is none without a symbol
 abbrev pub IsSlot : Slot → Layout → World → Memory → Option ℕ → ℕ → Type 0
 IsSlot sort l w m None g = ⊥
 IsSlot sort l w m (Some i) g = IsSlotOf sort l w m i g

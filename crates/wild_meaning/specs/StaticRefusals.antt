@@ -1,9 +1,9 @@
--- What is refused of the worked program without a dynamic linker, in its world.
+-- Images of the worked program without a dynamic linker that are refused in its world.
 --   StaticPieWorldIsLegal   the world is legal
---   WrongDataAreRefused     an address that does not move, an offset that does, the beginning of the program
---   WrongCodeIsRefused      a branch, a load and a sequence that do something else
+--   WrongDataAreRefused     an address that does not move, an offset that does, a wrong entry
+--   WrongCodeIsRefused      a branch, a load and a sequence with another effect
 --   WrongBlankIsRefused     a byte that is not 0 in a section without data
---   StaticImageIsLinked     and an image that is linked
+--   StaticImageIsLinked     an image that is linked
 use Rattle.std.specs.Prelude.{◌≢◌, ℕ, ◌-◌, ◌^◌, false, List, [], ◌∷◌, None}
 use Rattle.wild_records.specs.Abi.Section.{sht_progbits}
 use Rattle.wild_records.specs.FileHeader.{file_header_at}
@@ -41,16 +41,16 @@ another_branch = 0xe8 ∷ 0x0b ∷ 0x02 ∷ 0 ∷ 0 ∷ []
 abbrev pub load_past : List ℕ
 load_past = 0x48 ∷ 0x8d ∷ 0x05 ∷ 0xea ∷ 0x01 ∷ 0 ∷ 0 ∷ []
 
--- `mov rax, -8`, a nop, and the call that was there
+-- `mov rax, -8`, a nop, and the original call
 abbrev pub half_sequence : List ℕ
 half_sequence = 0x48 ∷ 0xc7 ∷ 0xc0 ∷ 0xf8 ∷ 0xff ∷ 0xff ∷ 0xff ∷ 0x90 ∷ 0x66 ∷ 0x66 ∷ 0x48 ∷ 0xe8 ∷ 0xf0 ∷ 0x01 ∷ 0 ∷ 0 ∷ []
 
--- `lea rax, [rip + descriptor]`, where the offset itself is asked
+-- `lea rax, [rip + descriptor]`, where the offset itself is required
 abbrev pub descriptor_load : List ℕ
 descriptor_load = 0x48 ∷ 0x8d ∷ 0x05 ∷ 0xd1 ∷ 0x0f ∷ 0 ∷ 0 ∷ []
 
--- a branch to another symbol; a load that was rewritten to one byte past the symbol; a sequence of which the first instruction was
--- rewritten, and the call left; a descriptor's address where its offset is asked
+-- Refused are a branch to another symbol; a load rewritten to one byte past the symbol; a sequence whose first instruction is
+-- rewritten but whose call remains; and a descriptor's address where its offset is required.
 pub record WrongCodeIsRefused : Type 0 where
   pub branch : Refuses static_pie static_pie_world (Has 0x41000 another_branch)
   pub load : Refuses static_pie static_pie_world (Has 0x41010 load_past)
@@ -74,6 +74,6 @@ padded = record static_pie {
 abbrev pub WrongBlankIsRefused : Type 0
 WrongBlankIsRefused = Refuses padded static_pie_world (HasWrongByte 0x41104 0)
 
--- an image is linked in the world, so none of this is refused for want of one
+-- an image is linked in the world, so the refusals are not vacuous
 abbrev pub StaticImageIsLinked : Type 0
 StaticImageIsLinked = IsLinked static_pie static_pie_world static_image

@@ -1,8 +1,8 @@
--- Strings that were merged: what S is in a reference to a section of them (gABI, "Section Header": SHF_MERGE, SHF_STRINGS).
---   HasStrings l i strings   symbol i stands for a section whose strings were merged
---   NamesStrings l r         a reference names such a symbol
---   IsStringAt strings x s   byte x of the section is of string s
---   IsString l w r a         a and the reference's addend make the place of the string that they name
+-- Merged strings: S in a reference to a section of them (gABI, "Section Header": SHF_MERGE, SHF_STRINGS).
+--   HasStrings l i strings   symbol i is that of a section whose strings were merged
+--   NamesStrings l r         the symbol of a reference is such a symbol
+--   IsStringAt strings x s   byte x of the section belongs to string s
+--   IsString l w r a         a plus the reference's addend is the address of the string
 use Rattle.std.specs.Prelude.{◌≡◌, ℕ, ◌+◌, ◌-◌, ◌%◌, ◌^◌, ◌<◌, ◌≤◌, true, false, List, ◌∷◌, ◌++◌, All, Some, slice_get}
 use Rattle.std.specs.Int.{w64, cast_unsigned}
 use Rattle.wild_records.specs.Abi.Symbol.{stt_section}
@@ -18,7 +18,7 @@ use Rattle.wild_types.specs.Flags.{absolute, dynamic, ifunc, non_interposable, u
 use Rattle.wild_loader.specs.declared.world.World.{World}
 use Rattle.wild_meaning.specs.Value.{IsSymbol, IsOwnFile, HasFlag}
 
--- the value is the output's own, and moves with it
+-- the value is the output's own, and moves with the base
 pub record IsPlainOwn (l : Layout) (i : ℕ) : Type 0 where
   pub own : HasFlag l i non_interposable true
   pub here : HasFlag l i dynamic false
@@ -26,7 +26,8 @@ pub record IsPlainOwn (l : Layout) (i : ℕ) : Type 0 where
   pub plain : HasFlag l i ifunc false
   pub defined : HasFlag l i undefined_weak false
 
--- the symbol stands for its section (gABI, "Symbol Table": STT_SECTION), an input section of its own file whose strings were merged
+-- the symbol is a section symbol (gABI, "Symbol Table": STT_SECTION) of an input section of its own file whose strings were
+-- merged
 pub record HasStrings (l : Layout) (i : ℕ) (strings : List MergedString) : Type 0 where
   pub plain : IsPlainOwn l i
   pub symbol : Symbol
@@ -41,14 +42,14 @@ pub record HasStrings (l : Layout) (i : ℕ) (strings : List MergedString) : Typ
   pub merged : section.slot ≡ slot.Merge
   pub is : strings ≡ section.strings
 
--- a reference names such a symbol
+-- the symbol of a reference is such a symbol
 pub record NamesStrings (l : Layout) (r : InputRelocation) : Type 0 where
   pub symbol : ℕ
   pub named : r.symbol ≡ Some symbol
   pub strings : List MergedString
   pub has : HasStrings l symbol strings
 
--- the last string that begins at byte x or before it
+-- the last string that starts at or before byte x
 pub record IsStringAt (strings : List MergedString) (x : ℕ) (s : MergedString) : Type 0 where
   pub ahead : List MergedString
   pub behind : List MergedString
@@ -56,11 +57,11 @@ pub record IsStringAt (strings : List MergedString) (x : ℕ) (s : MergedString)
   pub begins : s.offset ≤ x
   pub last : All (λ (t : MergedString). x < t.offset) behind
 
--- the byte of the section that a symbol's value and the addend name, without a sign
+-- the byte of the section given by the symbol's value plus the addend, as an unsigned number
 abbrev pub byte_named : Symbol → InputRelocation → ℕ
 byte_named s r = (s.value + cast_unsigned w64 r.addend) % 2 ^ 64
 
--- a and the addend make the loaded place of that byte: as far behind its string's as it is in the input
+-- a plus the addend is the loaded address of that byte, at the same distance from its string's start as in the input
 pub record IsString (l : Layout) (w : World) (r : InputRelocation) (a : ℕ) : Type 0 where
   pub symbol : ℕ
   pub named : r.symbol ≡ Some symbol

@@ -1,9 +1,9 @@
--- The words of AArch64 code that relocations fill; which instruction a word is, and what it does, is told by `wild_aarch64`.
---   is_filled n ws    the words are one that a relocation type fills, and what it does is told
---   filled_numbers    the relocation types that fill one word alone
---   is_run t ns ws    the words are a run of a kind, each one that its relocation type fills
+-- The words of AArch64 code that relocations fill. `wild_aarch64` says which instruction a word is, and what it does.
+--   is_filled n ws    the words are one that a relocation type fills, and their meaning is known
+--   filled_numbers    the relocation types that fill a single word
+--   is_run t ns ws    the words form a run of a kind, and each is one that its relocation type fills
 --   with_field v w    the word with those bits in its field
---   effect_with ..    what words are to do with those bits in their fields
+--   effect_with ..    the effect that words require, with those bits in their fields
 use Rattle.std.specs.Prelude.{ℕ, Bool, true, false, ◌&&◌, ◌||◌, not, ◌==◌, if◌then◌else◌, List, [], ◌∷◌, map, Option, Some, None, option_and_then}
 use Rattle.std.specs.List.{list_all, filter}
 use Rattle.wild_records.specs.Abi.Relocation.{r_aarch64_jump26, r_aarch64_call26}
@@ -30,12 +30,13 @@ abbrev pub is_told : Option run-action.Action → Bool
 is_told None = false
 is_told (Some act) = true
 
--- the words are of the forms that a relocation type fills, and what they do is told, whatever their fields have; of `movn` nothing is told
+-- the words have a form that the relocation type fills, and their meaning is known for every content of the fields; `movn` has no
+-- meaning here
 abbrev pub is_filled : ℕ → List ℕ → Bool
 is_filled n ws = list_all (is_of (forms_filled n)) ws && is_told (run (shapes ws) 0 [])
 
--- the word is of one of the forms, or there is none: the call through a descriptor has no field (aaelf64, "Relocations for thread-local
--- storage": R_AARCH64_TLSDESC_CALL)
+-- the word has one of the forms, or there are no forms: the call through a descriptor has no field (aaelf64, "Relocations for
+-- thread-local storage": R_AARCH64_TLSDESC_CALL)
 abbrev pub may_be_of : List Form → ℕ → Bool
 may_be_of [] w = true
 may_be_of fs w = is_of fs w
@@ -46,11 +47,12 @@ are_filled [] [] = true
 are_filled (n ∷ ns) (w ∷ ws) = may_be_of (forms_filled n) w && are_filled ns ws
 are_filled ns ws = false
 
--- the words are a run of that kind, for the register that the second one sets, with those relocation types, and what it does is told
+-- the words form a run of that kind, for the register that the second word sets, with those relocation types, and their meaning
+-- is known
 abbrev pub is_run : Template → List ℕ → List ℕ → Bool
 is_run t ns ws = are_filled ns ws && (begins (codes_of t (register_in ws)) (map read ws) && is_told (run (shapes ws) 0 []))
 
--- the relocation types that fill words, those of branches to code aside, which go to what stands for a symbol
+-- the relocation types that fill words, except for branches to code, which go to an address that represents a symbol
 abbrev pub filled_numbers : List ℕ
 filled_numbers = filter (λ n. not (n == r_aarch64_jump26 || n == r_aarch64_call26)) (map (λ e. e.0) filled_forms)
 
@@ -62,11 +64,11 @@ with_field_of (f ∷ fs) v w = if stands f.fixed w then inserted f.field v w els
 abbrev pub with_field : ℕ → ℕ → ℕ
 with_field v w = with_field_of forms v w
 
--- numbers read as themselves; nothing else is read
+-- numbers read as themselves; other operands have no value
 abbrev pub reads_numbers : Reader
 reads_numbers (Number n) = Some n
 reads_numbers other = None
 
--- what the code of those bytes is to do at an address with those bits in its words' fields
+-- the effect that these bytes of code require at an address, with those bits in their words' fields
 abbrev pub effect_with : ℕ → ℕ → List ℕ → Option Effect
 effect_with v a bs = option_and_then (effect reads_numbers) (option_and_then action_of (meaning a (map (with_field v) (words_of bs))))

@@ -1,12 +1,12 @@
--- What the worked layouts are made of.
---   given flags raw size index got plt   a symbol with these flags, of which that was decided
+-- The building blocks of the worked layouts.
+--   given flags raw size index got plt   a symbol with these flags and this resolution
 --   reference offset number symbol add   a relocation
 --   input address flags bytes rs         an input section with data
---   blank address size                   one without
+--   blank address size                   an input section without data
 --   loaded address file_size mem_size    a segment that is loaded
---   dynamic_at address size              that of a dynamic section
---   one_file file                        the groups of one file
---   Refuses l w Wrong                    no image of a layout is linked in a world where memory is wrong in that way
+--   dynamic_at address size              the segment of a dynamic section
+--   one_file file                        the groups of a single file
+--   Refuses l w Wrong                    no image of a layout is linked in a world if memory is wrong in that way
 use Rattle.std.specs.Prelude.{ℕ, ℤ, true, false, List, [], ◌∷◌, length, Option, Some, None}
 use Rattle.wild_records.specs.Abi.Segment.{pt_load, pt_dynamic}
 use Rattle.wild_types.specs.declared.section.Segment.{Segment}
@@ -24,7 +24,7 @@ use Rattle.wild_loader.specs.declared.memory.Memory.{Memory}
 use Rattle.wild_loader.specs.declared.world.World.{World}
 use Rattle.wild_meaning.specs.Linked.{IsLinked}
 
--- a symbol with these flags, of which that was decided
+-- a symbol with these flags and this resolution
 abbrev pub given : ℕ → ℕ → ℕ → Option ℕ → Option ℕ → Option ℕ → Symbol
 given flags raw size index got plt = record {
   name = [];
@@ -107,7 +107,7 @@ blank address size = record {
   relocations = [];
 }
 
--- the groups of one file, an object with these sections
+-- the groups of a single file, an object with these sections
 abbrev pub one_file : List InputSection → List Group
 one_file sections = group_of (file_of file_role.Object sections [] ∷ []) ∷ []
 
@@ -124,10 +124,10 @@ loaded address file_size mem_size = record {
   align = 0x1000;
 }
 
--- one that has the dynamic section
+-- a segment with the dynamic section
 abbrev pub dynamic_at : ℕ → ℕ → Segment
 dynamic_at address size = record (loaded address size size) { kind = pt_dynamic; flags = 6; align = 8 }
 
--- no image of the layout is linked in the world where memory is wrong in that way
+-- no image of the layout is linked in the world if memory is wrong in that way
 abbrev pub Refuses : Layout → World → (Memory → Type 0) → Type 0
 Refuses l w Wrong = (image : List ℕ) (h : IsLinked l w image) → Wrong h.memory → ⊥

@@ -1,6 +1,6 @@
--- A worked program of AArch64 that is loaded at its own addresses: code with addresses in two instructions, of which one stays, a load from a
--- slot, branches, one of them by a thunk, and a descriptor's call.
---   address_item ..   what is asked of its input sections
+-- A worked AArch64 program that is loaded at its own addresses. It has addresses in two instructions, one of which is kept, a
+-- load from a slot, branches, one of them through a thunk, and a descriptor call.
+--   address_item ..   the required content of its input sections
 --   words_static      the layout
 --   words_world       its world
 use Rattle.std.specs.Prelude.{[], ◌∷◌, Some, None, true}
@@ -47,7 +47,7 @@ slot_low_reference = reference 4 r_aarch64_ld64_got_lo12_nc 0 (pos 0)
 abbrev pub slot_code : InputSection
 slot_code = input 0x11010 6 (0 ∷ 0 ∷ 0 ∷ 0x90 ∷ 0 ∷ 0 ∷ 0x40 ∷ 0xf9 ∷ []) (slot_page_reference ∷ slot_low_reference ∷ [])
 
--- `bl` to the function, and `bl` to the instruction behind its first one, with `ret` behind
+-- `bl` to the function, and `bl` to the instruction after its first one, followed by `ret`
 abbrev pub call_reference : InputRelocation
 call_reference = reference 0 r_aarch64_call26 0 (pos 0)
 
@@ -77,7 +77,7 @@ abbrev pub descriptor_code : InputSection
 descriptor_code =
     input 0x11030 6 (0 ∷ 0 ∷ 0 ∷ 0x90 ∷ 0x01 ∷ 0 ∷ 0x40 ∷ 0xf9 ∷ 0 ∷ 0 ∷ 0 ∷ 0x91 ∷ 0x20 ∷ 0 ∷ 0x3f ∷ 0xd6 ∷ []) (descriptor_page ∷ descriptor_load ∷ descriptor_low ∷ descriptor_call ∷ [])
 
--- `adrp x0; add x0, x0`, which stays
+-- `adrp x0; add x0, x0`, which is kept
 abbrev pub kept_code : InputSection
 kept_code = input 0x11040 6 (0 ∷ 0 ∷ 0 ∷ 0x90 ∷ 0 ∷ 0 ∷ 0 ∷ 0x91 ∷ []) (page_reference ∷ low_reference ∷ [])
 

@@ -1,7 +1,7 @@
--- A worked program that is loaded anywhere, with a symbol of a library that is copied into it.
---   copied_bytes     what the library has of the symbol
+-- A worked program that can be loaded at any base, with a library's symbol that is copied into it.
+--   copied_bytes     the library's bytes of the symbol
 --   copying          the layout
---   copying_world    a world with base 0x20000, whose bytes to be copied are not all 0
+--   copying_world    a world with base 0x20000, in which the bytes to copy are not all 0
 use Rattle.std.specs.Prelude.{ℕ, List, [], ◌∷◌, Some, None}
 use lib.IntN.{pos}
 use Rattle.wild_records.specs.Abi.Relocation.{r_x86_64_64}
@@ -24,7 +24,7 @@ use Rattle.wild_meaning.specs.Worked.{given, reference, input, blank, file_of, g
 abbrev pub copied_symbol : Symbol
 copied_symbol = given 0x402 0x3100 8 (Some 1) None None
 
--- where the program begins (NON_INTERPOSABLE)
+-- the program's entry (NON_INTERPOSABLE)
 abbrev pub start_symbol : Symbol
 start_symbol = given 8 0x1100 0 None None None
 
@@ -35,7 +35,7 @@ copying_data = input 0x1000 3 (0 ∷ 0 ∷ 0 ∷ 0 ∷ 0 ∷ 0 ∷ 0 ∷ 0 ∷ [
 abbrev pub copying_item : Item
 copying_item = item_with 0 copying_data
 
--- data that are 0, behind file bytes; the copied symbol stands in them
+-- zero data after file bytes, which contain the copied symbol
 abbrev pub copying_blank : InputSection
 copying_blank = blank 0x3000 0x200
 
@@ -45,7 +45,7 @@ copying_object = file_of file_role.Object (copying_data ∷ copying_blank ∷ []
 abbrev pub copying_library : File
 copying_library = file_of file_role.Dynamic [] (0 ∷ [])
 
--- the room of the data that are 0
+-- the segment of the zero data
 abbrev pub copying_room : Segment
 copying_room = record (loaded 0x3000 0 0x200) { offset = 0x1000 }
 
@@ -60,14 +60,14 @@ copying = record empty_layout {
   entry = Some (entry.Symbol 1);
 }
 
--- what the library has of the symbol
+-- the library's bytes of the symbol
 abbrev pub copied_bytes : List ℕ
 copied_bytes = 1 ∷ 2 ∷ 3 ∷ 4 ∷ 5 ∷ 6 ∷ 7 ∷ 8 ∷ []
 
 abbrev pub null_answer : Answer
 null_answer = record { address = 0; «module» = 1; offset = 0; size = 0; bytes = [] }
 
--- the symbol is the program's own, at its place there
+-- the symbol is the program's own, at its address there
 abbrev pub copied_answer : Answer
 copied_answer = record { address = 0x23100; «module» = 1; offset = 0x3100; size = 8; bytes = copied_bytes }
 

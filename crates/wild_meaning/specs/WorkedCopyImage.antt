@@ -1,6 +1,6 @@
 -- An image of the worked program with a copied symbol, which is right at one base.
 --   copying_image    the image
---   copying_memory   the memory that a loader makes of it
+--   copying_memory   the memory into which a loader turns it
 use Rattle.std.specs.Prelude.{ℕ, List, [], ◌∷◌, ◌++◌, replicate}
 use Rattle.wild_words.specs.Record.{spell}
 use Rattle.wild_records.specs.Abi.Header.{elfmag, elfclass64, elfdata2lsb, et_dyn, em_x86_64}
@@ -36,7 +36,7 @@ copying_header = record {
   name_table = 0;
 }
 
--- the data, what has no file bytes, and the dynamic section
+-- the data, the part without file bytes, and the dynamic section
 abbrev pub copying_first : ProgramHeader
 copying_first = record { kind = pt_load; flags = 7; offset = 0x1000; address = 0x1000; physical = 0x1000; file_size = 0x80; mem_size = 0x80; align = 0x1000 }
 
@@ -63,7 +63,7 @@ copying_tables =
     ∷ 0 ∷ 0 ∷ 0 ∷ 0 ∷ 0 ∷ 0 ∷ 0 ∷ 0 ∷ 0 ∷ 0 ∷ 0 ∷ 0 ∷ 0 ∷ 0 ∷ 0 ∷ 0
     ∷ []
 
--- what stands behind the file header: the program headers, and a page from the file header on the data and the tables
+-- the bytes after the file header: the program headers and, a page after the file header, the data and the tables
 abbrev pub copying_rest : List ℕ
 copying_rest = spell (program_header_fields copying_first) ++ (spell (program_header_fields copying_second) ++ (spell (program_header_fields copying_third) ++ (replicate 3864 0 ++ (copying_words ++ copying_tables))))
 

@@ -1,7 +1,7 @@
 -- An image of the worked program without a dynamic linker, which is right at one base.
 --   static_content   its code and data
 --   static_image     the image
---   static_memory    the memory that a loader makes of it
+--   static_memory    the memory into which a loader turns it
 use Rattle.std.specs.Prelude.{ℕ, List, [], ◌∷◌, ◌++◌, replicate}
 use Rattle.wild_words.specs.Record.{spell}
 use Rattle.wild_records.specs.Abi.Header.{elfmag, elfclass64, elfdata2lsb, et_dyn, em_x86_64}
@@ -40,7 +40,7 @@ static_header = record {
 abbrev pub static_segment : ProgramHeader
 static_segment = record { kind = pt_load; flags = 7; offset = 0x1000; address = 0x1000; physical = 0x1000; file_size = 0x110; mem_size = 0x110; align = 0x1000 }
 
--- `call first`; `lea rax, [rip + first]`; `mov rax, fs:0` and `lea rax, [rax - 8]`; `mov rax, -8`; and behind them the address of the
+-- `call first`; `lea rax, [rip + first]`; `mov rax, fs:0` and `lea rax, [rax - 8]`; `mov rax, -8`; followed by the address of the
 -- second function at base 0x40000, and the offset
 abbrev pub static_content : List ℕ
 static_content =
@@ -63,8 +63,8 @@ static_content =
     ∷ 0x10 ∷ 0x12 ∷ 0x04 ∷ 0 ∷ 0 ∷ 0 ∷ 0 ∷ 0 ∷ 0xf8 ∷ 0xff ∷ 0xff ∷ 0xff ∷ 0xff ∷ 0xff ∷ 0xff ∷ 0xff
     ∷ []
 
--- what stands behind the file header: the program header, and a page from the file header on the content; it has no entry that moves a
--- word, so the image is right at one base
+-- the bytes after the file header: the program header and, a page after the file header, the content. It has no relocation entry,
+-- so the image is right at one base only.
 abbrev pub static_rest : List ℕ
 static_rest = spell (program_header_fields static_segment) ++ (replicate 3976 0 ++ static_content)
 

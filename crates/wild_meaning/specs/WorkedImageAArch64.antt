@@ -1,7 +1,7 @@
 -- An image of the worked program of AArch64.
 --   words_content   its code and its slot
 --   words_image     the image
---   words_memory    the memory that a loader makes of it
+--   words_memory    the memory into which a loader turns it
 use Rattle.std.specs.Prelude.{ℕ, List, [], ◌∷◌, ◌++◌, replicate}
 use Rattle.wild_words.specs.Record.{spell}
 use Rattle.wild_records.specs.Abi.Header.{et_exec, em_aarch64}
@@ -36,7 +36,7 @@ words_content =
     ∷ 0 ∷ 0x12 ∷ 0x01 ∷ 0 ∷ 0 ∷ 0 ∷ 0 ∷ 0
     ∷ []
 
--- what stands behind the file header: the program header, and a page from the file header on the content
+-- the bytes after the file header: the program header and, a page after the file header, the content
 abbrev pub words_rest : List ℕ
 words_rest = spell (program_header_fields words_segment) ++ (replicate 3976 0 ++ words_content)
 

@@ -1,6 +1,6 @@
--- A worked shared object: an own symbol, one that others may define, own thread-local data and those of another module, a slot of
--- each sort, and a world in which other modules have what others may define.
---   shared_data, shared_item   its data, and what is asked of them
+-- A worked shared object with an own symbol, an interposable one, own thread-local data and those of another module, and a slot
+-- of each sort. In its world other modules have definitions of the interposable symbols.
+--   shared_data, shared_item   its data, and their required content
 --   shared_code, code_item     its code
 --   shared                     the layout
 --   shared_world               a world with base 0x10000, where it is module 2
@@ -22,7 +22,7 @@ use Rattle.wild_meaning.specs.Worked.{given, reference, input, one_file, loaded,
 abbrev pub own_symbol : Symbol
 own_symbol = given 0x28 0x1100 8 None (Some 0x2000) None
 
--- one of its own that others may define, with a slot (EXPORT_DYNAMIC, GOT)
+-- an own symbol that is interposable, with a slot (EXPORT_DYNAMIC, GOT)
 abbrev pub open_symbol : Symbol
 open_symbol = given 0x820 0x1110 16 (Some 1) (Some 0x2008) None
 
@@ -77,7 +77,7 @@ shared_code = input 0x1080 6 (0x48 ∷ 0x8d ∷ 0x05 ∷ 0 ∷ 0 ∷ 0 ∷ 0 ∷
 abbrev pub code_item : Item
 code_item = item_with 0 shared_code
 
--- the layout: data and code from 0x1000 on, slots at 0x2000, the dynamic section behind them, thread-local data from 0x3000 to 0x3010
+-- the layout: data and code from 0x1000 on, slots at 0x2000, then the dynamic section, thread-local data from 0x3000 to 0x3010
 abbrev pub shared : Layout
 shared = record empty_layout {
   kind = output.SharedObject;
@@ -90,12 +90,12 @@ shared = record empty_layout {
   groups = one_file (shared_data ∷ shared_code ∷ []);
 }
 
--- what other modules have: data in module 3, and thread-local data in module 4
+-- definitions in other modules: data in module 3, and thread-local data in module 4
 abbrev pub answered : ℕ → ℕ → ℕ → ℕ → Answer
 answered address owner offset size = record { address = address; «module» = owner; offset = offset; size = size; bytes = [] }
 
--- a world with base 0x10000, where the output is module 2, module 3 has the symbol that others may define, with another size, and
--- module 4 the thread-local data
+-- a world with base 0x10000: the output is module 2, module 3 has the interposable symbol, with another size, and module 4 has
+-- the thread-local data
 abbrev pub shared_world : World
 shared_world = record {
   base = 0x10000;

@@ -1,6 +1,6 @@
--- A worked program without a dynamic linker that is loaded anywhere: code with a branch, a load from a slot, a thread-local sequence and
--- a descriptor, and data with an address and an offset.
---   branch_item ..      what is asked of its input sections
+-- A worked program without a dynamic linker that can be loaded at any base. Its code has a branch, a load from a slot, a
+-- thread-local sequence and a descriptor; its data have an address and an offset.
+--   branch_item ..      the required content of its input sections
 --   static_pie          the layout
 --   static_pie_world    a world with base 0x40000
 use Rattle.std.specs.Prelude.{[], ◌∷◌, Some, None, true}
@@ -31,7 +31,7 @@ second_function = given 8 0x1210 8 None None None
 abbrev pub thread_symbol : Symbol
 thread_symbol = given 0x308 0x3008 8 None (Some 0x2008) None
 
--- the function that gives thread addresses
+-- the function that returns thread-local addresses
 abbrev pub getter_symbol : Symbol
 getter_symbol = record (given 8 0x1220 8 None None None) { name = tls_get_addr }
 
@@ -99,6 +99,6 @@ static_pie = record empty_layout {
   entry = Some (entry.Address 0x1000);
 }
 
--- a world with base 0x40000; the thread pointer is behind the thread-local data
+-- a world with base 0x40000; the thread pointer is after the thread-local data
 abbrev pub static_pie_world : World
 static_pie_world = record { base = 0x40000; symbols = []; resolvers = []; modules = (1, negsuc 15) ∷ []; own_module = 1 }

@@ -1,8 +1,8 @@
--- A worked program with merged strings, and with words that stand in reverse order.
+-- A worked program with merged strings, and with words that are written in reverse order.
 --   pointer_item   an address of a byte in the middle of a string
---   turned_item    two words, of which the input has the address first
+--   turned_item    two words; in the input the address is first
 --   strung         the layout
---   strung_memory  the memory that a loader makes of it in the world of the program without a dynamic linker
+--   strung_memory  the memory into which a loader turns it in the world of the program without a dynamic linker
 use Rattle.std.specs.Prelude.{[], ◌∷◌, None, true}
 use lib.IntN.{pos}
 use Rattle.wild_records.specs.Abi.Relocation.{r_x86_64_64}
@@ -23,7 +23,7 @@ use Rattle.wild_meaning.specs.Item.{stood_item}
 use Rattle.wild_meaning.specs.Worked.{reference, input, file_of, group_of}
 use Rattle.wild_meaning.specs.WorkedStatic.{static_pie, second_function}
 
--- two strings, which went elsewhere: five bytes of the input from 0 on, and what stands behind them
+-- two strings that were placed elsewhere: five bytes of the input from 0 on, and the bytes after them
 abbrev pub first_string : MergedString
 first_string = record { offset = 0; address = 0x1220 }
 
@@ -44,7 +44,7 @@ string_reference = reference 0 r_x86_64_64 0 (pos 7)
 abbrev pub pointer_data : InputSection
 pointer_data = input 0x1100 3 (0 ∷ 0 ∷ 0 ∷ 0 ∷ 0 ∷ 0 ∷ 0 ∷ 0 ∷ []) (string_reference ∷ [])
 
--- an address, and a word without a relocation; in the output the word stands first
+-- an address, and a word without a relocation; in the output the word is first
 abbrev pub turned_data : InputSection
 turned_data = record (input 0x1110 3 (0 ∷ 0 ∷ 0 ∷ 0 ∷ 0 ∷ 0 ∷ 0 ∷ 0 ∷ 7 ∷ 0 ∷ 0 ∷ 0 ∷ 0 ∷ 0 ∷ 0 ∷ 0 ∷ []) (reference 0 r_x86_64_64 1 (pos 0) ∷ [])) { reversed = true }
 

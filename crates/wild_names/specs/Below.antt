@@ -1,7 +1,7 @@
--- What the laws on look-ups take from the crates below: that an image's tables stand, and are read.
---   RecordLaws   headers and entries of the dynamic section are read as they are written
---   ImageLaws    headers, the dynamic section and all tables stand in an image
---   NameLaws     so do the dynamic symbols and their names
+-- The statements about lower crates on which the laws on look-ups depend: an image contains its tables, and they are read back.
+--   RecordLaws   headers and entries of the dynamic section are read back as they were written
+--   ImageLaws    an image contains the headers, the dynamic section and all tables
+--   NameLaws     it contains the dynamic symbols and their names
 use Rattle.wild_records.specs.Dynamic.{DynamicEntryIsRead}
 use Rattle.wild_records.specs.FileHeader.{FileHeaderIsRead}
 use Rattle.wild_records.specs.ProgramHeader.{ProgramHeaderIsRead}
@@ -10,13 +10,13 @@ use Rattle.wild_layout.specs.Geometry.{LayoutsAreLaidOut, TablesStand}
 use Rattle.wild_loaded.specs.Laws.{HeadersStand, DynamicSectionsStand}
 use Rattle.wild_names.specs.Laws.{SymbolTablesAreThere, SymbolsStand}
 
--- of records
+-- statements about records
 pub record RecordLaws : Type 0 where
   pub headers : FileHeaderIsRead
   pub programs : ProgramHeaderIsRead
   pub dynamics : DynamicEntryIsRead
 
--- of images
+-- statements about images
 pub record ImageLaws : Type 0 where
   pub laid : LayoutsAreLaidOut
   pub stand : TablesStand
@@ -26,7 +26,7 @@ pub record ImageLaws : Type 0 where
   pub found : EntriesAreFound
   pub records : RecordLaws
 
--- and of names
+-- statements about names
 pub record NameLaws : Type 0 where
   pub there : SymbolTablesAreThere
   pub stand : SymbolsStand

@@ -1,9 +1,9 @@
--- What the entries of the symbol tables say where a layout has no faults, and how many local symbols the header of their section
--- tells (gABI, "Symbol Table", "Section Header").
---   TableSymbolsHaveFields    each symbol of the table of all symbols has its fields, and its entry says them
---   ListedSymbolsHaveFields   so does each symbol that other modules see
---   HasOwnInfo l table        no other number is told of the section of the local symbols
---   LocalSymbolsAreCounted    sh_info of that section is how many local symbols there are
+-- The entries of the symbol tables of a layout without faults, and the number of local symbols in their section header (gABI,
+-- "Symbol Table", "Section Header").
+--   TableSymbolsHaveFields    each symbol of .symtab has its fields, and its entry has them
+--   ListedSymbolsHaveFields   the same for each symbol that other modules see
+--   HasOwnInfo l table        sh_info of the local symbols' section has no other meaning
+--   LocalSymbolsAreCounted    sh_info of that section is the number of local symbols
 use Rattle.std.specs.Prelude.{◌≡◌, ◌+◌, ◌*◌, ◌^◌, ◌<◌, ◌≤◌, true, [], length, Contains, Some, Ok, slice_get}
 use Rattle.wild_records.specs.SectionHeader.{section_header_size, section_header_at}
 use Rattle.wild_types.specs.declared.part.Part.{Part}
@@ -32,13 +32,13 @@ use Rattle.wild_names.specs.Laws.{side_symbols}
 abbrev pub entry_with : TableSymbol → TableFields → NamedEntry
 entry_with x fields = record { name = Some (item_name x); local = is_local x; fields = fields }
 
--- a symbol of the table of all symbols lacks nothing: it has its fields, and its entry says them
+-- a symbol of .symtab is complete: it has its fields, and its entry has them
 pub record HasTableFields (l : Layout) (f : File) (x : TableSymbol) : Type 0 where
   pub fields : TableFields
   pub told : table_fields l f x ≡ Ok fields
   pub entry : named_entry l f x ≡ entry_with x fields
 
--- so it is with each symbol that a file of a layout without faults has in that table
+-- this holds for each symbol that a file of a layout without faults has in that table
 abbrev pub TableSymbolsHaveFields : Type 0
 TableSymbolsHaveFields = (l : Layout) → errors l ≡ [] → (g : Group) (f : File) (x : TableSymbol) → Contains l.groups g → Contains g.files f → Contains (file_items l f) x → HasTableFields l f x
 
@@ -46,7 +46,7 @@ TableSymbolsHaveFields = (l : Layout) → errors l ≡ [] → (g : Group) (f : F
 abbrev pub listed_with : DynamicSymbol → SymbolFields → NamedFields
 listed_with d fields = record { name = d.name; fields = fields }
 
--- a symbol that other modules see lacks nothing: the layout has it, it has its fields, and its entry says them
+-- a symbol that other modules see is complete: the layout has it, it has its fields, and its entry has them
 pub record HasListedFields (l : Layout) (d : DynamicSymbol) : Type 0 where
   pub symbol : Symbol
   pub there : slice_get l.symbols d.symbol ≡ Some symbol
@@ -54,21 +54,21 @@ pub record HasListedFields (l : Layout) (d : DynamicSymbol) : Type 0 where
   pub told : listed_fields l d.symbol symbol ≡ Ok fields
   pub entry : listed l d ≡ listed_with d fields
 
--- so it is with each one of a layout without faults, where the output has dynamic symbols
+-- this holds for each one of a layout without faults, if the output has dynamic symbols
 abbrev pub ListedSymbolsHaveFields : Type 0
 ListedSymbolsHaveFields = (l : Layout) → errors l ≡ [] → needs_dynsym l.kind ≡ true → (d : DynamicSymbol) → Contains l.dynsyms d → HasListedFields l d
 
 -- ---- the number of local symbols
 
--- the part stands in a section that is not the first, and neither dynamic symbols nor entries of stubs stand in that section, whose
--- sh_info tells something else
+-- The part is in a section other than section 0. That section has neither dynamic symbols nor entries of stubs, for which sh_info
+-- has another meaning.
 pub record HasOwnInfo (l : Layout) (table : Part) : Type 0 where
   pub some : 1 ≤ table.section
   pub symbols : (p : Part) → part_with role.Dynsym l.parts ≡ Some p → p.section ≡ table.section → ⊥
   pub stubs : (p : Part) → part_with role.RelaPlt l.parts ≡ Some p → p.section ≡ table.section → ⊥
 
--- in the image sh_info of the section of the local symbols is how many of them there are, with the one of zeros: one greater than the
--- index of the last one; of a relocatable object, whose symbols of sections have no names, where there are fewer than 2^32
+-- In the image sh_info of the local symbols' section is their number, including the null symbol: one greater than the index of
+-- the last one. For a relocatable object, whose section symbols have no names, there must be fewer than 2^32.
 abbrev pub LocalSymbolsAreCounted : Type 0
 LocalSymbolsAreCounted = (l : Layout) → IsLaidOut l → (is_partial_link l.kind ≡ true → length (side_symbols l true) < 2 ^ 32) → (table headers : Part) → part_with role.SymtabLocal l.parts ≡ Some table → part_with role.SectionHeaders l.parts ≡ Some headers → HasOwnInfo l table
     → (section_header_at (bytes l) (headers.offset + section_header_size * table.section)).info ≡ length (side_symbols l true)

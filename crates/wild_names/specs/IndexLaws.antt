@@ -1,9 +1,9 @@
--- The longer section indexes in an image (gABI, "Symbol Table", SHT_SYMTAB_SHNDX; "Special Section Indexes", SHN_XINDEX).
---   index_role local     the part of the indexes of the local symbols, or that of the others'
---   side_table l local   what the entries of a side say, each with its index
---   HasIndex ..          index k is that of entry k of its side
+-- The extended section indexes in an image (gABI, "Symbol Table", SHT_SYMTAB_SHNDX; "Special Section Indexes", SHN_XINDEX).
+--   index_role local     the part of the indexes of the local symbols, or of the other symbols
+--   side_table l local   the contents of a side's entries, each with its index
+--   HasIndex ..          index k belongs to entry k of its side
 --   IndexesAreThere ..   each entry of a side has its index, and there are no others
---   LongIndexesStand     so it is in the image of a layout
+--   LongIndexesStand     this holds in the image of a layout
 use Rattle.std.specs.Prelude.{◌≡◌, ℕ, ◌+◌, ◌*◌, Bool, true, false, List, length, Some, slice_get}
 use Rattle.std.specs.List.{flat_map, filter}
 use Rattle.wild_words.specs.Words.{Stands, word}
@@ -21,16 +21,16 @@ use Rattle.wild_layout.specs.Image.{bytes}
 use Rattle.wild_layout.specs.Geometry.{IsLaidOut}
 use Rattle.wild_names.specs.Laws.{said, side_symbols}
 
--- the part of the indexes of the local symbols of the table of all symbols, and that of the others'
+-- the part of the indexes of .symtab's local symbols, or of its other symbols
 abbrev pub index_role : Bool → Role
 index_role true = role.SymtabShndxLocal
 index_role false = role.SymtabShndxGlobal
 
--- what the entries of the local symbols of that table say, or those of the others, group by group, each with its index
+-- the contents of the entries of that table's local symbols, or of its other symbols, in group order, each with its index
 abbrev pub side_table : Layout → Bool → List NamedEntry
 side_table l local = flat_map (λ (g : Group). filter (is_side local) (group_table l g)) l.groups
 
--- index k stands where it is counted, and is that of entry k of its side; it is 0 where st_shndx does not send to it
+-- index k is at its position, and belongs to entry k of its side; it is 0 unless st_shndx is SHN_XINDEX
 pub record HasIndex (l : Layout) (local : Bool) (indexes : Part) (k : ℕ) (n : NamedEntry) : Type 0 where
   pub entry : slice_get (side_symbols l local) k ≡ Some (said n)
   pub index : Stands (bytes l) (indexes.offset + long_index_size * k) (word long_index_size n.fields.long)
@@ -41,6 +41,6 @@ pub record IndexesAreThere (l : Layout) (local : Bool) (indexes : Part) : Type 0
   pub whole : indexes.size ≡ long_index_size * length (side_symbols l local)
   pub each : (k : ℕ) (n : NamedEntry) → slice_get (side_table l local) k ≡ Some n → HasIndex l local indexes k n
 
--- so it is in the image of a layout whose clauses and shares hold, where there is such a part and it is written
+-- this holds in the image of a layout whose clauses and shares hold, if there is such a part and it is written
 abbrev pub LongIndexesStand : Type 0
 LongIndexesStand = (l : Layout) → IsLaidOut l → (local : Bool) (indexes : Part) → part_with (index_role local) l.parts ≡ Some indexes → is_hollow_at l indexes.section ≡ false → IndexesAreThere l local indexes

@@ -1,12 +1,12 @@
 -- The symbol tables of an image and the names in them (gABI, "Symbol Table", "String Table", "Dynamic Section").
---   table_symbols l        the symbols of the table behind the null one, in order, each with its name and what its entry says
---   IsNamed ..             a name stands at an offset of the string table, with a zero behind it
---   HasEntry ..            an entry of the table says that of a symbol, and its name stands where it tells
---   SymbolTablesAreThere   the table and its strings are there
---   SymbolsStand           each symbol has its entry, behind a null one
---   side_symbols l local   what the local entries of the table of all symbols say, or the others
+--   table_symbols l        the symbols of the table after the null one, in order, each with its name and its entry's fields
+--   IsNamed ..             a name is at an offset of the string table, followed by a zero
+--   HasEntry ..            an entry of the table has a symbol's fields, and its name is at the offset in the entry
+--   SymbolTablesAreThere   there is a table, and a string table
+--   SymbolsStand           each symbol has its entry, after a null one
+--   side_symbols l local   the fields of the local entries of .symtab, or of the other entries
 --   TableSymbolsStand      each of them has its entry in the part of its side
---   LibrariesStand         each library's name stands where the dynamic section tells
+--   LibrariesStand         each library's name is at the offset in the dynamic section
 use Rattle.std.specs.Prelude.{◌≡◌, ℕ, ◌+◌, ◌*◌, ◌^◌, ◌<◌, ◌≤◌, Bool, true, false, List, [], ◌∷◌, ◌++◌, length, map, replicate, Option, Some, None, slice_get}
 use Rattle.std.specs.List.{flat_map, filter}
 use Rattle.wild_words.specs.Words.{Stands}
@@ -31,17 +31,17 @@ use Rattle.wild_symbols.specs.TableEntries.{NamedEntry, is_side, group_table}
 use Rattle.wild_layout.specs.Image.{bytes}
 use Rattle.wild_layout.specs.Geometry.{IsLaidOut}
 
--- file by file the symbols that other modules define, and then those that other modules see
+-- in file order the symbols that other modules define, then those that other modules see
 abbrev pub table_symbols : Layout → List NamedFields
 table_symbols l = flat_map (λ (f : File). map (undefined f.role) (undefined_symbols l.symbols f)) (files_of l.groups) ++ map (listed l) l.dynsyms
 
--- the name stands in the image at an offset of the string table, with a zero behind it that the table has too
+-- the name is in the image at an offset of the string table, followed by a zero that is also in the table
 pub record IsNamed (l : Layout) (strings : Part) (at : ℕ) (name : List ℕ) : Type 0 where
   pub small : at < 2 ^ 32
   pub within : at + (length name + 1) ≤ strings.size
   pub stands : Stands (bytes l) (strings.offset + at) (name ++ 0 ∷ [])
 
--- the table is there, and so are its strings, one at least
+-- there are a table and its strings, at least one string
 pub record HasSymbolTables (l : Layout) : Type 0 where
   pub table : Part
   pub symbols : part_with role.Dynsym l.parts ≡ Some table
@@ -49,32 +49,32 @@ pub record HasSymbolTables (l : Layout) : Type 0 where
   pub names : part_with role.Dynstr l.parts ≡ Some strings
   pub some : 1 ≤ strings.size
 
--- so it is where the output has dynamic symbols
+-- this holds if the output has dynamic symbols
 abbrev pub SymbolTablesAreThere : Type 0
 SymbolTablesAreThere = (l : Layout) → IsLaidOut l → needs_dynsym l.kind ≡ true → HasSymbolTables l
 
--- entry k of the table says that of a symbol, and its name stands where the entry tells
+-- entry k of the table has a symbol's fields, and its name is at the offset in the entry
 pub record HasEntry (l : Layout) (table strings : Part) (k : ℕ) (n : NamedFields) : Type 0 where
   pub at : ℕ
   pub entry : Stands (bytes l) (table.offset + symtab_entry_size * k) (spell (symtab_entry_fields (entry_at at n.fields)))
   pub name : IsNamed l strings at n.name
 
--- each symbol of the table has its entry, behind one of zeros, and there are no others
+-- each symbol of the table has its entry, after a null entry, and there are no others
 pub record SymbolsAreThere (l : Layout) (table strings : Part) : Type 0 where
   pub whole : table.size ≡ symtab_entry_size * (length (table_symbols l) + 1)
   pub null : Stands (bytes l) table.offset (replicate symtab_entry_size 0)
   pub each : (k : ℕ) (n : NamedFields) → slice_get (table_symbols l) k ≡ Some n → HasEntry l table strings (k + 1) n
 
--- so it is in the image of a layout whose clauses and shares hold, where both are written
+-- this holds in the image of a layout whose clauses and shares hold, if both are written
 abbrev pub SymbolsStand : Type 0
 SymbolsStand = (l : Layout) → IsLaidOut l → needs_dynsym l.kind ≡ true → (table strings : Part) → part_with role.Dynsym l.parts ≡ Some table → part_with role.Dynstr l.parts ≡ Some strings → is_hollow_at l table.section ≡ false → is_hollow_at l strings.section ≡ false → SymbolsAreThere l table strings
 
--- the part of the local symbols of the table of all symbols, and that of the others (gABI, "Symbol Table": local ones come first)
+-- the part of .symtab's local symbols, or that of the others (gABI, "Symbol Table": local ones come first)
 abbrev pub table_role : Bool → Role
 table_role true = role.SymtabLocal
 table_role false = role.SymtabGlobal
 
--- what an entry says, and its symbol's name, which that of a section has not
+-- the fields of an entry, and its symbol's name; a section symbol has none
 pub record SaidFields : Type 0 where
   pub name : Option (List ℕ)
   pub fields : SymbolFields
@@ -82,32 +82,32 @@ pub record SaidFields : Type 0 where
 abbrev pub said : NamedEntry → SaidFields
 said n = record { name = n.name; fields = n.fields.fields }
 
--- the local symbols of that table, or the others, group by group
+-- the local symbols of that table, or the others, in group order
 abbrev pub side_symbols : Layout → Bool → List SaidFields
 side_symbols l local = flat_map (λ (g : Group). map said (filter (is_side local) (group_table l g))) l.groups
 
--- the name stands where it is told; where there is none the empty string is told, with which the strings begin
+-- the name is at its offset; without a name the offset is that of the empty string, with which the strings begin
 abbrev pub IsNamedOr : Layout → Part → ℕ → Option (List ℕ) → Type 0
 IsNamedOr l strings at None = at ≡ 0
 IsNamedOr l strings at (Some name) = IsNamed l strings at name
 
--- entry k of the table says that of a symbol, and tells its name
+-- entry k of the table has a symbol's fields and the offset of its name
 pub record HasSaid (l : Layout) (table strings : Part) (k : ℕ) (n : SaidFields) : Type 0 where
   pub at : ℕ
   pub entry : Stands (bytes l) (table.offset + symtab_entry_size * k) (spell (symtab_entry_fields (entry_at at n.fields)))
   pub name : IsNamedOr l strings at n.name
 
--- each symbol of a side has its entry, and there are no others; the first of the local ones is of zeros
+-- each symbol of a side has its entry, and there are no others; the first local entry is null
 pub record TableIsThere (l : Layout) (local : Bool) (table strings : Part) : Type 0 where
   pub whole : table.size ≡ symtab_entry_size * length (side_symbols l local)
   pub null : local ≡ true → has_table l ≡ true → Stands (bytes l) table.offset (replicate symtab_entry_size 0)
   pub each : (k : ℕ) (n : SaidFields) → slice_get (side_symbols l local) k ≡ Some n → HasSaid l table strings k n
 
--- so it is in the image of a layout whose clauses and shares hold, where both are written
+-- this holds in the image of a layout whose clauses and shares hold, if both are written
 abbrev pub TableSymbolsStand : Type 0
 TableSymbolsStand = (l : Layout) → IsLaidOut l → (local : Bool) (table strings : Part) → part_with (table_role local) l.parts ≡ Some table → part_with role.Strtab l.parts ≡ Some strings → is_hollow_at l table.section ≡ false → is_hollow_at l strings.section ≡ false → TableIsThere l local table strings
 
--- the entry of a library, number j of the dynamic section, tells where its name stands
+-- the entry of a library, number j of the dynamic section, has the offset of its name
 pub record HasLibrary (l : Layout) (section strings : Part) (j : ℕ) (f : File) : Type 0 where
   pub at : ℕ
   pub entry : Stands (bytes l) (section.offset + dynamic_entry_size * j) (spell (dynamic_entry_fields (record { tag = dt_needed; value = at })))
@@ -117,6 +117,6 @@ pub record HasLibrary (l : Layout) (section strings : Part) (j : ℕ) (f : File)
 abbrev pub libraries : Layout → List File
 libraries l = filter (λ (f : File). is_library f.role) (files_of l.groups)
 
--- each library has its entry, those of all others behind them, where the section and the names are written
+-- each library has its entry, before all others, if the section and the names are written
 abbrev pub LibrariesStand : Type 0
 LibrariesStand = (l : Layout) → IsLaidOut l → needs_dynamic l.kind ≡ true → (section strings : Part) → part_with role.Dynamic l.parts ≡ Some section → part_with role.Dynstr l.parts ≡ Some strings → is_hollow_at l section.section ≡ false → is_hollow_at l strings.section ≡ false → (j : ℕ) (f : File) → slice_get (libraries l) j ≡ Some f → HasLibrary l section strings j f

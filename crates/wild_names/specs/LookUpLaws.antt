@@ -1,7 +1,7 @@
 -- Names are found in the image of a layout without faults (gABI, "Hash Table"; GNU, "DT_GNU_HASH").
 --   found l name          the first of the listed symbols with that name, by its index in the dynamic symbol table
 --   IsWritten l           an output with a dynamic section, which is written, without faults
---   SysvLookUpsFind, GnuLookUpsFind   the look-up of any name in the image gives that symbol, and none where no symbol has the name
+--   SysvLookUpsFind, GnuLookUpsFind   the look-up of any name in the image gives that symbol, and none if no symbol has the name
 --   LookUpsWithoutTable   without the part of a table, or with an empty one, the look-up in it gives none
 use Rattle.std.specs.Prelude.{◌≡◌, ℕ, true, [], List, Option, Some, None, Ok}
 use Rattle.wild_types.specs.declared.part.Part.{Part}
@@ -35,7 +35,7 @@ pub record IsWritten (l : Layout) : Type 0 where
 abbrev pub SysvLookUpsFind : Type 0
 SysvLookUpsFind = (l : Layout) (h : SysvHash) (p : Part) (name : List ℕ) → IsWritten l → l.sysv_hash ≡ Some h → part_with role.SysvHash l.parts ≡ Some p → sysv_lookup_in (bytes l) name ≡ Ok (found l name)
 
--- so it is with a GNU table
+-- the same with a GNU table
 abbrev pub GnuLookUpsFind : Type 0
 GnuLookUpsFind = (l : Layout) (h : GnuHash) (p : Part) (name : List ℕ) → IsWritten l → l.gnu_hash ≡ Some h → part_with role.GnuHash l.parts ≡ Some p → gnu_lookup_in (bytes l) name ≡ Ok (found l name)
 

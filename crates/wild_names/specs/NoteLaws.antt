@@ -1,8 +1,8 @@
--- What stands once in an image beside its tables of names: the path of the interpreter (gABI, "Program Interpreter"), the notes (gABI,
--- "Note Section"), and the search table of frames (LSB, "The .eh_frame_hdr section").
---   HoldsJust l r bs   the part of a role holds just these bytes
---   NotesStand         the interpreter's path, the build id and the properties stand in their parts
---   SearchTablesStand  so does the search table, of the frames of all files; how it is searched is a law of tables of frames
+-- The single items in an image besides its tables of names: the path of the interpreter (gABI, "Program Interpreter"), the notes
+-- (gABI, "Note Section"), and the search table of frames (LSB, "The .eh_frame_hdr section").
+--   HoldsJust l r bs   the part of a role has exactly these bytes
+--   NotesStand         the interpreter's path, the build id and the properties are in their parts
+--   SearchTablesStand  the search table has the frames of all files; the search itself is a law about tables of frames
 use Rattle.std.specs.Prelude.{◌≡◌, ℕ, ◌≤◌, true, false, List, length, Some}
 use Rattle.wild_words.specs.Words.{Stands}
 use Rattle.wild_types.specs.declared.part.Part.{Part}
@@ -17,7 +17,7 @@ use Rattle.wild_layout.specs.Notes.{build_id_note, property_note}
 use Rattle.wild_layout.specs.SearchTable.{address_of_role, layout_fdes}
 use Rattle.wild_layout.specs.Geometry.{IsLaidOut}
 
--- the part of a role, where there is one with bytes that are written, holds just these
+-- the part of a role, if there is one with bytes that are written, has exactly these bytes
 abbrev pub HoldsJust : Layout → Role → List ℕ → Type 0
 HoldsJust l r bs = (p : Part) → part_with r l.parts ≡ Some p → is_hollow_at l p.section ≡ false → 1 ≤ p.size → (length bs ≡ p.size) × Stands (bytes l) p.offset bs
 
@@ -27,6 +27,6 @@ pub record NotesStand : Type 0 where
   pub build_id : (l : Layout) → IsLaidOut l → HoldsJust l role.BuildId (build_id_note l.build_id)
   pub properties : (l : Layout) → IsLaidOut l → HoldsJust l role.Property (property_note l.properties)
 
--- the search table of the frames of all files, where the option asks for one
+-- the search table of the frames of all files, if the option requires one
 abbrev pub SearchTablesStand : Type 0
 SearchTablesStand = (l : Layout) → IsLaidOut l → l.options.eh_frame_hdr ≡ true → HoldsJust l role.EhFrameHdr (table_of (address_of_role l role.EhFrameHdr) (address_of_role l role.EhFrame) (layout_fdes l))

@@ -1,11 +1,11 @@
--- The versions of the dynamic symbols in an image, those that the output defines, and those that are needed of libraries (LSB,
+-- The versions of the dynamic symbols in an image, those that the output defines, and those that it needs from libraries (LSB,
 -- "Symbol Versioning").
 --   table_versions l       the versions of the symbols of `table_symbols`, in the same order
---   VersionNumbersFit l    the numbers of versions have their types' ranges
---   VersionsStand          the version of each symbol of the dynamic symbol table is read at its place
---   DefinitionsStand       a reader finds just the versions that the output defines, and their names
---   with_needs l           the libraries that versions are needed of, in order, each with these versions
---   NeedsStand             a reader finds just these libraries and versions, and their names
+--   VersionNumbersFit l    the numbers of versions are in the ranges of their types
+--   VersionsStand          the version of each dynamic symbol is read at its position
+--   DefinitionsStand       a reader finds exactly the versions that the output defines, and their names
+--   with_needs l           the libraries from which versions are needed, in order, each with these versions
+--   NeedsStand             a reader finds exactly these libraries and versions, and their names
 use Rattle.std.specs.Prelude.{◌≡◌, ℕ, ◌+◌, ◌*◌, ◌^◌, ◌<◌, ◌≤◌, true, false, List, [], ◌∷◌, ◌++◌, length, map, Option, Some, None, All, slice_get}
 use Rattle.std.specs.List.{flat_map}
 use Rattle.wild_records.specs.Abi.Version.{ver_ndx_local}
@@ -37,11 +37,11 @@ use Rattle.wild_names.specs.Laws.{table_symbols, IsNamed}
 
 -- ---- numbers
 
--- the indexes of the versions that are needed of a file
+-- the indexes of the versions that are needed from a file
 abbrev pub IndexesFit : File → Type 0
 IndexesFit f = (n : VersionNeeds) → f.verneed ≡ Some n → All (λ (v : NeededVersion). v.index < 2 ^ 16) n.versions
 
--- the numbers of versions have 16 bits, as their types have
+-- the numbers of versions have 16 bits, as their types require
 pub record VersionNumbersFit (l : Layout) : Type 0 where
   pub symbols : All (λ (s : Symbol). s.version < 2 ^ 16) l.symbols
   pub listed : All (λ (d : DynamicSymbol). d.version < 2 ^ 16) l.dynsyms
@@ -49,25 +49,25 @@ pub record VersionNumbersFit (l : Layout) : Type 0 where
 
 -- ---- the versions of symbols
 
--- file by file those of the symbols that other modules define, and then those of the symbols that other modules see
+-- in file order the versions of the symbols that other modules define, then those of the symbols that other modules see
 abbrev pub table_versions : Layout → List ℕ
 table_versions l = flat_map (λ (f : File). map (version_of f.role) (undefined_symbols l.symbols f)) (files_of l.groups) ++ map listed_version l.dynsyms
 
--- each symbol of the dynamic symbol table has its version, behind that of the null one, and there are no others
+-- each dynamic symbol has its version, after that of the null symbol, and there are no others
 pub record VersionsAreThere (l : Layout) (table : Part) : Type 0 where
   pub beside : length (table_versions l) ≡ length (table_symbols l)
   pub whole : table.size ≡ versym_size * (length (table_symbols l) + 1)
   pub null : (versym_at (bytes l) table.offset).version ≡ ver_ndx_local
   pub each : (k v : ℕ) → slice_get (table_versions l) k ≡ Some v → (versym_at (bytes l) (table.offset + versym_size * (k + 1))).version ≡ v
 
--- so it is in the image of a layout whose clauses and shares hold, where the option asks for versions and the table is written
+-- this holds in the image of a layout whose clauses and shares hold, if the option requires versions and the table is written
 abbrev pub VersionsStand : Type 0
 VersionsStand = (l : Layout) → IsLaidOut l → VersionNumbersFit l → needs_dynsym l.kind ≡ true → l.options.versions ≡ true → (table : Part) → part_with role.GnuVersion l.parts ≡ Some table → is_hollow_at l table.section ≡ false → VersionsAreThere l table
 
 -- ---- the versions that the output defines
 
--- a reader that may take that many versions or more finds just these, by the offsets of their names, and each name stands where it
--- tells; the first is the output's own name where it has one; a parent is an earlier one
+-- A reader whose limit is that many versions or more finds exactly these, with the offsets of their names, and each name is at
+-- its offset. The first is the output's own name, if it has one; a parent comes before its children.
 pub record DefinitionsAreThere (l : Layout) (table strings : Part) : Type 0 where
   pub names : List ℕ
   pub some : 1 ≤ length l.verdefs
@@ -76,27 +76,27 @@ pub record DefinitionsAreThere (l : Layout) (table strings : Part) : Type 0 wher
   pub named : (k : ℕ) (d : VersionDefinition) → slice_get l.verdefs k ≡ Some d → IsNamed l strings (name_at names k) (known_as l.options.soname k d.name)
   pub parents : (k : ℕ) (d : VersionDefinition) (p : ℕ) → slice_get l.verdefs k ≡ Some d → d.parent ≡ Some p → p < k
 
--- so it is in the image of a layout whose clauses and shares hold, where both are written
+-- this holds in the image of a layout whose clauses and shares hold, if both are written
 abbrev pub DefinitionsStand : Type 0
 DefinitionsStand = (l : Layout) → IsLaidOut l → needs_dynsym l.kind ≡ true → (table strings : Part) → part_with role.GnuVersionD l.parts ≡ Some table → part_with role.Dynstr l.parts ≡ Some strings → is_hollow_at l table.section ≡ false → is_hollow_at l strings.section ≡ false → DefinitionsAreThere l table strings
 
--- ---- the versions that are needed of libraries
+-- ---- the versions that are needed from libraries
 
--- a library, and the versions that are needed of it
+-- a library, and the versions that are needed from it
 pub record LibraryNeeds : Type 0 where
   pub file : File
   pub needs : VersionNeeds
 
--- where versions are needed of it
+-- those of a library, if versions are needed from it
 abbrev pub needed_by : File → Option VersionNeeds → List LibraryNeeds
 needed_by f None = []
 needed_by f (Some n) = record { file = f; needs = n } ∷ []
 
--- the libraries that versions are needed of, in order
+-- the libraries from which versions are needed, in order
 abbrev pub with_needs : Layout → List LibraryNeeds
 with_needs l = flat_map (λ (f : File). needed_by f (needs_of f)) (files_of l.groups)
 
--- the record of a library has the versions that are needed of it, and the names of both stand where it tells
+-- the record of a library has the versions that are needed from it, and both names are at their offsets
 pub record TellsNeeds (l : Layout) (strings : Part) (n : Need) (w : LibraryNeeds) : Type 0 where
   pub same : n.needs ≡ w.needs
   pub library : IsNamed l strings n.file w.file.lib_name
@@ -108,7 +108,7 @@ pub record HasNeeds (l : Layout) (strings : Part) (ns : List Need) (k : ℕ) (w 
   pub is : slice_get ns k ≡ Some need
   pub tells : TellsNeeds l strings need w
 
--- a reader that may take that many libraries or more finds just these, each with the versions that are needed of it
+-- a reader whose limit is that many libraries or more finds exactly these, each with the versions that are needed from it
 pub record NeedsAreThere (l : Layout) (table strings : Part) : Type 0 where
   pub needs : List Need
   pub count : length needs ≡ length (with_needs l)
@@ -116,6 +116,6 @@ pub record NeedsAreThere (l : Layout) (table strings : Part) : Type 0 where
   pub found : (n : ℕ) → length needs ≤ n → needs_from (bytes l) n table.offset ≡ map library_of needs
   pub each : (k : ℕ) (w : LibraryNeeds) → slice_get (with_needs l) k ≡ Some w → HasNeeds l strings needs k w
 
--- so it is in the image of a layout whose clauses and shares hold, where both are written
+-- this holds in the image of a layout whose clauses and shares hold, if both are written
 abbrev pub NeedsStand : Type 0
 NeedsStand = (l : Layout) → IsLaidOut l → VersionNumbersFit l → needs_dynsym l.kind ≡ true → 1 ≤ length (with_needs l) → (table strings : Part) → part_with role.GnuVersionR l.parts ≡ Some table → part_with role.Dynstr l.parts ≡ Some strings → is_hollow_at l table.section ≡ false → is_hollow_at l strings.section ≡ false → NeedsAreThere l table strings

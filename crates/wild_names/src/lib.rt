@@ -1,4 +1,4 @@
-//! What a reader of an image finds in its symbol tables and their strings.
+//! Reading an image's symbol tables and their strings.
 #![tactic(auto)]
 
 ghost use Rattle.wild_names.specs.FieldLaws.{ListedSymbolsHaveFields, LocalSymbolsAreCounted, TableSymbolsHaveFields};
@@ -25,8 +25,8 @@ mod numbers;
 
 pub use numbers::version_numbers_fit;
 
-/// The dynamic symbol table and its strings are there; where both are written each symbol has its entry, in order, and its name
-/// stands where the entry tells.
+/// There are a dynamic symbol table and its strings. If both are written, each symbol has its entry, in order, and its name is at
+/// the offset in the entry.
 pub fn dynamic_symbols_stand()
     ensures there { SymbolTablesAreThere }
     ensures stand { SymbolsStand }
@@ -34,8 +34,8 @@ pub fn dynamic_symbols_stand()
     tables_stand();
 }
 
-/// Each local symbol of the table of all symbols has its entry in one part, each other one in the other, in order, and its
-/// name stands where the entry tells, if these and their names are written.
+/// Each local symbol of .symtab has its entry in one part, each other symbol in the other part, in order. Its name is at the
+/// offset in the entry, if the entries and the names are written.
 pub fn table_symbols_stand()
     ensures { TableSymbolsStand }
 {
@@ -43,8 +43,8 @@ pub fn table_symbols_stand()
     names_are_strings();
 }
 
-/// Where there is a part for them that is written, each entry of the table of all symbols has its longer section index, in order; it is 0 where
-/// the entry tells its section itself.
+/// If there is a part for them that is written, each entry of .symtab has its extended section index, in order. The index is 0 if
+/// the entry itself has the section's index.
 pub fn long_indexes_stand()
     ensures { LongIndexesStand }
 {
@@ -52,8 +52,8 @@ pub fn long_indexes_stand()
     entries_are_counted();
 }
 
-/// The path of the interpreter, the note of the build id and that of the properties stand in their parts where these are written, and so does
-/// the search table of the frames of all files.
+/// The path of the interpreter, the note of the build id and that of the properties are in their parts, if these are written. So
+/// is the search table of the frames of all files.
 pub fn notes_stand()
     ensures notes { NotesStand }
     ensures search { SearchTablesStand }
@@ -61,14 +61,14 @@ pub fn notes_stand()
     tables_stand();
 }
 
-/// Each library has its entry in the dynamic section, and its name stands where the entry tells, if both are written.
+/// Each library has its entry in the dynamic section, and its name is at the offset in the entry, if both are written.
 pub fn libraries_stand()
     ensures { LibrariesStand }
 {
     tables_stand();
 }
 
-/// In a layout without faults each symbol of both tables has its fields, and its entry says them.
+/// In a layout without faults each symbol of both tables has its fields, and its entry has them.
 pub fn symbols_have_fields()
     ensures table { TableSymbolsHaveFields }
     ensures listed { ListedSymbolsHaveFields }
@@ -76,8 +76,8 @@ pub fn symbols_have_fields()
     layouts_are_laid_out();
 }
 
-/// The header of the section of the local symbols tells how many of them there are, with the one of zeros: one greater than
-/// the index of the last one.
+/// The section header of the local symbols has their number, including the null symbol: one greater than the index of the last
+/// one.
 pub fn local_symbols_are_counted()
     ensures { LocalSymbolsAreCounted }
 {
@@ -87,8 +87,9 @@ pub fn local_symbols_are_counted()
     fields_of_records();
 }
 
-/// The version of each dynamic symbol is read beside it. A reader of versions finds just those that the output defines, and
-/// those that are needed of libraries, and each name stands where its record tells, if these tables and their names are written.
+/// The version of each dynamic symbol is read at the symbol's position. A reader of versions finds exactly those that the output
+/// defines, and those that it needs from libraries. Each name is at the offset in its record, if these tables and their names are
+/// written.
 pub fn versions_stand()
     ensures versions { VersionsStand }
     ensures definitions { DefinitionsStand }
@@ -101,7 +102,7 @@ pub fn versions_stand()
     versions_are_named();
 }
 
-/// Headers, the dynamic section, symbols and their names stand in an image, and are read as they are written.
+/// An image contains the headers, the dynamic section, symbols and their names, and they are read back as they were written.
 fn tables_are_read()
     ensures images { ImageLaws }
     ensures names { NameLaws }
@@ -117,7 +118,8 @@ fn tables_are_read()
     dynamic_entry_is_read();
 }
 
-/// In an image with a System V table, of which all is written, the look-up of any name finds the first symbol of that name, or none.
+/// In an image with a System V table, of which all is written, the look-up of any name finds the first symbol of that name, or
+/// none.
 pub fn sysv_names_are_found()
     ensures { SysvLookUpsFind }
 {

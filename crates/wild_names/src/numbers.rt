@@ -1,5 +1,5 @@
-//! The numbers of versions in a layout have their types' ranges: what the laws, which speak of numbers without bound, do not
-//! know of a layout in memory.
+//! The numbers of versions in a layout are in the ranges of their types. The laws are about unbounded numbers, so they need this
+//! fact about a layout in memory.
 ghost use Rattle.std.specs.Prelude.{All, ◌^◌, ◌<◌};
 ghost use Rattle.wild_types.specs.declared.file.Group.{Group};
 ghost use Rattle.wild_types.specs.declared.file.NeededVersion.{NeededVersion};
@@ -81,8 +81,8 @@ fn groups_fit(groups: &[Group])
     }
 }
 
-/// The versions of a layout's symbols, those of its list of dynamic symbols, and the indexes of the versions that are needed of
-/// its files have their type's range.
+/// The versions of a layout's symbols, those of its list of dynamic symbols, and the indexes of the versions that are needed from
+/// its files are in the range of their type.
 pub fn version_numbers_fit(layout: &Layout)
     ensures { VersionNumbersFit layout.now }
 {

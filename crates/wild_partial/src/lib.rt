@@ -1,4 +1,4 @@
-//! What a relocatable object's tables of relocations and groups hold, and that a link that takes it on relocates as the input asks.
+//! The relocation tables and groups of a relocatable object, and that a further link relocates as the input requires.
 #![tactic(auto)]
 
 ghost use Rattle.wild_partial.specs.Tables.{ObjectTablesStand};
@@ -8,8 +8,8 @@ use wild_geometry::layouts_are_laid_out;
 use wild_loaded::owners_are_known;
 use wild_names::symbols_have_fields;
 
-/// In the image of a relocatable object without faults each relocation of a table's target has its entry, with its place in the output
-/// section, the number of its symbol and its addend, and each group its flags and its members' sections.
+/// In the image of a relocatable object without faults each relocation of a table's target has its entry, with its offset in the
+/// output section, the number of its symbol and its addend. Each group has its flags and its members' sections.
 pub fn tables_are_read()
     ensures { ObjectTablesStand }
 {
@@ -17,8 +17,8 @@ pub fn tables_are_read()
     owners_are_known();
 }
 
-/// Wherever a link puts the object's sections, and whatever stands for the names that the object leaves to others, each entry asks for the
-/// value, and at the place, that the input's relocation asks for.
+/// Whatever addresses a link gives to the object's sections and to the names that the object does not define, each entry gives
+/// the same value, at the same place, as the input's relocation.
 pub fn relinking_is_faithful()
     ensures { RelinkingIsFaithful }
 {

@@ -1,13 +1,13 @@
--- Instructions in memory, kept or rewritten: what makes each reference of a section hold, beyond its fields.
+-- Instructions in memory, kept or rewritten: the conditions for each reference of a section to hold, beyond its fields.
 --   WindowsAreAlone      no other relocation has a field among the bytes of an instruction that is rewritten
---   RewrittenStand       an instruction that is rewritten is one that the reader knows, all of it
---   RewrittenHold        the code that is written in place of an instruction does what that demands
---   PartnersHold         so it is of the call of a sequence
---   RewrittenAreFollowed no instruction that is rewritten takes the output's own symbol alone
+--   RewrittenStand       a rewritten instruction is one that the judge knows, with all of its bytes
+--   RewrittenHold        the code written in place of an instruction has the effect that it requires
+--   PartnersHold         the same for the call of a sequence
+--   RewrittenAreFollowed no rewritten instruction refers only to the output's own symbol
 --   InstructionsAreKept  an instruction that is not rewritten has its own bytes
---   SequencesAreKept     all relocations of a sequence keep it, or none does
---   KeptInstructionsDo   and does what is demanded
---   OthersAreKept        every byte in no field and no instruction is the input's
+--   SequencesAreKept     either all relocations of a sequence keep it, or none does
+--   KeptInstructionsDo   a kept instruction has the effect that it requires
+--   OthersAreKept        every byte outside all fields and instructions is the input's
 --   ItemsHold            all of this together
 use Rattle.std.specs.Prelude.{◌≡◌, ℕ, ◌+◌, ◌<◌, ◌≤◌, ◌⊎◌, ◌∷◌, length, Some, Contains}
 use Rattle.wild_types.specs.declared.kind.Machine.{Machine}
@@ -29,17 +29,17 @@ use Rattle.wild_meaning.specs.Sequence.{Instruction, size_of, IsOwnByte}
 use Rattle.wild_meaning.specs.Template.{IsOfSequence, IsTemplate, reads, DoesDemanded}
 use Rattle.wild_meaning.specs.Reference.{IsAsked, IsLinkedAlone, IsLeftOut, HoldsRewritten, IsTakenAlong, IsOther, ItemHolds}
 
--- byte k lies in no field of the relocation
+-- byte k is not in the relocation's field
 abbrev pub IsBesideField : Layout → InputRelocation → ℕ → Type 0
 IsBesideField l r k = (f : Formula) → formula_of l.machine r.number ≡ Some f → (k < r.offset) ⊎ (r.offset + form_width f.form ≤ k)
 
--- no other relocation than the call of the sequence itself has a field among the bytes of an instruction that is rewritten
+-- no relocation other than that of the sequence's own call has a field among the bytes of a rewritten instruction
 abbrev pub WindowsAreAlone : Type 0
 WindowsAreAlone = (l : Layout) (s : Item) → IsDecided l s → (i j : ℕ) (r q : InputRelocation) (row : Row) (v : ℕ) (d : Decision) → HasDecision l s i r (Rewritten row v) → HasDecision l s j q d → (i ≡ j → ⊥) → (j ≡ i + 1 → d ≡ Partner → ⊥)
     → (k : ℕ) → template_start row r ≤ k → k < template_start row r + pattern_size row → IsBesideField l q k
 
--- an instruction that the reader knows has all the bytes from start on, so many of them, and the reference belongs to it; it
--- begins before them where the reader knows a longer prefix
+-- An instruction that the judge knows covers the `size` bytes from a start on, and the reference belongs to it. It may start
+-- earlier, with a longer prefix that the judge knows.
 pub record StandsAt (l : Layout) (item : Item) (r : InputRelocation) (start size : ℕ) : Type 0 where
   pub from : ℕ
   pub instruction : Instruction
@@ -48,47 +48,48 @@ pub record StandsAt (l : Layout) (item : Item) (r : InputRelocation) (start size
   pub before : from ≤ start
   pub behind : start + size ≤ from + size_of instruction
 
--- all bytes that are rewritten are those of an instruction that the reader knows
+-- all rewritten bytes are those of an instruction that the judge knows
 abbrev pub RewrittenStand : Type 0
 RewrittenStand = (machine : Machine) (l : Layout) (w : World) (m : Memory) (s : Item) → IsLoadedItem machine l w m s → (i : ℕ) (r : InputRelocation) (row : Row) (v : ℕ) → HasDecision l s i r (Rewritten row v) → StandsAt l s r (template_start row r) (pattern_size row)
 
--- where an instruction is rewritten whose reference is not left out, the loaded code does what it demands, at each base at which that is asked
+-- If an instruction is rewritten and its reference is not left out, the loaded code has the effect that the instruction requires,
+-- at each base at which that is checked.
 abbrev pub RewrittenHold : Type 0
 RewrittenHold = (machine : Machine) (l : Layout) (w : World) (m : Memory) (s : Item) → IsLoadedItem machine l w m s → (i : ℕ) (r : InputRelocation) (row : Row) (v : ℕ) → HasDecision l s i r (Rewritten row v) → (IsLeftOut l s r → ⊥) → IsAsked l w s r → HoldsRewritten l w m s r
 
--- the call of a sequence that is rewritten is taken along by that
+-- the call of a rewritten sequence belongs to that sequence
 abbrev pub PartnersHold : Type 0
 PartnersHold = (machine : Machine) (l : Layout) (w : World) (m : Memory) (s : Item) → IsLoadedItem machine l w m s → (i : ℕ) (r : InputRelocation) → HasDecision l s i r Partner → (IsLeftOut l s r → ⊥) → IsTakenAlong l w m s r
 
--- where an instruction is rewritten its field names a slot of the symbol, so that the symbol is followed whichever module has it; or no
--- other module has the symbol
+-- The field of a rewritten instruction names a slot of the symbol, so it follows whichever module defines the symbol; or no other
+-- module can define it.
 abbrev pub RewrittenAreFollowed : Type 0
 RewrittenAreFollowed = (l : Layout) (s : Item) (i : ℕ) (r : InputRelocation) (row : Row) (v : ℕ) → HasDecision l s i r (Rewritten row v) → IsLinkedAlone l s r → ⊥
 
--- an instruction whose reference keeps it has the input's bytes around its fields, whatever is rewritten beside it
+-- an instruction whose reference keeps it has the input's bytes around its fields, whatever is rewritten near it
 abbrev pub InstructionsAreKept : Type 0
 InstructionsAreKept = (machine : Machine) (l : Layout) (w : World) (m : Memory) (s : Item) → IsLoadedItem machine l w m s → (i : ℕ) (r : InputRelocation) (d : Decision) → HasDecision l s i r d → KeepsInstruction d
     → (start : ℕ) (o : Instruction) (first : InputRelocation) → IsTemplate l s r start o first → (k : ℕ) → IsOwnByte o k → IsInputByte w m s (start + k)
 
--- a relocation of the item refers to something and keeps its instruction
+-- a relocation of the item refers to a symbol or value, and keeps its instruction
 pub record IsKeptAt (l : Layout) (s : Item) (r : InputRelocation) : Type 0 where
   pub index : ℕ
   pub kept : IsKeptReference l s index r
 
--- where one relocation of a sequence keeps it, each does
+-- if one relocation of a sequence keeps it, each does
 abbrev pub SequencesAreKept : Type 0
 SequencesAreKept = (machine : Machine) (l : Layout) (w : World) (m : Memory) (s : Item) → IsLoadedItem machine l w m s → (i : ℕ) (r : InputRelocation) → IsKeptReference l s i r
     → (start : ℕ) (o : Instruction) (first : InputRelocation) → (t : IsOfSequence l s r start o first) → (p : InputRelocation) → Contains (first ∷ t.rest) p → IsKeptAt l s p
 
--- every byte that is in no field and in no instruction of a reference is the input's
+-- every byte outside all fields and instructions of references is the input's
 abbrev pub OthersAreKept : Type 0
 OthersAreKept = (machine : Machine) (l : Layout) (w : World) (m : Memory) (s : Item) → IsLoadedItem machine l w m s → (k : ℕ) → k < length s.bytes → IsOther l s k → IsInputByte w m s k
 
--- an instruction that is kept, with its fields as their formulas have them, does what is demanded
+-- a kept instruction whose fields have their formulas' values has the effect that it requires
 abbrev pub KeptInstructionsDo : Type 0
 KeptInstructionsDo = (machine : Machine) (l : Layout) (w : World) (m : Memory) (s : Item) → IsLoadedItem machine l w m s → FieldsHold l w m s → (i : ℕ) (r : InputRelocation) → IsKeptReference l s i r → (IsLeftOut l s r → ⊥) → IsAsked l w s r → (IsLinkedAlone l s r → ⊥)
     → (start : ℕ) (o : Instruction) (first : InputRelocation) → IsTemplate l s r start o first → DoesDemanded (reads w m) l w m s first start o
 
--- each reference of a loaded section holds, its instruction does what is demanded, and other bytes are the input's
+-- each reference of a loaded section holds, its instruction has the required effect, and other bytes are the input's
 abbrev pub ItemsHold : Type 0
 ItemsHold = (machine : Machine) (l : Layout) (w : World) (m : Memory) (s : Item) → IsLoadedItem machine l w m s → FieldsHold l w m s → ItemHolds l w m s

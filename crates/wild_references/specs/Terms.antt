@@ -1,12 +1,12 @@
--- What is known where a relocation writes a value.
---   SymbolsFit l    what is said of the symbols agrees
---   MovesByPages m l w   what else the values of an AArch64 output rest on
---   IsPlaced l w m  what a layout, a legal world and memory come to for the values of an output
+-- The conditions under which a relocation's value is written.
+--   SymbolsFit l    the data of the symbols are consistent
+--   MovesByPages m l w   further conditions for the values of an AArch64 output
+--   IsPlaced l w m  a layout, a legal world and a memory in which the output's values are right
 --   is_expressed .. the machine has relocation types with such an expression
---   value_by_row    the formula's value that a row stands for
---   IsDirect ..     an expression goes by no slot and no stub
---   HasTerm ..      a relocation writes x at its place, by the writer's expression of a row
---   IsFollowed ..   the value is right whichever module has the symbol
+--   value_by_row    the formula's value for a row
+--   IsDirect ..     an expression uses no slot and no stub
+--   HasTerm ..      a relocation writes x at its place, computed from the writer's expression of a row
+--   IsFollowed ..   the value is right whichever module defines the symbol
 use Rattle.std.specs.Prelude.{◌≡◌, ℕ, ◌+◌, ◌%◌, ◌^◌, ◌<◌, ◌≤◌, ◌⊎◌, ⊤, Bool, true, false, not, Option, Some, None, Ok, All}
 use Rattle.wild_types.specs.declared.kind.Machine.{Machine}
 use Rattle.wild_types.specs.declared.kind.Machine.TheVariants as machine
@@ -49,8 +49,10 @@ use Rattle.wild_meaning.specs.Reference.{IsStubbed}
 use Rattle.wild_meaning.specs.Linked.{processor_of}
 use Rattle.std.specs.Int.{w64, cast_unsigned}
 
--- each symbol's definition is one of the layout's symbols, which defines itself, resolutions have their symbols' flags, which agree with slots and
--- stubs, indexes are positions in the dynamic symbol table, and the addresses that were decided of them fit
+-- The data of symbols are consistent:
+-- - each symbol's definition is a symbol of the layout that defines itself;
+-- - resolutions have their symbols' flags, which agree with slots and stubs;
+-- - indexes are positions in the dynamic symbol table, and resolved addresses are in range.
 pub record SymbolsFit (l : Layout) : Type 0 where
   pub named : All (DefinitionNames l) l.symbols
   pub final : DefinitionsAreFinal l
@@ -59,9 +61,12 @@ pub record SymbolsFit (l : Layout) : Type 0 where
   pub dynsyms : AreListed l
   pub numbers : All SymbolNumbers l.symbols
 
--- an AArch64 output moves by whole pages of 4096 bytes, so that the bits of an address below its page stay (aaelf64, "Relocation
--- operations": Page); its slots stand at multiples of 8, so that each stub reads its slot; the thread control block, up to the
--- alignment of the thread-local data, has a size of the machine; and no pair stands for these data: no type of AArch64 takes one
+-- For an AArch64 output:
+-- - its bases are multiples of 4096, so the bits of an address below its page do not change (aaelf64, "Relocation operations":
+-- Page);
+-- - its slots are at multiples of 8, so each stub can read its slot;
+-- - the thread control block, rounded up to the alignment of the thread-local data, has a size in range;
+-- - there is no pair for these data, because no AArch64 type refers to one.
 pub record IsPaged (l : Layout) (w : World) : Type 0 where
   pub pages : w.base % 4096 ≡ 0
   pub even : All (λ (s : Symbol). slot_is_even s ≡ true) l.symbols
@@ -72,8 +77,8 @@ abbrev pub MovesByPages : Machine → Layout → World → Type 0
 MovesByPages machine.X86_64 l w = ⊤
 MovesByPages machine.AArch64 l w = IsPaged l w
 
--- an output in a legal world: one that does not move is at base 0, an executable is the first module, its numbers fit, and
--- memory has the slots and stubs of its symbols, where all is written
+-- An output in a legal world: a fixed output is at base 0, an executable is the first module, and its numbers are in range.
+-- Memory has the slots and stubs of its symbols, if all tables are written.
 pub record IsPlaced (l : Layout) (w : World) (m : Memory) : Type 0 where
   pub paged : MovesByPages l.machine l w
   pub loadable : IsLoadable l.kind
@@ -89,8 +94,8 @@ pub record IsPlaced (l : Layout) (w : World) (m : Memory) : Type 0 where
 
 -- ---- expressions
 
--- which page a term is taken by, in an expression with that term from which so much is taken: that of S + A, of G, or of the table (aaelf64,
--- "Relocation operations": Page)
+-- The page mask of a term, in an expression that subtracts `taken` from it: for S + A, for G, or for GOT (aaelf64, "Relocation
+-- operations": Page).
 abbrev pub page_mask : Term → Taken → Option PageMask
 page_mask term.Symbol taken.Place = Some masks.SymbolPlusAddendAndPosition
 page_mask (term.Slot sort) taken.Place = Some masks.GotEntryAndPosition
@@ -107,28 +112,28 @@ abbrev pub is_table : Taken → Bool
 is_table taken.Table = true
 is_table less = false
 
--- a machine has relocation types with that expression: on x86-64 no term is taken as its page, on AArch64 nothing is less the table itself
--- (x86-64 psABI, "Relocation Types"; aaelf64, "Relocation operations")
+-- The machine has relocation types with that expression. On x86-64 no term is reduced to its page; on AArch64 no expression
+-- subtracts GOT itself (x86-64 psABI, "Relocation Types"; aaelf64, "Relocation operations").
 abbrev pub is_expressed : Machine → Term → Taken → Option PageMask → Bool
 is_expressed machine.X86_64 t less None = true
 is_expressed machine.X86_64 t less (Some mask) = false
 is_expressed machine.AArch64 t less None = not (is_table less)
 is_expressed machine.AArch64 t less (Some mask) = is_mask (page_mask t less) mask
 
--- the formula's value that a row stands for
+-- the formula's value for a row
 abbrev pub value_by_row : RelocationKindInfo → Value
 value_by_row info = value_of info.kind info.mask info.size
 
--- the expression of a row goes by no slot and by no stub; on AArch64 the place itself stands for a symbol that is not there
+-- the expression of a row uses no slot and no stub; on AArch64 an undefined weak symbol is represented by the place itself
 abbrev pub IsDirect : Layout → InputRelocation → RelocationKindInfo → Term → Type 0
 IsDirect l r info term.Symbol = TakesAddress (value_by_row info) → (i : ℕ) → r.symbol ≡ Some i → IsStubbed l i → ⊥
 IsDirect l r info term.Stub = is_own_place l.machine l r info ≡ true
 IsDirect l r info (term.Slot sort) = ⊥
 IsDirect l r info other = ⊤
 
--- a relocation of an allocated section whose value x in its field is the writer's expression of a row, at a place that does
--- not wrap; the layout treats it as a value, it is asked at this base, and an addend that finds a merged string is a number of the machine. Where
--- slots and stubs are not written, it goes by none
+-- A relocation of an allocated section whose field has the value x of a row's expression, at a place that does not wrap. The
+-- layout treats it as a value, it is checked at this base, and an addend into a merged string is in range. If slots and stubs are
+-- not written, it uses none.
 pub record HasTerm (l : Layout) (w : World) (m : Memory) (s : Item) (r : InputRelocation) (info : RelocationKindInfo) (x : ℕ) : Type 0 where
   pub placed : IsPlaced l w m
   pub present : KeepsAll l ⊎ IsDirect l r info (expression_of info.kind).term
@@ -147,7 +152,7 @@ pub record HasTerm (l : Layout) (w : World) (m : Memory) (s : Item) (r : InputRe
   pub addend : names_merged l r.symbol ≡ true → cast_unsigned w64 r.addend < 2 ^ 64
   pub asked : IsPlaceRelative (value_by_row info) → IsMovable l.kind → (i : ℕ) → r.symbol ≡ Some i → IsAbsolute l i → w.base ≡ 0
 
--- whichever module has the relocation's symbol, it is not taken by itself: it is the output's own, or the expression
--- goes by a slot or a stub, or the output's address for it is its stub's
+-- The expression does not depend on which module defines the symbol: the symbol is the output's own, the expression uses a slot
+-- or a stub, or the output uses the symbol's stub as its address.
 abbrev pub IsFollowed : Layout → InputRelocation → Value → Type 0
 IsFollowed l r v = (i : ℕ) → r.symbol ≡ Some i → IsReplaceable l i false ⊎ (((TakesOffset v → ⊥) × (TakesAddress v → ⊥)) ⊎ ((TakesOffset v → ⊥) × IsStubbed l i))

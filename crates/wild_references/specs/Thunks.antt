@@ -1,10 +1,10 @@
--- What thunks do in memory, whether a branch goes by them or not, and what is written where one does (aaelf64, "Call and Jump
--- relocations").
---   GoesOn l w m t       code at the thunk goes on to its target
---   EachThunkGoesOn ..   so does each thunk of the layout
+-- The effect of thunks in memory, whether or not a branch uses them, and the value that a branch to a thunk has (aaelf64, "Call
+-- and Jump relocations").
+--   GoesOn l w m t       code at the thunk jumps to its target
+--   EachThunkGoesOn ..   each thunk of the layout does so
 --   ThunksGoOn           the law
---   Carries info         branches of a row's type may go by thunks
---   ThunksGive           the distance to that is what the branch's expression gives
+--   Carries info         branches of a row's type may use thunks
+--   ThunksGive           the distance to the thunk is a value of the branch's expression
 use Rattle.std.specs.Prelude.{◌≡◌, ℕ, ◌+◌, ◌%◌, ◌^◌, ◌≤◌, ◌⊎◌, true, false, List, Some, None, Ok, Contains}
 use Rattle.wild_types.specs.declared.kind.Machine.TheVariants as machine
 use Rattle.wild_types.specs.declared.input.InputRelocation.{InputRelocation}
@@ -31,7 +31,7 @@ use Rattle.wild_meaning.specs.Formula.{Gives}
 use Rattle.wild_references.specs.Terms.{MovesByPages, value_by_row, HasTerm, IsFollowed}
 use Rattle.wild_layout.specs.Merged.{names_merged}
 
--- the thunk has a target, and the code at its loaded address, which does not wrap, goes on, by one jump, to the base and that
+-- the thunk has a target, and the code at its loaded address, which does not wrap, jumps directly to the base plus the target
 pub record GoesOn (l : Layout) (w : World) (m : Memory) (t : Thunk) : Type 0 where
   pub target : ℕ
   pub known : thunk_target l t ≡ Ok target
@@ -42,22 +42,23 @@ pub record GoesOn (l : Layout) (w : World) (m : Memory) (t : Thunk) : Type 0 whe
 abbrev pub EachThunkGoesOn : Layout → World → Memory → Type 0
 EachThunkGoesOn l w m = (b : List Thunk) (t : Thunk) → Contains l.thunk_blocks b → Contains b t → GoesOn l w m t
 
--- where memory has the thunks of a laid out output
+-- if memory has the thunks of a laid out output
 abbrev pub ThunksGoOn : Type 0
 ThunksGoOn = (l : Layout) (w : World) (m : Memory) → MovesByPages l.machine l w → m.machine ≡ processor_of l.machine → IsLaidOut l → HasThunks l w m → EachThunkGoesOn l w m
 
 -- ---- branches
 
--- branches of the row's type may go by thunks: the row is the distance of S or L, whose range has those of the branch itself and of the next
--- instruction
+-- Branches of the row's type may use thunks: the row is the distance of S or L, and its range contains 0 and 4, the distances of
+-- the branch itself and of the next instruction.
 pub record Carries (info : RelocationKindInfo) : Type 0 where
   pub kind : (info.kind ≡ kinds.Relative) ⊎ (info.kind ≡ kinds.PltRelative)
   pub whole : info.mask ≡ None
   pub here : contains info.range 0 ≡ true
   pub next : contains info.range 4 ≡ true
 
--- where the row's value is out of its range, the thunk of the symbol's definition in the item's block goes on to what the symbol is, so that a
--- branch which adds nothing comes there by the distance of the thunk, where all is written; a branch to the symbol itself goes to no merged string
+-- If the row's value is out of range, the thunk of the symbol's definition in the item's block leads to the symbol's target. So a
+-- branch with addend 0 reaches the target through the distance of the thunk, if all tables are written. A branch to the symbol
+-- itself is not to merged strings.
 abbrev pub ThunksGive : Type 0
 ThunksGive = (info : RelocationKindInfo) → Carries info → (l : Layout) (w : World) (m : Memory) (s : Item) (r : InputRelocation) (x : ℕ) (t : Thunk) → l.machine ≡ machine.AArch64 → KeepsAll l → HasTerm l w m s r info x → EachThunkGoesOn l w m → (info.kind ≡ kinds.Relative → names_merged l r.symbol ≡ false) → IsFollowed l r (value_by_row info)
     → contains info.range x ≡ false → thunk_for l s.thunk_block r.symbol ≡ Some t → added r ≡ 0 → Gives StubDistance l w m s r (less t.address (place_of s.address r))

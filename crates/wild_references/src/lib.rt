@@ -1,4 +1,4 @@
-//! What the writer's decisions write is what the judge's formulas give: one law a term, and the law of a whole section.
+//! The values that the writer computes are those of the judge's formulas: one law for each term, and the law of a whole section.
 #![tactic(auto)]
 
 ghost use Rattle.wild_reloc.specs.declared.expression.Term.TheVariants as term;
@@ -16,7 +16,7 @@ use wild_relax::{
 };
 use wild_reloc::widths_of_fields;
 
-/// S + A, of a symbol that does not move or in an output that does not, and S + A less the place or the table.
+/// S + A, if the symbol or the output does not move, and S + A minus the place or GOT.
 pub fn symbols_are_given()
     ensures gives { TermGives term.Symbol }
     ensures linked { TermGivesLinked term.Symbol }
@@ -25,7 +25,7 @@ pub fn symbols_are_given()
     stubs_of_words_are_read();
 }
 
-/// L + A, less the place or the table.
+/// L + A, minus the place or GOT.
 pub fn stubs_are_given()
     ensures gives { TermGives term.Stub }
     ensures stand { StubsStand }
@@ -34,7 +34,7 @@ pub fn stubs_are_given()
     stubs_of_words_are_read();
 }
 
-/// G + A, less the place or the table, of slots of each sort.
+/// G + A, minus the place or GOT, for slots of each sort.
 pub fn slots_are_given()
     ensures { SlotsGive }
 {
@@ -42,7 +42,7 @@ pub fn slots_are_given()
     stubs_of_words_are_read();
 }
 
-/// L + A - P of a branch that goes by a thunk.
+/// L + A - P for a branch through a thunk.
 pub fn thunks_are_given()
     ensures { ThunksGive }
 {
@@ -60,7 +60,7 @@ pub fn sizes_are_given()
     ensures { TermGives term.Size }
 {}
 
-/// Of an AArch64 output the bits below its page of S + A, and of G.
+/// For an AArch64 output the bits below its page of S + A, and of G.
 pub fn parts_are_given()
     ensures gives { PartsGive }
     ensures linked { PartsGiveLinked }
@@ -69,19 +69,19 @@ pub fn parts_are_given()
     stubs_of_words_are_read();
 }
 
-/// An offset from the thread pointer, and A.
+/// A thread-pointer offset, plus A.
 pub fn offsets_from_the_thread_pointer_are_given()
     ensures gives { TermGives term.PointerOffset }
     ensures linked { TermGivesLinked term.PointerOffset }
 {}
 
-/// An offset in the module's thread-local data, and A.
+/// An offset in the module's thread-local data, plus A.
 pub fn offsets_in_the_module_are_given()
     ensures gives { TermGives term.ModuleOffset }
     ensures linked { TermGivesLinked term.ModuleOffset }
 {}
 
-/// S + A of a symbol that moves with the base: what a loader makes of an address that moves.
+/// S + A for a symbol that moves with the base: the value after loading of an address that moves.
 pub fn addresses_are_given()
     ensures gives { AddressesGive }
     ensures linked { AddressesGiveLinked }
@@ -90,19 +90,19 @@ pub fn addresses_are_given()
     stubs_of_words_are_read();
 }
 
-/// S + A and Z + A in fields that are left to entries: what a loader stores there.
+/// S + A and Z + A in fields that are left to entries: the value that a loader stores there.
 pub fn entries_are_given()
     ensures { EntriesGive }
 {
     machines_have_their_facts();
 }
 
-/// Where a symbol lies in the thread's data, and that this is its address less the thread pointer.
+/// A symbol's offset in the thread-local data, and that it is the symbol's address minus the thread pointer.
 pub fn thread_places_are_known()
     ensures { ThreadPlacesAreKnown }
 {}
 
-/// Each stub in memory, used or not, goes on to the address in its symbol's first slot.
+/// Each stub in memory, used or not, jumps to the address in its symbol's first slot.
 pub fn stubs_go_on()
     ensures { StubsGoOn }
 {
@@ -110,20 +110,20 @@ pub fn stubs_go_on()
     stubs_of_words_are_read();
 }
 
-/// Each thunk in memory, used or not, goes on to its target.
+/// Each thunk in memory, used or not, jumps to its target.
 pub fn thunks_go_on()
     ensures { ThunksGoOn }
 {
     stubs_of_words_are_read();
 }
 
-/// A laid out output moves by pages in a legal world, and its items have bytes.
+/// In a legal world the bases of a laid out output are multiples of 4096, and its items consist of bytes.
 pub fn outputs_move_by_pages()
     ensures pages { OutputsMoveByPages }
     ensures bytes { ItemsHaveBytes }
 {}
 
-/// Where memory has a kept section as it was decided, each of its references that keeps its instruction reads as its formula.
+/// If memory has a kept section as decided, each of its references that keeps its instruction has its formula's value.
 pub fn item_fields_hold()
     ensures { ItemFieldsHold }
 {
@@ -143,18 +143,18 @@ pub fn item_fields_hold()
     entries_are_given();
 }
 
-/// An instruction whose fields are filled does what the input's bytes demand, wherever its operand reads as it should.
+/// An instruction with filled fields has the effect that the input's bytes require, if its operand has the right value.
 pub fn filled_instructions_do()
     ensures { FilledInstructionsDo }
 {}
 
-/// No field of another relocation lies among the bytes of an instruction that is rewritten.
+/// No other relocation has a field among the bytes of a rewritten instruction.
 pub fn windows_are_alone()
     ensures { WindowsAreAlone }
 {}
 
-/// An instruction that is rewritten is one that the reader knows and does what the input's demands, and so does the call that it
-/// takes along.
+/// A rewritten instruction is one that the judge knows, and has the effect that the input's instruction requires. So does the
+/// call of its sequence.
 pub fn rewritten_instructions_hold()
     ensures stand { RewrittenStand }
     ensures rewritten { RewrittenHold }
@@ -172,14 +172,13 @@ pub fn rewritten_instructions_hold()
     stubs_of_words_are_read();
 }
 
-/// The field of an instruction that is rewritten names a slot of its symbol, and not the symbol itself, or the symbol is the output's
-/// own alone.
+/// The field of a rewritten instruction names a slot of its symbol, not the symbol itself, or only the output defines the symbol.
 pub fn rewritten_instructions_are_followed()
     ensures { RewrittenAreFollowed }
 {}
 
-/// All relocations of a sequence keep it, or none does. An instruction that is not rewritten keeps its bytes, whatever is
-/// rewritten beside it, and so does every byte in no field and no instruction.
+/// Either all relocations of a sequence keep it, or none does. An instruction that is not rewritten keeps its bytes, whatever is
+/// rewritten near it. So does every byte outside all fields and instructions.
 pub fn other_bytes_are_kept()
     ensures sequences { SequencesAreKept }
     ensures instructions { InstructionsAreKept }
@@ -190,7 +189,7 @@ pub fn other_bytes_are_kept()
     aarch64_rows_stand_together();
 }
 
-/// An instruction that is kept does what it demands, by its fields.
+/// A kept instruction has the effect that it requires, because of its fields' values.
 pub fn kept_instructions_do()
     ensures { KeptInstructionsDo }
 {

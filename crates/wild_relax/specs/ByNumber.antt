@@ -4,6 +4,6 @@ use Rattle.std.specs.List.{filter}
 use Rattle.wild_relax.specs.declared.row.Row.{Row}
 use Rattle.wild_relax.specs.Rows.{rows_x86_64}
 
--- those of all rows that stand at that type, in order
+-- the rows of that type, in table order
 unfoldable pub rows_with : ℕ → List Row
 rows_with number = filter (λ (row : Row). number == row.number) rows_x86_64

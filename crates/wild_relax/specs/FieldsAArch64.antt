@@ -1,5 +1,5 @@
--- The fields of AArch64's instructions, as relocation types write them and as code is read.
---   FieldsAgree       both know the same fields
+-- The fields of AArch64 instructions, as relocation types write them and as code is read.
+--   FieldsAgree       both definitions have the same fields
 --   TypesHaveForms    each relocation type that fills an instruction has forms of words with that field
 --   number_of part    the relocation type by which a part of a rewrite is written
 --   value_of part     the value that it writes
@@ -39,7 +39,7 @@ FieldsAgree = (i : AArch64Instruction) (bits w : ℕ) → writer.inserted i bits
 
 -- ---- forms
 
--- the field that a formula is read by
+-- the field from which a formula reads its value
 abbrev pub read_field : formula.Field → Field
 read_field formula.AdrField = Imm21
 read_field formula.Imm12Field = Imm12
@@ -62,7 +62,7 @@ same_field Imm21 Imm21 = true
 same_field Imm26 Imm26 = true
 same_field f g = false
 
--- there are forms exactly where an instruction is filled, and each has its immediate in that field
+-- there are forms exactly if the relocation type fills an instruction, and each has its immediate in that field
 abbrev pub have_field : Option Field → List Form → Bool
 have_field None [] = true
 have_field None (f ∷ fs) = false
@@ -83,7 +83,7 @@ number_of SlotPage = Some abi.r_aarch64_tlsie_adr_gottprel_page21
 number_of SlotLow = Some abi.r_aarch64_tlsie_ld64_gottprel_lo12_nc
 number_of Distance = Some abi.r_aarch64_adr_prel_lo21
 
--- for a word at a, of an offset, a slot or an address x
+-- for a word at address a; x is a thread-pointer offset, a slot's address or an address
 abbrev pub value_of : Part → ℕ → ℕ → ℕ
 value_of Kept a x = 0
 value_of HighOffset a x = x

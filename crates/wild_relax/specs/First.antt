@@ -1,6 +1,6 @@
--- The first row of a machine's table that stands.
---   first_standing stands rows   of these rows the first that stands
---   checked has by row           that row; without what it needs it is refused
+-- The first row of a machine's table that applies.
+--   first_standing stands rows   the first of these rows that applies
+--   checked has by row           that row; refused if what it needs is missing
 use Rattle.std.specs.Prelude.{Bool, List, [], ◌∷◌, Option, Some, None, Result, Ok, Err, if◌then◌else◌}
 use Rattle.wild_relax.specs.declared.reference.UnknownSequence.{UnknownSequence}
 

@@ -1,6 +1,6 @@
--- The law of the rewrites of AArch64: what is written in place of a sequence's words does what these demand.
---   Rewriting, rewritings    a sequence with the rows of its words, and the run that they make
---   field_value w a x        what the field of a word at a gets of an offset, a slot or an address x
+-- The law of the rewrites of AArch64: the words written in place of a sequence have the effect that the sequence demands.
+--   Rewriting, rewritings    a sequence with the rows of its words, and the rewrite of `wild_aarch64` that they carry out
+--   field_value w a x        the value in the field of a word at a, for an offset, slot or address x
 --   templates_at rows a x ws  what the rows write in place of words, each in its own word
 --   RowsOfAArch64Keep        the law
 use Rattle.std.specs.Prelude.{◌≡◌, ℕ, ◌+◌, ◌^◌, ◌<◌, true, List, [], ◌∷◌, ◌++◌, Contains}
@@ -18,7 +18,7 @@ use Rattle.wild_relax.specs.declared.table_aarch64.TheConstants.{CALL_FIRST, CAL
 use Rattle.wild_relax.specs.Linked.{template_of}
 use Rattle.wild_relax.specs.SequenceAArch64.{stand_as}
 
--- a sequence, the rows of its words in order, and what the run that they make stands for
+-- a sequence, the rows of its words in order, and the rewrite of `wild_aarch64` that they carry out
 pub record Rewriting : Type 0 where
   pub sequence : Sequence
   pub rows : List Row
@@ -54,7 +54,7 @@ abbrev pub AreWords : List ℕ → Type 0
 AreWords [] = Unit {0}
 AreWords (w ∷ ws) = (w < 2 ^ 32) × AreWords ws
 
--- for each register that stands, at every address and base, where the fields come from what v stands for
+-- for each valid register, at every address and base, if the fields are computed from what v stands for
 abbrev pub Keeps : Rewriting → Type 0
 Keeps t = (ws : List ℕ) (reader : Reader) → ReadsNumbers reader → (base a x v : ℕ) → AreWords ws → stand_as t.sequence ws ≡ true → Comes t.run.target reader base a x v
     → effect reader (base + a) (words_of (templates_at t.rows a x ws)) ≡ demand v (base + a) ws

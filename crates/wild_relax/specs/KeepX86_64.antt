@@ -1,5 +1,5 @@
--- The law of the rewrites of x86-64: what is written in place of an instruction does what the instruction demands of its operand.
---   Lands w read p v value   the value that the field holds at p is the one by which the operand reads as v
+-- The law of the rewrites of x86-64: the bytes written in place of an instruction have the effect that it demands of its operand.
+--   Lands w read p v value   with `value` in the field at p, the operand has the value v
 --   RowsHaveTypes            the rows of the table write by relocation types
 --   RowsKeep                 the law
 use Rattle.std.specs.Prelude.{◌≡◌, ℕ, ◌+◌, ◌-◌, ◌%◌, ◌^◌, ◌<◌, true, List, length, Contains, Option, Some}
@@ -28,7 +28,7 @@ pub record IsWhole (cells : List Cell) (bs : List ℕ) : Type 0 where
   pub long : length bs ≡ length cells
   pub same : stands cells bs ≡ true
 
--- numbers are what they are
+-- a number reads as itself
 abbrev pub ReadsNumbers : Reader → Type 0
 ReadsNumbers read = (n : ℕ) → read (Number n) ≡ Some n
 
@@ -36,8 +36,8 @@ ReadsNumbers read = (n : ℕ) → read (Number n) ≡ Some n
 abbrev pub distance : (v p : ℕ) → ℕ
 distance v p = (v + (2 ^ 64 - 4) + (2 ^ 64 - p % 2 ^ 64)) % 2 ^ 64
 
--- by its relocation type the field holds the distance of v, v itself, or the distance of a slot that holds v; without a field the
--- operand is the start of the output's own thread-local data, which is offset 0 of themselves
+-- The meaning of the field depends on its relocation type: the distance to v, v itself, or the distance to a slot that holds v.
+-- Without a field the operand is the start of the output's own thread-local data, which is at offset 0 of that data.
 abbrev pub Lands : Written → Reader → ℕ → ℕ → ℕ → Type 0
 Lands written.Pc32 read place v value = value ≡ distance v place
 Lands written.Plt32 read place v value = value ≡ distance v place
@@ -45,12 +45,12 @@ Lands written.GotTpOff read place v value = read (Word (sum_64 (place + 4) value
 Lands written.Nothing read place v value = v ≡ 0
 Lands other read place v value = value ≡ v
 
--- nothing is done
+-- no effect
 abbrev pub no_effect : Effect
 no_effect = record { deed = Nothing; width = 64; value = 0 }
 
--- the effect of the input's bytes where their operand reads as v; where descriptors' values are offsets, the call through one
--- has nothing to do
+-- the effect of the input's bytes if their operand has the value v; a call through a descriptor has none, because the
+-- descriptor's value is already the offset
 abbrev pub demanded : Made → ℕ → ℕ → List ℕ → Option Effect
 demanded Nop v a old = Some no_effect
 demanded other v a old = demand_x86_64 v a old
@@ -58,7 +58,7 @@ demanded other v a old = demand_x86_64 v a old
 abbrev pub Keeps : Row → RelocationKindInfo → Reader → ℕ → ℕ → ℕ → List ℕ → Type 0
 Keeps row info read a v value old = effect_x86_64 read a (linked row info value old) ≡ demanded row.made v a old
 
--- a value that the field at that place takes, and that lands
+-- a value in range for the field at that place, with which the operand is right
 pub record IsField (w : Written) (info : RelocationKindInfo) (read : Reader) (place v value : ℕ) : Type 0 where
   pub row_of : Some info ≡ x86_64_row (number_written w)
   pub allowed : allows info value ≡ true
@@ -67,7 +67,7 @@ pub record IsField (w : Written) (info : RelocationKindInfo) (read : Reader) (pl
   pub numbers : ReadsNumbers read
   pub lands : Lands w read place v value
 
--- how a row of the table writes its field is the machine's row of that relocation type
+-- the field of each row is written as the machine's relocation table has that relocation type
 abbrev pub RowsHaveTypes : Type 0
 RowsHaveTypes = (row : Row) → Contains rows_x86_64 row → row_of X86_64 (rewrite_of row).number ≡ Some (info_written row)
 

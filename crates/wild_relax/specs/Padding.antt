@@ -1,7 +1,7 @@
--- What fills the bytes of a section that nothing owns.
+-- The filling of padding bytes in a section.
 --   code_filling m    four bytes between sections of code
 --   filling m flags   four bytes for a section with those flags (sh_flags)
---   repeated bs n     four bytes over and over, n in all
+--   repeated bs n     four bytes repeated, n bytes in all
 use Rattle.std.specs.Prelude.{ℕ, ◌%◌, if◌then◌else◌, List, [], ◌∷◌, map, slice_index}
 use Rattle.std.specs.List.{range_with_len}
 use Rattle.wild_types.specs.declared.kind.Machine.{Machine}
@@ -14,11 +14,11 @@ abbrev pub code_filling : Machine → List ℕ
 code_filling X86_64 = 0xcc ∷ 0xcc ∷ 0xcc ∷ 0xcc ∷ []
 code_filling AArch64 = 0x1f ∷ 0x20 ∷ 0x03 ∷ 0xd5 ∷ []
 
--- zeros where there is no code
+-- zeros if the section has no code
 abbrev pub filling : Machine → (flags : ℕ) → List ℕ
 filling m flags = if executable flags then code_filling m else 0 ∷ 0 ∷ 0 ∷ 0 ∷ []
 
--- the byte that stands so many bytes behind the first
+-- the byte at an offset in the repeated bytes
 abbrev pub repeated_byte : List ℕ → ℕ → ℕ
 repeated_byte bs k = slice_index bs (k % 4)
 

@@ -1,8 +1,8 @@
--- The bytes that rows look for in the input: those of x86-64 (Intel SDM; x86-64 psABI, "Linker Optimization"; "ELF Handling For
--- Thread-Local Storage", "Linker Relaxations"), and the place of AArch64's words.
---   cells_of p               what each byte of a pattern may be
---   field_of p               how far behind the pattern's start the relocation's field begins
---   stands_before bs o p     the pattern stands in the bytes, whole, with its field at o
+-- The bytes that rows match in the input: those of x86-64 (Intel SDM; x86-64 psABI, "Linker Optimization"; "ELF Handling For
+-- Thread-Local Storage", "Linker Relaxations"), and the position of AArch64's words.
+--   cells_of p               the values that each byte of a pattern may have
+--   field_of p               the offset of the relocation's field in the pattern
+--   stands_before bs o p     the whole pattern is in the bytes, with its field at o
 use Rattle.std.specs.Prelude.{ℕ, ◌+◌, ◌-◌, ◌==◌, Bool, true, false, ◌&&◌, ◌||◌, nat_le, List, [], ◌∷◌, ◌++◌, length, slice_range}
 use Rattle.std.specs.Int.RustNames.{bit_and}
 use Rattle.wild_relax.specs.declared.pattern.Prefix.{Prefix}
@@ -25,7 +25,7 @@ fits Rex2Wide b = b == 0x08 || b == 0x0c || b == 0x48 || b == 0x4c
 fits Slot b = bit_and b 0xc7 == 5
 fits Any b = true
 
--- the bytes begin with what the cells say
+-- the bytes start with values that the cells allow
 abbrev pub stands : List Cell → List ℕ → Bool
 stands [] bs = true
 stands (c ∷ cs) [] = false
@@ -39,7 +39,7 @@ exact (b ∷ bs) = Is b ∷ exact bs
 abbrev pub field : List Cell
 field = Any ∷ Any ∷ Any ∷ Any ∷ []
 
--- the prefix, with 64 bits, of a register that any ModRM byte may name
+-- the prefix of a 64-bit instruction whose register any ModRM byte may encode
 abbrev pub prefix_cells : Prefix → List Cell
 prefix_cells Rex = RexWide ∷ []
 prefix_cells Rex2 = Is 0xd5 ∷ RexWide ∷ []
@@ -48,7 +48,7 @@ abbrev pub lea_prefix_cells : Prefix → List Cell
 lea_prefix_cells Rex = RexWide ∷ []
 lea_prefix_cells Rex2 = Is 0xd5 ∷ Rex2Wide ∷ []
 
--- register and memory (Intel SDM, "MOV", "SUB", "CMP", "ADD")
+-- operations on a register and memory (Intel SDM, "MOV", "SUB", "CMP", "ADD")
 abbrev pub opcode : Operation → ℕ
 opcode operation.Mov = 0x8b
 opcode operation.Sub = 0x2b
@@ -97,7 +97,7 @@ field_of (Lea Rex2) = 4
 field_of DescriptorCall = 0
 field_of (Among s k) = 0
 
--- the cells stand in the bytes, from start on
+-- the bytes from start on have values that the cells allow
 unfoldable pub stands_at : List ℕ → ℕ → List Cell → Bool
 stands_at bytes start cells = nat_le (start + length cells) (length bytes) && stands cells (slice_range bytes start (start + length cells))
 

@@ -1,6 +1,6 @@
--- The rewrite that stands at a relocation.
---   relaxation_x86_64 q, relaxation_aarch64 q   that of a machine
---   chosen_of m q         its row, by the machine
+-- The rewrite that applies to a relocation.
+--   relaxation_x86_64 q, relaxation_aarch64 q   the rewrite of each machine
+--   chosen_of m q         its row, for a given machine
 use Rattle.std.specs.Prelude.{◌≡◌, refl, Bool, Option, Some, None, Result, Ok, Err}
 use Rattle.wild_types.specs.declared.kind.Machine.{Machine}
 use Rattle.wild_types.specs.declared.kind.Machine.TheVariants as machine
@@ -13,7 +13,7 @@ use Rattle.wild_relax.specs.Rows.{chosen_x86_64}
 use Rattle.wild_relax.specs.RowsAArch64.{chosen_aarch64}
 use Rattle.wild_relax.specs.RowSymbols.{is_mandatory}
 
--- with whether it is taken also where rewriting is off
+-- the row, and whether it is applied even if rewriting is off
 abbrev pub with_duty : {R : Type 0} → (Row → Bool → R) → Question → Result (Option Row) UnknownSequence → Result (Option R) UnknownSequence
 with_duty make q (Ok None) = Ok None
 with_duty make q (Ok (Some row)) = Ok (Some (make row (is_mandatory row.duty q)))
@@ -25,7 +25,7 @@ of_x86_64 row mandatory = record { row = row; mandatory = mandatory }
 abbrev pub of_aarch64 : Row → Bool → ElfAArch64Relaxation
 of_aarch64 row mandatory = record { row = row; mandatory = mandatory }
 
--- the first row that stands, as a rewrite
+-- the first row that applies, as a rewrite
 abbrev pub relaxation_x86_64 : Question → Result (Option ElfX86_64Relaxation) UnknownSequence
 relaxation_x86_64 q = with_duty of_x86_64 q (chosen_x86_64 q)
 
@@ -34,18 +34,18 @@ relaxation_aarch64 q = with_duty of_aarch64 q (chosen_aarch64 q)
 
 -- ---- by machine
 
--- the rows that rewrites are of
+-- the rows of rewrites
 abbrev pub rows_of : {R : Type 0} → (R → Row) → Result (Option R) UnknownSequence → Result (Option Row) UnknownSequence
 rows_of row (Ok None) = Ok None
 rows_of row (Ok (Some r)) = Ok (Some (row r))
 rows_of row (Err e) = Err e
 
--- the first row that stands at a relocation, or why it is refused
+-- the first row that applies to a relocation, or why it is refused
 abbrev pub chosen_of : Machine → Question → Result (Option Row) UnknownSequence
 chosen_of machine.X86_64 q = chosen_x86_64 q
 chosen_of machine.AArch64 q = chosen_aarch64 q
 
--- the duty changes no row
+-- the flag does not change the row
 pub rows_with_duty : (q : Question) (found : Result (Option Row) UnknownSequence) → rows_of (λ (r : ElfX86_64Relaxation). r.row) (with_duty of_x86_64 q found) ≡ found
 rows_with_duty q (Ok None) = refl
 rows_with_duty q (Ok (Some row)) = refl

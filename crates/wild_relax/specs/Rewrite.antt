@@ -1,15 +1,15 @@
--- What a rewrite writes.
---   Rewrite            which bytes around the field it replaces, by what, and how the field is written then
---   rewritten w o bs   the bytes of a section after a rewrite whose field stood at o
---   is_skip m          the relocation behind belongs to the same sequence
---   HasRoom w o n      the bytes that it replaces are among the n bytes of the section
+-- The changes that a rewrite makes.
+--   Rewrite            which bytes around the field it replaces and with which, and how the field is written afterwards
+--   rewritten w o bs   the bytes of a section after a rewrite whose field was at o
+--   is_skip m          the next relocation belongs to the same sequence
+--   HasRoom w o n      the bytes that it replaces are within the n bytes of the section
 use Rattle.std.specs.Prelude.{ℕ, ℤ, ◌+◌, ◌-◌, ◌≤◌, Bool, true, false, List, slice_range}
 use Rattle.wild_words.specs.Words.{place}
 use Rattle.wild_relax.specs.declared.relaxation.RelocationModifier.{RelocationModifier}
 use Rattle.wild_relax.specs.declared.relaxation.RelocationModifier.TheVariants.{Normal, SkipNextRelocation}
 
--- it replaces `size` bytes, from `back` bytes before the field on, by `bytes` of them; the field, among them with any bytes,
--- stands `field` bytes behind their start then, and is of that relocation type with that addend
+-- It replaces `size` bytes, from `back` bytes before the field on, with `bytes` of them. Afterwards the field is `field` bytes
+-- after their start and has that relocation type and addend; its own bytes are among them, with any value.
 pub record Rewrite : Type 0 where
   pub back : ℕ
   pub size : ℕ

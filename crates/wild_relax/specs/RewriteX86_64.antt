@@ -1,6 +1,6 @@
--- What rows write: those of x86-64 (Intel SDM; x86-64 psABI, "Linker Optimization"; "ELF Handling For Thread-Local Storage", "Linker
--- Relaxations"), and AArch64's words.
---   rewrite_of row     the bytes, the place of the field, its relocation type and its addend
+-- The bytes that rows write: x86-64 instructions (Intel SDM; x86-64 psABI, "Linker Optimization"; "ELF Handling For Thread-Local
+-- Storage", "Linker Relaxations"), and AArch64 words.
+--   rewrite_of row     the bytes, the offset of the field, its relocation type and its addend
 --   info_written row   how the field is written
 use Rattle.std.specs.Prelude.{ℕ, ℤ, pos, ◌+◌, ◌*◌, ◌/◌, ◌%◌, ◌^◌, ◌==◌, Bool, ◌||◌, if◌then◌else◌, List, [], ◌∷◌, ◌++◌, slice_index, Option, Some, None, replicate, true, false}
 use Rattle.wild_words.specs.Words.{word, number}
@@ -37,8 +37,8 @@ use Rattle.wild_relax.specs.Rewrite.{Rewrite}
 
 -- ---- bytes
 
--- the register stood in ModRM.reg and stands in ModRM.rm then, so that bit R of the prefix becomes bit B, and R4 becomes B4
--- (Intel SDM, "REX Prefixes"; Intel APX, "REX2")
+-- The register moves from ModRM.reg to ModRM.rm, so that bit R of the prefix becomes bit B, and R4 becomes B4 (Intel SDM, "REX
+-- Prefixes"; Intel APX, "REX2").
 abbrev pub immediate_prefix : Prefix → ℕ → ℕ
 immediate_prefix Rex b = if b == 0x4c then 0x49 else b
 immediate_prefix Rex2 b = if b == 0x48 then 0x18 else if b == 0x4c then 0x19 else if b == 0x0c then 0x09 else b
@@ -82,7 +82,7 @@ initial_exec_bytes = thread_pointer_bytes ++ (0x48 ∷ 0x03 ∷ 0x05 ∷ 0 ∷ 0
 abbrev pub register_set : ℕ → ℕ
 register_set w = w % 2 ^ 5
 
--- `nop`; `movz` of a number that is shifted by 16, `movk`, `adrp`, `ldr` of 64 bits, `adr` (C6.2)
+-- `nop`; `movz` of a number shifted by 16, `movk`, `adrp`, `ldr` of 64 bits, `adr` (C6.2)
 abbrev pub word_made : Word → ℕ → ℕ
 word_made words.Nop w = 0xd503201f
 word_made words.MovzX0 w = 0xd2a00000
@@ -110,9 +110,9 @@ made_bytes (ThreadPointer local.Large) old = thread_pointer_bytes ++ replicate 1
 made_bytes (ThreadPointer local.NoPlt) old = thread_pointer_bytes ++ replicate 4 0x90
 made_bytes (Code w) old = word 4 (word_made w (number old))
 
--- ---- their place
+-- ---- positions
 
--- so many bytes, from so many before the field on; the field stands so far behind their start then
+-- `size` bytes are replaced, from `back` bytes before the field on; afterwards the field is `field` bytes after their start
 abbrev pub change : (back size field : ℕ) → (keeps : Bool) → Change
 change back size field keeps = record { back = back; size = size; field = field; keeps_addend = keeps }
 
@@ -133,7 +133,7 @@ change_of (ThreadPointer local.Large) = change 3 22 3 true
 change_of (ThreadPointer local.NoPlt) = change 3 13 3 true
 change_of (Code w) = change 0 4 0 true
 
--- an immediate counts from nothing, a distance from the end of its field
+-- an immediate has addend 0; a distance keeps the addend, as it is relative to the end of its field
 abbrev pub addend_by : Bool → ℤ → ℤ
 addend_by true a = a
 addend_by false a = pos 0
@@ -164,12 +164,12 @@ number_written written.TlsIeAdrGotTprelPage21 = abi.r_aarch64_tlsie_adr_gottprel
 number_written written.TlsIeLd64GotTprelLo12Nc = abi.r_aarch64_tlsie_ld64_gottprel_lo12_nc
 number_written written.AdrPrelLo21 = abi.r_aarch64_adr_prel_lo21
 
--- a row of a relocation table; without one nothing is written
+-- S + A - P, or L + A - P
 abbrev pub or_nothing : Option RelocationKindInfo → RelocationKindInfo
 or_nothing None = plain kinds.None Zero Signed
 or_nothing (Some info) = info
 
--- S + A - P, or L + A - P
+-- the same field, with that kind of value
 abbrev pub kind_to : Goal → RelocationKind
 kind_to goals.Symbol = kinds.Relative
 kind_to goals.Stub = kinds.PltRelative
@@ -178,7 +178,7 @@ kind_to goals.Stub = kinds.PltRelative
 abbrev pub of_kind : RelocationKind → RelocationKindInfo → RelocationKindInfo
 of_kind kind i = record { kind = kind; size = i.size; mask = i.mask; range = i.range; alignment = i.alignment; bias = i.bias; thunkable = i.thunkable }
 
--- the relocation type is AArch64's
+-- it is a relocation type of AArch64
 abbrev pub is_aarch64 : Written → Bool
 is_aarch64 (written.Code d goal) = true
 is_aarch64 written.TlsLeMovwTprelG1 = true
@@ -188,11 +188,11 @@ is_aarch64 written.TlsIeLd64GotTprelLo12Nc = true
 is_aarch64 written.AdrPrelLo21 = true
 is_aarch64 other = false
 
--- the row of the relocation type, by the machine's table
+-- the row of the relocation type in the machine's table
 abbrev pub type_row : Written → Option RelocationKindInfo
 type_row w = if is_aarch64 w then aarch64_row (number_written w) else x86_64_row (number_written w)
 
--- a distance of code is that of what it goes to
+-- a code distance has the value for its goal, symbol or stub
 abbrev pub going : Written → RelocationKindInfo → RelocationKindInfo
 going (written.Code d goal) i = of_kind (kind_to goal) i
 going w i = i
@@ -204,7 +204,7 @@ info_by w = going w (or_nothing (type_row w))
 abbrev pub info_written : Row → RelocationKindInfo
 info_written row = info_by row.written
 
--- the call of a sequence has the next relocation
+-- the next relocation is that of the sequence's call
 abbrev pub next_by : Option Partner → RelocationModifier
 next_by None = Normal
 next_by (Some p) = SkipNextRelocation
@@ -220,6 +220,6 @@ rewrite_of row = record {
   next = next_by row.partner;
 }
 
--- the field gets the value itself
+-- the field holds the value itself, not a distance
 abbrev pub is_number : Row → Bool
 is_number row = (rewrite_of row).number == abi.r_x86_64_32 || (rewrite_of row).number == abi.r_x86_64_32s

@@ -1,6 +1,6 @@
 -- The call of a sequence, whose relocation is the next one ("ELF Handling For Thread-Local Storage", "Linker Relaxations").
---   partner_distance row      how far its field is behind the row's field
---   has_its_sequence q row    the bytes and the next relocation are what the row needs
+--   partner_distance row      the distance from the row's field to the call's field
+--   has_its_sequence q row    the bytes and the next relocation are those that the row needs
 use Rattle.std.specs.Prelude.{ℕ, ℤ, ◌+◌, ◌==◌, Bool, true, false, not, ◌&&◌, ◌||◌, Option, Some, None, option_map}
 use Rattle.wild_records.specs.Abi.Relocation as abi
 use Rattle.wild_relax.specs.declared.reference.RelocationInfo.{RelocationInfo}
@@ -11,7 +11,7 @@ use Rattle.wild_relax.specs.declared.row.Partner.{Partner}
 use Rattle.wild_relax.specs.Question.{Question, relocation_of, next_of, minus_four, zero}
 use Rattle.wild_relax.specs.Pattern.{stands_before}
 
--- how far its field is behind the row's field
+-- the distance from the row's field to the call's field
 abbrev pub partner_distance : Row → Option ℕ
 partner_distance row = option_map (λ (p : Partner). p.distance) row.partner
 
@@ -19,7 +19,7 @@ abbrev pub form_by : Option Partner → GeneralForm
 form_by None = general.Regular
 form_by (Some p) = p.form
 
--- how it calls
+-- the form of the call
 abbrev pub call_form : Row → GeneralForm
 call_form row = form_by row.partner
 
@@ -29,7 +29,7 @@ is_call_number general.Regular n = n == abi.r_x86_64_pc32 || n == abi.r_x86_64_p
 is_call_number general.NoPlt n = n == abi.r_x86_64_gotpcrel || n == abi.r_x86_64_gotpcrelx || n == abi.r_x86_64_rex_gotpcrelx
 is_call_number general.Large n = n == abi.r_x86_64_pltoff64
 
--- distances count from the end of a field of four bytes
+-- a distance is relative to the end of its four-byte field
 abbrev pub is_call_addend : GeneralForm → ℤ → Bool
 is_call_addend general.Large a = zero a
 is_call_addend other a = minus_four a

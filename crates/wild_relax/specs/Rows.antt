@@ -1,7 +1,7 @@
--- The rows of rewrites of x86-64, and which stands at a relocation.
---   rows_x86_64            the rows in order, as the table has them
---   applies q row          the row stands
---   standing_x86_64 q      the first row that stands
+-- The rewrite rows of x86-64, and which of them applies to a relocation.
+--   rows_x86_64            the rows, in the table's order
+--   applies q row          the row applies
+--   standing_x86_64 q      the first row that applies
 --   chosen_x86_64 q        that row, or why it is refused
 use Rattle.std.specs.Prelude.{◌==◌, Bool, not, ◌&&◌, ◌||◌, List, ◌++◌, Option, Result}
 use Rattle.wild_types.specs.Kinds.{is_executable}
@@ -16,15 +16,15 @@ use Rattle.wild_relax.specs.First.{first_standing, checked}
 use Rattle.wild_relax.specs.RowSymbols.{takes_value, takes_symbol, is_mandatory}
 use Rattle.wild_relax.specs.RowSequences.{has_its_sequence}
 
--- the rows in order, those of one relocation type side by side (x86-64 psABI, "Linker Optimization"; "ELF Handling For Thread-Local
--- Storage", "Linker Relaxations")
+-- the rows in order, grouped by relocation type (x86-64 psABI, "Linker Optimization"; "ELF Handling For Thread-Local Storage",
+-- "Linker Relaxations")
 unfoldable pub rows_x86_64 : List Row
 rows_x86_64 =
     WITH_PC32 ++ (WITH_REX_GOTPCRELX ++ (WITH_CODE_4_GOTPCRELX ++ (WITH_GOTPCRELX ++ (WITH_GOTPCREL ++ (WITH_GOTTPOFF ++ (WITH_CODE_4_GOTTPOFF
     ++ (WITH_PLT32 ++ (WITH_PLTOFF64 ++ (WITH_TLSGD ++ (WITH_TLSLD ++ (WITH_GOTPC32_TLSDESC ++ (WITH_CODE_4_GOTPC32_TLSDESC ++ WITH_TLSDESC_CALL))))))))))))
 
--- code is rewritten in sections of code (gABI, SHF_EXECINSTR), and thread-local storage has one place for each thread in an
--- executable alone
+-- Instructions are rewritten only in executable sections (gABI, SHF_EXECINSTR). Thread-local rewrites need an executable, because
+-- only there the offset from the thread pointer is known.
 unfoldable pub applies : Question → Row → Bool
 applies q row = (relocation_of q).number == row.number && (q.relax || is_mandatory row.duty q) && (not row.in_code || executable q.section_flags) && takes_symbol row.symbol q
     && (not row.thread_local || is_executable q.kind) && takes_value row.value q
@@ -32,14 +32,14 @@ applies q row = (relocation_of q).number == row.number && (q.relax || is_mandato
 
 -- ---- the choice
 
--- the first row that stands
+-- the first row that applies
 unfoldable pub standing_x86_64 : Question → Option Row
 standing_x86_64 q = first_standing (applies q) rows_x86_64
 
--- a row whose sequence is not there: the relocation type of the input, and how the row's field would have been written
+-- a row whose sequence is missing: the relocation type of the input, and how the row's field would have been written
 abbrev pub unknown_sequence : Question → Row → UnknownSequence
 unknown_sequence q row = record { number = (relocation_of q).number; written = info_written row }
 
--- the first row that stands; refused without its sequence
+-- the first row that applies; refused if its sequence is missing
 unfoldable pub chosen_x86_64 : Question → Result (Option Row) UnknownSequence
 chosen_x86_64 q = checked (has_its_sequence q) (unknown_sequence q) (standing_x86_64 q)

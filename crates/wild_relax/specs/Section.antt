@@ -1,8 +1,8 @@
 -- A rewrite in its section.
---   window q row        the input's bytes that the row is about
---   ChosenStand         a row that is chosen stands, with all that it needs
---   ChosenAreWhole      where a row is chosen, its whole pattern stands in the input
---   SectionsAreLinked   the rewrite and the field, written into the section, are `linked` in place of the pattern
+--   window q row        the input bytes that the row's pattern covers
+--   ChosenStand         a chosen row applies and has all that it needs
+--   ChosenAreWhole      if a row is chosen, its whole pattern is in the input
+--   SectionsAreLinked   the rewrite and the field, written into the section, put `linked` in place of the pattern
 use Rattle.std.specs.Prelude.{◌≡◌, ℕ, ◌+◌, ◌-◌, ◌≤◌, true, not, ◌||◌, List, [], length, slice_range, Some, Ok, Contains}
 use Rattle.wild_words.specs.Words.{place}
 use Rattle.wild_reloc.specs.Field.{written}
@@ -21,14 +21,14 @@ use Rattle.wild_relax.specs.RewriteX86_64.{rewrite_of}
 use Rattle.wild_relax.specs.Linked.{pattern_of, pattern_size, IsChanging, linked}
 use Rattle.wild_relax.specs.KeepX86_64.{IsWhole}
 
--- where the row's pattern begins
+-- the start of the row's pattern
 abbrev pub start_of : Question → Row → ℕ
 start_of q row = (relocation_of q).offset - field_of (pattern_of row)
 
 abbrev pub window : Question → Row → List ℕ
 window q row = slice_range q.bytes (start_of q row) (start_of q row + length (cells_of (pattern_of row)))
 
--- what a row takes of the symbol, the section, the output, the addend and the next relocation
+-- the row's conditions on the symbol, the section, the output, the addend and the next relocation
 pub record IsTaken (q : Question) (row : Row) : Type 0 where
   pub symbol : takes_symbol row.symbol q ≡ true
   pub section : (not row.in_code || executable q.section_flags) ≡ true
@@ -37,7 +37,7 @@ pub record IsTaken (q : Question) (row : Row) : Type 0 where
   pub addend : (not (row.ends || row.needs_end) || minus_four (relocation_of q).addend) ≡ true
   pub partner : has_partner row q ≡ true
 
--- the row stands, its relocation type is the relocation's, and its pattern lies in the section
+-- the row applies, it is of the relocation's type, and its pattern is in the section
 pub record IsStanding (q : Question) (row : Row) : Type 0 where
   pub here : applies q row ≡ true
   pub sequence : has_its_sequence q row ≡ true
@@ -53,7 +53,7 @@ ChosenStand = (q : Question) (row : Row) → chosen_x86_64 q ≡ Ok (Some row) �
 abbrev pub ChosenAreWhole : Type 0
 ChosenAreWhole = (q : Question) (row : Row) → chosen_x86_64 q ≡ Ok (Some row) → IsWhole (cells_of (pattern_of row)) (window q row)
 
--- where the field stands then
+-- the offset of the field after the rewrite
 abbrev pub field_after : Question → Row → ℕ
 field_after q row = (relocation_of q).offset - (rewrite_of row).back + (rewrite_of row).field
 

@@ -1,11 +1,11 @@
--- Words of AArch64 that stand in a row, each with a relocation (aaelf64, "Relocation types"; "Thread Local Storage").
+-- Consecutive words of AArch64, each with a relocation (aaelf64, "Relocation types"; "Thread Local Storage").
 --   types_of s              their relocation types, in order
---   words_before n          how many words of its sequence stand before that of a relocation type
---   words_at bs start n     so many words of the bytes
+--   words_before n          the number of words of the sequence before that of a relocation type
+--   words_at bs start n     n words of the bytes, from a start on
 --   stand_with s r ws       the words are those of the sequence for register r
---   register_of s ws        the register that they are about
---   stand_as s ws           they are those of the sequence, for that register
---   is_among q s k          the relocation is that of the word with k before it, and the others stand around it
+--   register_of s ws        the register that they use
+--   stand_as s ws           they are those of the sequence, for the register that they use
+--   is_among q s k          the relocation is that of the sequence's word k, and the other words and relocations are around it
 use Rattle.std.specs.Prelude.{ℕ, zero, suc, ◌+◌, ◌-◌, ◌*◌, ◌/◌, ◌%◌, ◌^◌, ◌==◌, Bool, true, false, ◌&&◌, ◌||◌, if◌then◌else◌, nat_le, nat_lt, List, [], ◌∷◌, length, drop, slice_range, Option, Some, None}
 use Rattle.wild_words.specs.Words.{number}
 use Rattle.wild_records.specs.Abi.Relocation as abi
@@ -26,7 +26,7 @@ types_of DescriptorCall = abi.r_aarch64_tlsdesc_adr_page21 ∷ abi.r_aarch64_tls
 types_of OffsetSlot = abi.r_aarch64_tlsie_adr_gottprel_page21 ∷ abi.r_aarch64_tlsie_ld64_gottprel_lo12_nc ∷ []
 types_of Address = abi.r_aarch64_adr_prel_pg_hi21 ∷ abi.r_aarch64_add_abs_lo12_nc ∷ []
 
--- so many words stand before that of the type, 0 where it is of no sequence
+-- the number of words before that of the type; 0 if it belongs to no sequence
 abbrev pub words_before : ℕ → ℕ
 words_before n =
     if n == abi.r_aarch64_tlsdesc_ld64_lo12 || n == abi.r_aarch64_tlsie_ld64_gottprel_lo12_nc || n == abi.r_aarch64_add_abs_lo12_nc then 1
@@ -38,7 +38,7 @@ abbrev pub same_symbol : Option ℕ → Option ℕ → Bool
 same_symbol (Some a) (Some b) = a == b
 same_symbol other symbol = false
 
--- these relocations are of those types, of that symbol, with nothing added, 4 bytes apart from a place on
+-- these relocations have those types, that symbol, addend 0 and offsets 4 bytes apart, from a start on
 abbrev pub follow : Option ℕ → ℕ → List ℕ → List RelocationInfo → Bool
 follow symbol place [] rs = true
 follow symbol place (n ∷ ns) [] = false
@@ -46,7 +46,7 @@ follow symbol place (n ∷ ns) (r ∷ rs) = r.number == n && r.offset == place &
 
 -- ---- words
 
--- so many words of the bytes, from a place on
+-- `count` words of the bytes, from a start on
 abbrev pub words_at : List ℕ → ℕ → ℕ → List ℕ
 words_at bs start zero = []
 words_at bs start (suc n) = number (slice_range bs start (start + 4)) ∷ words_at bs (start + 4) n
@@ -68,7 +68,7 @@ is_add r q w = w / 2 ^ 22 == 0x244 && register_set w == r && register_read w == 
 abbrev pub is_blr : ℕ → ℕ → Bool
 is_blr r w = w / 2 ^ 10 == 0x358fc0 && register_set w == 0 && register_read w == r
 
--- the address of a descriptor is in register 0, and that of its function in another
+-- the address of a descriptor is in register 0, and that of its function in another register
 abbrev pub stand_with : Sequence → ℕ → List ℕ → Bool
 stand_with DescriptorCall r (a ∷ b ∷ c ∷ d ∷ []) = nat_le 1 r && is_adrp 0 a && is_ldr r 0 b && is_add 0 0 c && is_blr r d
 stand_with OffsetSlot r (a ∷ b ∷ []) = is_adrp r a && is_ldr r r b
@@ -80,13 +80,13 @@ abbrev pub register_of : List ℕ → ℕ
 register_of (a ∷ b ∷ ws) = register_set b
 register_of other = 31
 
--- 31 is no register of these (C1.2.5, "Register names")
+-- 31 does not name a register here (C1.2.5, "Register names")
 abbrev pub stand_as : Sequence → List ℕ → Bool
 stand_as s ws = nat_lt (register_of ws) 31 && stand_with s (register_of ws) ws
 
 -- ---- both
 
--- where the sequence begins, of a relocation that has k words before it
+-- the start of the sequence, for the relocation of its word k
 abbrev pub sequence_start : Question → ℕ → ℕ
 sequence_start q k = (relocation_of q).offset - 4 * k
 
@@ -95,7 +95,7 @@ is_among q s k =
     nat_le k q.at && nat_le q.at (length q.relocations) && nat_le (4 * k) (relocation_of q).offset && follow (relocation_of q).symbol (sequence_start q k) (types_of s) (drop (q.at - k) q.relocations)
     && nat_le (sequence_start q k + 4 * length (types_of s)) (length q.bytes) && stand_as s (words_at q.bytes (sequence_start q k) (length (types_of s)))
 
--- where the pattern is a word of a sequence, the relocation is its
+-- if the pattern is a word of a sequence, the relocation is that of this word
 abbrev pub has_around : Question → Pattern → Bool
 has_around q (pattern.Among s k) = is_among q s k
 has_around q other = true

@@ -1,8 +1,8 @@
--- The rows of a sequence of AArch64 stand together.
---   asked_at q i         the same question, of the relocation in that place
---   IsOneOf q row s k    the row is that of word k of a sequence, of which each word's row stands at its own relocation
---   RowsStandTogether    so it is of each row that is chosen for a word
---   ChosenStand          a row that is chosen stands, with all that it needs, and what it writes lies in its word
+-- The rows of an AArch64 sequence are applied all together or not at all.
+--   asked_at q i         the same question for the relocation with that index
+--   IsOneOf q row s k    the row is that of word k of a sequence, and the row of each other word is chosen for its own relocation
+--   RowsStandTogether    this holds for each row that is chosen for a word
+--   ChosenStand          a chosen row applies and has all that it needs, and the bytes that it writes are within its word
 use Rattle.std.specs.Prelude.{◌≡◌, ℕ, ◌+◌, ◌≤◌, true, false, length, Contains, Some, Ok, slice_get}
 use Rattle.wild_relax.specs.declared.pattern.Sequence.{Sequence}
 use Rattle.wild_relax.specs.declared.pattern.Pattern.TheVariants.{Among}
@@ -14,7 +14,7 @@ use Rattle.wild_relax.specs.RowsAArch64.{rows_aarch64, applies_aarch64, has_its_
 use Rattle.wild_relax.specs.SequenceAArch64.{types_of, words_at, sequence_start, stand_as}
 use Rattle.wild_relax.specs.KeepAArch64.{Rewriting, rewritings}
 
--- the same of another relocation
+-- the same for another relocation
 abbrev pub asked_at : Question → ℕ → Question
 asked_at q i = record {
   relocations = q.relocations;
@@ -28,7 +28,7 @@ asked_at q i = record {
   address = q.address;
 }
 
--- the rows of a whole sequence stand at the relocations from a place on, and its words in the section
+-- the rows of a whole sequence are chosen for consecutive relocations, and its words are in the section
 pub record IsOneOf (q : Question) (row : Row) (s : Sequence) (k : ℕ) : Type 0 where
   pub whole : Rewriting
   pub known : Contains rewritings whole
@@ -39,13 +39,14 @@ pub record IsOneOf (q : Question) (row : Row) (s : Sequence) (k : ℕ) : Type 0 
   pub each : (j : ℕ) (other : Row) → slice_get whole.rows j ≡ Some other → chosen_aarch64 (asked_at q (first + j)) ≡ Ok (Some other)
   pub words : stand_as s (words_at q.bytes (sequence_start q k) (length (types_of s))) ≡ true
 
--- where a row is chosen for a word of a sequence, those of the other words are chosen for theirs
+-- if a row is chosen for a word of a sequence, those of the other words are chosen for theirs
 abbrev pub RowsStandTogether : Type 0
 RowsStandTogether = (q : Question) (row : Row) (s : Sequence) (k : ℕ) → chosen_aarch64 q ≡ Ok (Some row) → pattern_of row ≡ Among s k → IsOneOf q row s k
 
 -- ---- one row
 
--- the row's pattern begins at the relocation and lies in the section; where it changes a word, that is its pattern
+-- the row's pattern starts at the relocation and is in the section; if the row changes more than its field, the pattern is one
+-- word
 pub record IsStanding (q : Question) (row : Row) : Type 0 where
   pub listed : Contains rows_aarch64 row
   pub here : applies_aarch64 q row ≡ true

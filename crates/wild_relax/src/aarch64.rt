@@ -1,4 +1,13 @@
-//! AArch64 ("ELF for the Arm 64-bit Architecture"), with thunks.
+//! AArch64 as a machine of the linker, with thunks.
+//!
+//! Every instruction is one word, so no rewrite changes a length; unneeded words become `nop`. An address needs two words, each
+//! with its own relocation, and compilers may put other code between them.
+//! So a sequence is rewritten only if its words and relocations are consecutive and use the same register, and then as a whole.
+//! `b` and `bl` reach 128 MiB. A branch to a target further away goes through a thunk, which uses x16.
+//! Bit STO_AARCH64_VARIANT_PCS of `st_other` marks functions with another calling convention.
+//! Outputs with BTI need a landing pad at the start of each stub.
+//! Read "ELF for the Arm 64-bit Architecture" (aaelf64): "Relocation types", "Call and Jump relocations", "Thread Local Storage",
+//! "Program Property"; for the encodings C4.1 and C6.2 of the Arm Architecture Reference Manual.
 ghost use Rattle.std.specs.Prelude.{◌≡◌, length, is_ok, IfErr, OnOk, OnErr};
 ghost use Rattle.wild_relax.specs.ThunkAArch64.{thunk_words, thunk_aarch64, is_variant};
 
@@ -56,11 +65,11 @@ impl Arch for ElfAArch64 {
     }
 }
 
-/// A rewrite of instructions of AArch64 that stands at a relocation.
+/// A rewrite of AArch64 instructions that applies to a relocation.
 #[derive(Clone, Copy)]
 pub struct ElfAArch64Relaxation {
     pub row: Row,
-    /// Whether it is taken also where rewriting is off.
+    /// Whether it is applied even if rewriting is off.
     pub mandatory: bool,
 }
 
@@ -91,19 +100,19 @@ const ADD_X16: u32 = 0x9100_0210;
 
 const BR_X16: u32 = 0xd61f_0200;
 
-/// The target's page is so far from the thunk's that its number does not fit.
+/// The distance from the thunk's page to the target's does not fit in its field.
 #[derive(Clone, Copy, Debug, PartialEq, Eq)]
 pub struct ThunkOutOfRange {
     /// The distance of the pages, modulo 2^64.
     pub value: u64,
 }
 
-/// How a machine carries branches further than they reach.
+/// How a machine extends the range of branches.
 #[derive(Clone, Copy, Debug, PartialEq, Eq)]
 pub struct ThunkConfig {
-    /// So far each branch that may take a thunk reaches.
+    /// Every branch that may use a thunk reaches at least this many bytes.
     pub min_branch_range: u64,
-    /// The bytes of a thunk.
+    /// The size of a thunk in bytes.
     pub thunk_size: u64,
 }
 
@@ -116,8 +125,8 @@ pub const THUNKS: ThunkConfig = ThunkConfig {
     thunk_size: THUNK_SIZE,
 };
 
-/// The thunk at an address that goes on to the target. It is refused exactly where their pages are too far apart, and then
-/// nothing changes.
+/// Writes the thunk at an address that jumps to the target. Fails exactly if their pages are too far apart; then nothing is
+/// written.
 pub fn write_thunk(
     thunk_address: u64,
     target_address: u64,
@@ -147,7 +156,7 @@ fn thunk_words(distance: u64, target_address: u64) -> [u32; 3]
     [adrp, add, BR_X16]
 }
 
-/// Whether a symbol with that `st_other` is called by other rules than the base standard's.
+/// Whether a symbol with that `st_other` has another calling convention than the base standard's.
 pub fn is_symbol_variant_pcs(st_other: u8) -> bool
     ensures { result ≡ is_variant st_other }
 {

@@ -1,4 +1,4 @@
-//! What differs between the machines.
+//! The differences between the machines.
 ghost use Rattle.std.specs.Prelude.{◌≡◌, false, length, is_ok, IfErr, OnOk, OnErr};
 ghost use Rattle.wild_slot.specs.MachineStub.{stub_of};
 ghost use Rattle.wild_slot.specs.SlotParts.{type_of};
@@ -30,7 +30,7 @@ pub trait Arch {
     ghost use Rattle.wild_relax.specs.RewriteX86_64.{rewrite_of};
     ghost use Rattle.wild_relax.specs.Relaxation.{rows_of, chosen_of};
 
-    /// A rewrite of instructions of the machine.
+    /// A rewrite of the machine's instructions.
     type Relaxation: Relaxation + Copy;
 
     /// The machine.
@@ -39,14 +39,14 @@ pub trait Arch {
     /// How a relocation type is printed.
     ghost name_of: { ℕ → RelName };
 
-    /// The first rewrite that stands at a relocation; refused where what it needs besides is not there.
+    /// The first rewrite that applies to a relocation; refused if the bytes or relocations that it needs besides are missing.
     ghost relaxation: { Question → Result (Option Self.Relaxation) UnknownSequence };
 
     /// The machine (gABI, `e_machine`).
     fn arch_identifier() -> Machine
         ensures { result ≡ Self.machine };
 
-    /// The row of a relocation type; none where the table has none.
+    /// The row of a relocation type; none if the table has none.
     fn relocation_from_raw(number: u32) -> Option<RelocationKindInfo>
         ensures { result ≡ row_of Self.machine number }
     {
@@ -71,21 +71,21 @@ pub trait Arch {
         fill_over_and_over(room, filling(Self::arch_identifier(), section_flags));
     }
 
-    /// How the values of a property of that type are joined; none where the machine has no such type (`pr_type`).
+    /// How the values of a property of that type are joined; none if the machine has no such type (`pr_type`).
     fn get_property_class(ptype: u32) -> Option<PropertyClass>
         ensures { result ≡ property_class Self.machine ptype }
     {
         property_class(Self::arch_identifier(), ptype)
     }
 
-    /// Whether the field of that type cannot hold the address of a symbol that another module may define.
+    /// Whether a field of that type cannot hold the address of a symbol that another module may define.
     fn is_disallowed_for_interposable_symbols(number: u32) -> bool
         ensures { result ≡ is_barred_type Self.machine number }
     {
         is_barred_type(Self::arch_identifier(), number)
     }
 
-    /// Whether the field of that type cannot hold an address of a shared object, which its loader chooses.
+    /// Whether a field of that type cannot hold an address of a shared object, because the loader chooses that address.
     fn is_disallowed_in_shared_object(number: u32) -> bool
         ensures { result ≡ is_barred_in_shared Self.machine number }
     {
@@ -99,15 +99,15 @@ pub trait Arch {
         type_of(Self::arch_identifier(), kind)
     }
 
-    /// Where the thread pointer stands, modulo 2^64.
+    /// The address of the thread pointer, modulo 2^64.
     fn tp_offset_start(layout: &Layout) -> u64
         ensures { result ≡ thread_pointer Self.machine layout.now.tls }
     {
         thread_pointer(Self::arch_identifier(), layout.tls)
     }
 
-    /// Writes the stub at `plt_address` that goes on to the address in the slot at `got_address`. It is refused exactly
-    /// where the slot is too far, and then nothing changes.
+    /// Writes the stub at `plt_address` that jumps to the address in the slot at `got_address`. Fails exactly if the slot is too
+    /// far; then nothing is written.
     fn write_plt_entry(
         plt_entry: &mut [u8],
         got_address: u64,
@@ -128,7 +128,7 @@ pub trait Arch {
         )
     }
 
-    /// The same for an output whose indirect branches may have to land on a mark (`bti`).
+    /// The same for an output in which indirect branches may need a landing pad (`bti`).
     fn write_plt_entry_with_bti(
         plt_entry: &mut [u8],
         got_address: u64,
@@ -150,16 +150,15 @@ pub trait Arch {
         )
     }
 
-    /// The first rewrite that stands at the relocation; none where none stands. The bytes that it replaces are in the
-    /// section.
+    /// The first rewrite that applies to the relocation; none if no row applies. The bytes that it replaces are in the section.
     fn new_relaxation(reference: &Reference) -> Result<Option<Self::Relaxation>, UnknownSequence>
         ensures first { result ≡ Self.relaxation (question reference.now) }
         ensures room { IfOk result (λ found. IfSome found (λ r.
             HasRoom (rewrite_of (Self.Relaxation.as_row r)) (relocation_of (question reference.now)).offset (length reference.now.bytes.now))) };
 
-    /// The rewrites are the machine's own.
+    /// The rewrites are those of this machine.
     ghost same_machine: { Self.Relaxation.machine ≡ Self.machine };
 
-    /// Their rows are those that stand.
+    /// Their rows are the rows that apply.
     ghost same_rows: { (q : Question) → rows_of Self.Relaxation.as_row (Self.relaxation q) ≡ chosen_of Self.machine q };
 }

@@ -1,4 +1,4 @@
-//! What differs between the machines, and the rewrites of instructions that need no slot or stub.
+//! The differences between the machines, and the rewrites of instructions that do not need their slot or stub.
 #![tactic(auto)]
 
 pub mod aarch64;

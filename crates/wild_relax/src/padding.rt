@@ -1,10 +1,10 @@
-//! What fills the bytes of a section that nothing owns.
+//! The filling of padding bytes in a section.
 ghost use Rattle.std.specs.Prelude.{◌≡◌, length};
 ghost use Rattle.wild_relax.specs.Padding.{code_filling, filling, repeated};
 
 use wild_types::{Machine, is_executable};
 
-/// Four bytes between sections of code: `int3`, which is not to be run, or a `nop`.
+/// Four bytes between pieces of code: `int3`, which is not meant to be executed, or a `nop`.
 pub fn code_filling(machine: Machine) -> [u8; 4]
     ensures { result ≡ code_filling machine }
 {
@@ -14,7 +14,7 @@ pub fn code_filling(machine: Machine) -> [u8; 4]
     }
 }
 
-/// Four bytes that fill the padding of a section with those flags (`sh_flags`), over and over.
+/// Four bytes that are repeated to fill the padding of a section with those flags (`sh_flags`).
 pub fn filling(machine: Machine, section_flags: u64) -> [u8; 4]
     ensures { result ≡ filling machine section_flags }
 {
@@ -25,7 +25,7 @@ pub fn filling(machine: Machine, section_flags: u64) -> [u8; 4]
     }
 }
 
-/// Fills a room with four bytes over and over, cut at the end.
+/// Fills a range with four bytes repeated, cut at the end.
 #[tactic(auto, using(std::proofs::lemmas::List::Edits::fill_by_more, std::proofs::lemmas::List::FromFn::fill_by_all))]
 pub fn fill_over_and_over(room: &mut [u8], bytes: [u8; 4])
     ensures { room.new ≡ repeated bytes (length room.old) }

@@ -1,9 +1,9 @@
-//! The bytes that rows look for in the input: those of x86-64 (Intel SDM; x86-64 psABI, "Linker Optimization"; "ELF Handling For
-//! Thread-Local Storage", "Linker Relaxations"), and the place of AArch64's words.
+//! The bytes that rows match in the input: those of x86-64 (Intel SDM; x86-64 psABI, "Linker Optimization"; "ELF Handling For
+//! Thread-Local Storage", "Linker Relaxations"), and the position of AArch64's words.
 ghost use Rattle.std.specs.Prelude.{◌≡◌, ◌≤◌, length};
 ghost use Rattle.wild_relax.specs.Pattern.{fits, stands, cells_of, field_of, stands_before};
 
-/// The prefix of an instruction that works on 64 bits.
+/// The prefix of a 64-bit instruction.
 #[derive(Clone, Copy)]
 pub enum Prefix {
     /// One byte, for 16 registers (Intel SDM, "REX Prefixes").
@@ -12,7 +12,7 @@ pub enum Prefix {
     Rex2,
 }
 
-/// What an instruction does with its register and the word in a slot.
+/// The operation of an instruction on its register and the word in a slot.
 #[derive(Clone, Copy)]
 pub enum Operation {
     Mov,
@@ -21,7 +21,7 @@ pub enum Operation {
     Add,
 }
 
-/// A sequence that asks `__tls_get_addr` for the address of a symbol.
+/// A sequence that calls `__tls_get_addr` for the address of a symbol.
 #[derive(Clone, Copy)]
 pub enum GeneralForm {
     /// By a call.
@@ -32,7 +32,7 @@ pub enum GeneralForm {
     Large,
 }
 
-/// A sequence that asks `__tls_get_addr` for the start of the output's own thread-local data.
+/// A sequence that calls `__tls_get_addr` for the start of the output's own thread-local data.
 #[derive(Clone, Copy)]
 pub enum LocalForm {
     /// By a call.
@@ -43,7 +43,7 @@ pub enum LocalForm {
     NoPlt,
 }
 
-/// Words of AArch64 that stand in a row, each with a relocation.
+/// Consecutive words of AArch64, each with a relocation.
 #[derive(Clone, Copy)]
 pub enum Sequence {
     /// The call of a descriptor's function: `adrp x0`, `ldr xN, [x0]`, `add x0, x0`, `blr xN`.
@@ -54,35 +54,35 @@ pub enum Sequence {
     Address,
 }
 
-/// Bytes of the input, with a relocation's field among them.
+/// Bytes of the input that contain a relocation's field.
 #[derive(Clone, Copy)]
 pub enum Pattern {
-    /// None.
+    /// No bytes.
     Nothing,
-    /// A register and the word in a slot, of 64 bits.
+    /// A 64-bit instruction on a register and the word in a slot.
     Wide(Prefix, Operation),
-    /// `mov` of the word in a slot, of 32 bits.
+    /// A 32-bit `mov` of the word in a slot.
     Mov,
     /// `call` through a slot.
     Call,
     /// `jmp` through a slot.
     Jump,
-    /// All of a sequence.
+    /// A whole sequence for a symbol.
     General(GeneralForm),
-    /// A sequence up to the opcode of its call.
+    /// A sequence for the own data, up to the opcode of its call.
     LocalStart(LocalForm),
-    /// All of a sequence.
+    /// A whole sequence for the own data.
     Local(LocalForm),
     /// `lea` of a descriptor.
     Lea(Prefix),
     /// `call` through a descriptor.
     DescriptorCall,
-    /// The word of a sequence that has so many before it.
+    /// A word of a sequence; the number is how many words are before it.
     Among(Sequence, u64),
 }
 
-/// What one byte may be: a fixed one; a REX prefix, or the payload of a REX2 prefix, for 64 bits without an index or a base; a
-/// ModRM byte of `[rip + displacement]`; or any.
+/// The values that one byte may have: a fixed one; a REX prefix, or the payload of a REX2 prefix, for 64 bits without an index or
+/// a base; a ModRM byte of `[rip + displacement]`; or any.
 #[derive(Clone, Copy)]
 pub enum Cell {
     Is(u8),
@@ -294,7 +294,7 @@ pub(crate) fn cells(pattern: Pattern) -> &'static [Cell]
     }
 }
 
-/// How far behind the pattern's start the field begins.
+/// The offset of the field in the pattern.
 pub(crate) fn field(pattern: Pattern) -> u64
     ensures value { result ≡ field_of pattern }
     ensures low { result ≤ 4 }
@@ -323,7 +323,7 @@ fn is_fit(cell: Cell, byte: u8) -> bool
     }
 }
 
-// Whether the bytes begin with what the cells say.
+// Whether the bytes start with values that the cells allow.
 fn is_standing(cells: &[Cell], bytes: &[u8]) -> bool
     ensures { result ≡ stands cells.now bytes.now }
 {
@@ -336,7 +336,7 @@ fn is_standing(cells: &[Cell], bytes: &[u8]) -> bool
     }
 }
 
-/// Whether the pattern stands in the bytes with its field at the offset, whole.
+/// Whether the whole pattern is in the bytes with its field at the offset.
 #[tactic(auto, unfolding(crate::specs::Pattern::stands_before, crate::specs::Pattern::stands_at))]
 pub(crate) fn is_standing_before(bytes: &[u8], offset: u64, pattern: Pattern) -> bool
     ensures { result ≡ stands_before bytes.now offset pattern }

@@ -1,5 +1,5 @@
-//! Types of properties of a program, by how a linker joins what its inputs say of them (x86-64 psABI, "Program Property"; aaelf64, "Program
-//! Property").
+//! Types of program properties, by how a linker joins the values of its inputs (x86-64 psABI, "Program Property"; aaelf64,
+//! "Program Property").
 ghost use Rattle.std.specs.Prelude.{◌≡◌};
 ghost use Rattle.wild_relax.specs.Properties.{property_class};
 
@@ -8,15 +8,15 @@ use wild_types::Machine;
 /// How the values of a property are joined.
 #[derive(Clone, Copy, Debug, PartialEq, Eq)]
 pub enum PropertyClass {
-    /// The bits that all inputs have; none where an input lacks the property.
+    /// The bits that all inputs have; no property if an input lacks it.
     And,
     /// The bits that any input has.
     Or,
-    /// The bits that any input has; none where an input lacks the property.
+    /// The bits that any input has; no property if an input lacks it.
     AndOr,
 }
 
-/// The class of a type of properties (`pr_type`); none where the machine has none for it.
+/// The class of a property type (`pr_type`); none if the machine has none for it.
 #[tactic(auto, unfolding(crate::specs::Properties::property_class))]
 pub fn property_class(machine: Machine, ptype: u32) -> Option<PropertyClass>
     ensures { result ≡ property_class machine ptype }

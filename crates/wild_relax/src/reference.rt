@@ -1,4 +1,4 @@
-//! What the rows of rewrites ask of a relocation.
+//! The properties of a relocation on which rewrite rows depend.
 ghost use Rattle.std.specs.Prelude.{◌≡◌, ◌+◌, slice_get};
 ghost use Rattle.wild_relax.specs.Question.{question, relocation_of, next_of, is_known, is_own, minus_four, zero};
 
@@ -8,18 +8,18 @@ use wild_types::{OutputKind, ValueFlags};
 /// A relocation of an input section.
 #[derive(Clone, Copy)]
 pub struct RelocationInfo {
-    /// The machine's relocation type.
+    /// The relocation type of the machine.
     pub number: u32,
-    /// Where its field begins in the section, in bytes.
+    /// The offset of its field in the section, in bytes.
     pub offset: u64,
-    /// The symbol that it names.
+    /// The index of its symbol.
     pub symbol: Option<usize>,
     pub addend: i64,
     /// Whether the symbol's name is `__tls_get_addr`.
     pub names_tls_get_addr: bool,
 }
 
-/// A row stands at a relocation, and the bytes or the next relocation are not what it needs.
+/// A row applies to a relocation, but the bytes or the next relocation are not those that it needs.
 #[derive(Clone, Copy)]
 pub struct UnknownSequence {
     /// The relocation type of the input.
@@ -37,32 +37,32 @@ pub const NO_RELOCATION: RelocationInfo = RelocationInfo {
     names_tls_get_addr: false,
 };
 
-/// A relocation, with all that a row asks of it. A symbol of merged strings has another value for each addend: no row is
-/// asked for it.
+/// A relocation, with all the properties that rows depend on. Relocations to merged strings are not rewritten, because their
+/// symbol's value differs for each addend.
 #[derive(Clone, Copy)]
 pub struct Reference<'a> {
-    /// Relocations of the section, this one and the one behind it among them.
+    /// Relocations of the section, including this one and the one after it.
     pub relocations: &'a [RelocationInfo],
-    /// Its place in that list.
+    /// Its index in that list.
     pub at: usize,
-    /// The section's bytes, those of the input, never rewritten ones.
+    /// The section's bytes as in the input, never rewritten ones.
     pub bytes: &'a [u8],
     /// The symbol's flags.
     pub flags: ValueFlags,
-    /// The output's.
+    /// The kind of output.
     pub kind: OutputKind,
     /// The section's `sh_flags`.
     pub section_flags: u64,
     /// Whether instructions are rewritten.
     pub relax: bool,
-    /// The symbol's address, where it has one.
+    /// The symbol's address, if it has one.
     pub value: Option<u64>,
     /// The section's address.
     pub address: u64,
 }
 
 impl Reference<'_> {
-    // The relocation; without one, a relocation that does nothing.
+    // The relocation; if there is none, a relocation that does nothing.
     pub(crate) fn relocation(&self) -> RelocationInfo
         ensures { result ≡ relocation_of (question self.now) }
     {
@@ -72,7 +72,7 @@ impl Reference<'_> {
         }
     }
 
-    // The relocation behind it.
+    // The relocation after it.
     pub(crate) fn next(&self) -> Option<RelocationInfo>
         ensures { result ≡ next_of (question self.now) }
     {
@@ -80,7 +80,7 @@ impl Reference<'_> {
         self.relocations.get(next).copied()
     }
 
-    // Whether the value is a number when the image is linked.
+    // Whether the value is known at link time.
     pub(crate) fn is_known(&self) -> bool
         ensures { result ≡ is_known (question self.now) }
     {
@@ -88,7 +88,7 @@ impl Reference<'_> {
             || self.flags.has_link_time_address() && self.kind.has_fixed_load_address()
     }
 
-    // Whether this output's definition is the one that counts.
+    // Whether the symbol is not interposable: this output's definition is used.
     pub(crate) fn is_own(&self) -> bool
         ensures { result ≡ is_own (question self.now) }
     {
@@ -96,7 +96,7 @@ impl Reference<'_> {
     }
 }
 
-// Whether an addend takes back the four bytes of its field.
+// Whether an addend is -4: the distance is relative to the end of the four-byte field.
 #[tactic(auto, unfolding(crate::specs::Question::minus_four))]
 pub(crate) fn is_minus_four(addend: i64) -> bool
     ensures { result ≡ minus_four addend }
@@ -104,7 +104,7 @@ pub(crate) fn is_minus_four(addend: i64) -> bool
     addend == -4
 }
 
-// Whether an addend adds nothing.
+// Whether an addend is 0.
 #[tactic(auto, unfolding(crate::specs::Question::zero))]
 pub(crate) fn is_zero(addend: i64) -> bool
     ensures { result ≡ zero addend }

@@ -1,20 +1,20 @@
-//! What a rewrite is to the writer of a section.
+//! The interface of a rewrite to the writer of a section.
 ghost use Rattle.std.specs.Prelude.{◌≡◌, ◌+◌, ◌-◌, ◌≤◌, length};
 
 use crate::rewrite;
 use crate::row::Row;
 use wild_reloc::RelocationKindInfo;
 
-/// What becomes of an instruction, by the names of the first linker that had them; `n` bytes of it stand before the field.
+/// The change to an instruction, with the names that libwild uses; `n` is the number of its bytes before the field.
 #[derive(Clone, Copy, PartialEq, Eq)]
 pub enum RelaxationKind {
-    /// No byte but the field's changes.
+    /// Only the field changes.
     NoOp,
     /// `mov` of the word in a slot to `lea`.
     MovIndirectToLea,
     /// `mov` of the word in a slot to one of an immediate.
     MovIndirectToAbsolute,
-    /// The same with a prefix.
+    /// The same for an instruction with a prefix.
     RexMovIndirectToAbsolute(u8),
     /// `sub` of the word in a slot to one of an immediate, with a prefix.
     RexSubIndirectToAbsolute(u8),
@@ -44,34 +44,34 @@ pub enum RelaxationKind {
     TlsDescToInitialExec,
     /// The call through a descriptor to nothing.
     SkipTlsDescCall,
-    /// A word to `nop`.
+    /// The word becomes `nop`.
     ReplaceWithNop,
-    /// The third word of a descriptor's call to `movz` of an offset's upper half.
+    /// The third word of a descriptor call becomes `movz` of an offset's upper half.
     MovzX0Lsl16,
-    /// The fourth to `movk` of its lower half.
+    /// The fourth word becomes `movk` of its lower half.
     MovkX0,
-    /// The third to `adrp` of the slot of the offset.
+    /// The third word becomes `adrp` of the offset's slot.
     AdrpX0,
-    /// The fourth to `ldr` of it.
+    /// The fourth word becomes `ldr` of that slot.
     LdrX0,
-    /// `adrp` of the slot of an offset to `movz` of its upper half.
+    /// `adrp` of an offset's slot becomes `movz` of its upper half.
     MovzXnLsl16,
-    /// `ldr` of it to `movk` of its lower half.
+    /// `ldr` of that slot becomes `movk` of its lower half.
     MovkXn,
-    /// `adrp` and `add` of an address to `nop` and `adr`.
+    /// `adrp` and `add` of an address become `nop` and `adr`.
     AdrpAddToNopAdr,
 }
 
-/// What is done with the relocation behind a rewritten one.
+/// How the relocation after a rewritten one is processed.
 #[derive(Clone, Copy)]
 pub enum RelocationModifier {
-    /// It is taken for itself.
+    /// On its own.
     Normal,
-    /// It is of the same sequence, and writes nothing.
+    /// It belongs to the same sequence, and writes nothing.
     SkipNextRelocation,
 }
 
-/// A rewrite of instructions that stands at a relocation: a row, and whether it is taken also where rewriting is off.
+/// A rewrite of instructions that applies to a relocation: a row, and whether it is applied even if rewriting is off.
 pub trait Relaxation {
     ghost use Rattle.std.specs.Prelude.{Bool};
     ghost use Rattle.wild_types.specs.declared.kind.Machine.{Machine};
@@ -82,7 +82,7 @@ pub trait Relaxation {
     /// Its row.
     ghost as_row: { Self → Row };
 
-    /// Whether it is taken also where rewriting is off.
+    /// Whether it is applied even if rewriting is off.
     ghost mandatory: { Self → Bool };
 
     /// The machine.
@@ -92,13 +92,12 @@ pub trait Relaxation {
     fn row(&self) -> Row
         ensures { result ≡ Self.as_row self.now };
 
-    /// Whether it is taken also where rewriting is off.
+    /// Whether it is applied even if rewriting is off.
     fn is_mandatory(&self) -> bool
         ensures { result ≡ Self.mandatory self.now };
 
-    /// Writes the instructions, all but their field, into the bytes of the section, and moves the place of the field and
-    /// its addend. The bytes around the field, before and behind as many as the rewrite changes, are in the section; no
-    /// others change.
+    /// Writes the instructions, except for their field, into the bytes of the section, and updates the field's offset and its
+    /// addend. All bytes that the rewrite replaces, before and after the field, are in the section; no others change.
     fn apply(&self, section_bytes: &mut [u8], offset_in_section: &mut u64, addend: &mut i64)
         requires before { (rewrite_of (Self.as_row self.now)).back ≤ offset_in_section.old }
         requires behind { offset_in_section.old - (rewrite_of (Self.as_row self.now)).back + (rewrite_of (Self.as_row self.now)).size ≤ length section_bytes.old }
@@ -120,21 +119,21 @@ pub trait Relaxation {
         self.row().row_written()
     }
 
-    /// What becomes of the instructions.
+    /// The name of the change.
     fn debug_kind(&self) -> RelaxationKind
         ensures { result ≡ (Self.as_row self.now).kind }
     {
         self.row().kind
     }
 
-    /// What is done with the relocation behind.
+    /// How the next relocation is processed.
     fn next_modifier(&self) -> RelocationModifier
         ensures { result ≡ (rewrite_of (Self.as_row self.now)).next }
     {
         self.row().next_modifier()
     }
 
-    /// Whether the field gets the value itself, and not a distance: where it does not fit, the slot is asked after all.
+    /// Whether the field holds the value itself, not a distance. If the value does not fit, the writer uses the slot after all.
     fn needs_got_fallback(&self) -> bool
         ensures { result ≡ is_number (Self.as_row self.now) }
     {

@@ -1,4 +1,4 @@
-//! What rows write.
+//! The bytes that rows write.
 ghost use Rattle.std.specs.Prelude.{◌≡◌, ◌+◌, ◌≤◌, length, slice_range};
 ghost use Rattle.wild_words.specs.Words.{place};
 ghost use Rattle.wild_relax.specs.RewriteX86_64.{immediate_prefix, immediate_opcode, immediate_digit, immediate_modrm, immediate_bytes, mov_immediate_bytes, word_made, change_of, made_bytes, distance_type, number_written, kind_to, is_aarch64, type_row, going, rewrite_of, info_written, is_number};
@@ -27,7 +27,7 @@ const LOCAL_EXEC: [u8; 16] = [
     0x64, 0x48, 0x8b, 0x04, 0x25, 0, 0, 0, 0, 0x48, 0x8d, 0x80, 0, 0, 0, 0,
 ];
 
-// The same and six `nop`.
+// The same, and six `nop`.
 const LOCAL_EXEC_LARGE: [u8; 22] = [
     0x64, 0x48, 0x8b, 0x04, 0x25, 0, 0, 0, 0, 0x48, 0x8d, 0x80, 0, 0, 0, 0, 0x90, 0x90, 0x90, 0x90,
     0x90, 0x90,
@@ -38,7 +38,7 @@ const INITIAL_EXEC: [u8; 16] = [
     0x64, 0x48, 0x8b, 0x04, 0x25, 0, 0, 0, 0, 0x48, 0x03, 0x05, 0, 0, 0, 0,
 ];
 
-// `mov rax, fs:0`, with three prefixes more.
+// `mov rax, fs:0`, with three further prefixes.
 const THREAD_POINTER: [u8; 12] = [0x66, 0x66, 0x66, 0x64, 0x48, 0x8b, 0x04, 0x25, 0, 0, 0, 0];
 
 // `mov rax, fs:0` and thirteen `nop`.
@@ -52,16 +52,16 @@ const THREAD_POINTER_NO_PLT: [u8; 13] = [
     0x64, 0x48, 0x8b, 0x04, 0x25, 0, 0, 0, 0, 0x90, 0x90, 0x90, 0x90,
 ];
 
-/// Which bytes are replaced, and where their field stands then.
+/// Which bytes are replaced, and the offset of their field afterwards.
 #[derive(Clone, Copy)]
 pub struct Change {
-    /// How many bytes before the field they begin.
+    /// The number of bytes from their start to the field.
     pub back: u64,
-    /// How many these are.
+    /// The number of bytes.
     pub size: u64,
-    /// How far behind their start the field stands then.
+    /// The offset of the field from their start, after the rewrite.
     pub field: u64,
-    /// Whether the field has the input's addend; else it has none.
+    /// Whether the field keeps the input's addend; otherwise it has addend 0.
     pub keeps_addend: bool,
 }
 
@@ -100,7 +100,7 @@ const AT_CALL: Change = Change {
     keeps_addend: true,
 };
 
-// The field stands a byte earlier.
+// The field moves one byte towards the start.
 const AT_JUMP: Change = Change {
     back: 2,
     size: 6,
@@ -134,7 +134,7 @@ const TO_SLOT: Change = Change {
     ..AT_PAIR
 };
 
-// Without a field.
+// No field is written.
 const AT_OWN_PAIR: Change = Change {
     back: 3,
     size: 12,
@@ -183,7 +183,7 @@ pub(crate) fn change_of(made: Made) -> Change
     }
 }
 
-// A distance of code.
+// The relocation type of a code distance.
 fn distance_type(distance: Distance) -> u32
     ensures { result ≡ distance_type distance }
 {
@@ -226,7 +226,7 @@ fn kind_to(goal: Goal) -> RelocationKind
     }
 }
 
-// Whether the relocation type is AArch64's.
+// Whether it is a relocation type of AArch64.
 fn is_aarch64(written: Written) -> bool
     ensures { result ≡ is_aarch64 written }
 {
@@ -241,7 +241,7 @@ fn is_aarch64(written: Written) -> bool
     )
 }
 
-// The row of the relocation type, by the machine's table.
+// The row of the relocation type in the machine's table.
 fn type_row(written: Written) -> Option<RelocationKindInfo>
     ensures { result ≡ type_row written }
 {
@@ -265,14 +265,14 @@ fn going(written: Written, info: RelocationKindInfo) -> RelocationKindInfo
 }
 
 impl Row {
-    /// How many bytes before the field the row's own begin.
+    /// The distance from the start of the row's bytes to the field in the input.
     pub fn back(self) -> u64
         ensures { result ≡ (rewrite_of self).back }
     {
         change_of(self.made).back
     }
 
-    /// How far behind them the field stands then.
+    /// The offset of the field from that start, after the rewrite.
     pub fn field(self) -> u64
         ensures { result ≡ (rewrite_of self).field }
     {
@@ -304,14 +304,14 @@ impl Row {
         }
     }
 
-    // Whether the field gets the value itself.
+    // Whether the field holds the value itself.
     pub(crate) fn is_number(self) -> bool
         ensures { result ≡ is_number self }
     {
         matches!(self.written, Written::Signed32 | Written::Unsigned32)
     }
 
-    // What is done with the relocation behind.
+    // How the next relocation is processed.
     pub(crate) fn next_modifier(self) -> RelocationModifier
         ensures { result ≡ (rewrite_of self).next }
     {
@@ -335,7 +335,7 @@ fn immediate_prefix(prefix: Prefix, byte: u8) -> u8
     }
 }
 
-// The opcode of an operation over an immediate.
+// The opcode of an operation with an immediate.
 fn immediate_opcode(operation: Operation) -> u8
     ensures { result ≡ immediate_opcode operation }
 {
@@ -345,7 +345,7 @@ fn immediate_opcode(operation: Operation) -> u8
     }
 }
 
-// The digit of an operation over an immediate.
+// The digit of an operation with an immediate.
 fn immediate_digit(operation: Operation) -> u8
     ensures digit { result ≡ immediate_digit operation }
     ensures small { result ≤ 7 }
@@ -365,7 +365,7 @@ fn immediate_modrm(digit: u8, modrm: u8) -> u8
     0xc0 + 8 * digit + modrm / 8 % 8
 }
 
-// The instruction at `start`, without its prefixes but the last byte of them, over an immediate.
+// Writes the instruction at `start` with an immediate; of its prefixes only the last byte changes.
 fn write_immediate(bytes: &mut [u8], start: usize, prefix: Prefix, operation: Operation)
     requires { start + 3 ≤ length bytes.old }
     ensures { bytes.new ≡ place start (immediate_bytes prefix operation (slice_range bytes.old start (start + 3))) bytes.old }
@@ -389,7 +389,7 @@ fn write_mov_immediate(bytes: &mut [u8], start: usize)
     put(bytes, start, &part);
 }
 
-// The word, all but its field.
+// The word, except for its field.
 fn word_made(made: Word, old: u32) -> u32
     ensures { result ≡ word_made made old }
 {
@@ -406,7 +406,7 @@ fn word_made(made: Word, old: u32) -> u32
     }
 }
 
-/// Writes what is made, which begins at `start`.
+/// Writes the bytes of a rewrite from `start` on.
 pub(crate) fn write(made: Made, bytes: &mut [u8], start: usize)
     requires { start + (change_of made).size ≤ length bytes.old }
     ensures { bytes.new ≡ place start (made_bytes made (slice_range bytes.old start (start + (change_of made).size))) bytes.old }

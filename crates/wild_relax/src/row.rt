@@ -1,5 +1,5 @@
-//! A row of rewrites: what it asks of a relocation, and what it writes, as data; and which row stands at a relocation. The first
-//! that stands is taken.
+//! A rewrite row: its conditions on a relocation, and the bytes that it writes, as data; and which row applies to a relocation.
+//! The first row that applies is chosen.
 ghost use Rattle.std.specs.Prelude.{◌≡◌, ◌+◌};
 ghost use Rattle.wild_relax.specs.Question.{question, relocation_of};
 ghost use Rattle.wild_relax.specs.First.{first_standing};
@@ -18,49 +18,49 @@ use wild_records::abi::relocation::{
 use wild_reloc::{AllowedRange, Sign};
 use wild_types::is_executable;
 
-/// For which symbols a row stands.
+/// The symbols to which a row applies.
 #[derive(Clone, Copy)]
 pub enum SymbolTest {
-    /// Whose address is what a resolver answers (`STT_GNU_IFUNC`).
+    /// Its address is the answer of a resolver (`STT_GNU_IFUNC`).
     Ifunc,
-    /// Any other.
+    /// Any other symbol.
     Plain,
-    /// Of those one that is weak, and that nothing defines.
+    /// A weak symbol other than an IFUNC that nothing defines.
     UndefinedWeak,
-    /// All.
+    /// Every symbol.
     Any,
 }
 
-/// Which values of the symbol a row takes, in that output.
+/// The values of the symbol that a row accepts, in that output.
 #[derive(Clone, Copy)]
 pub enum ValueTest {
-    /// Whatever it is.
+    /// Every value.
     Any,
-    /// One of this output's own definition.
+    /// A value of this output's own definition.
     Own,
-    /// An own number when the image is linked, which a signed field of 32 bits holds.
+    /// An own value, known at link time, that fits in a signed field of 32 bits.
     OwnSigned,
-    /// The same of an unsigned field.
+    /// The same for an unsigned field.
     OwnUnsigned,
-    /// An own one that is no number when the image is linked.
+    /// An own value that is not known at link time.
     OwnMoving,
-    /// An own one of an output at its own addresses, or an address of the output.
+    /// An own value in an output with a fixed base, or an own address of the output.
     OwnFixed,
-    /// An own address of the output, which `adr` so far behind the relocation reaches (C6.2: 21 bits, signed).
+    /// An own address of the output that `adr` reaches from that many bytes after the relocation (C6.2: 21 bits, signed).
     OwnNear(u64),
-    /// One that another module may define.
+    /// A value that another module may define.
     Interposable,
 }
 
-/// Where a row is taken also where rewriting is off: no loader fills the slot, or there is none.
+/// When a row is applied even if rewriting is off, because no loader fills the slot or there is no slot.
 #[derive(Clone, Copy)]
 pub enum Duty {
     Never,
     /// In a static executable.
     Static,
-    /// There, where the symbol is absolute.
+    /// In a static executable, if the symbol is absolute.
     StaticAbsolute,
-    /// There, where it is position-independent.
+    /// In a static executable that is position-independent.
     StaticMovable,
     Always,
 }
@@ -68,13 +68,13 @@ pub enum Duty {
 /// The call of a sequence, which has the next relocation.
 #[derive(Clone, Copy)]
 pub struct Partner {
-    /// How far its field is behind the row's field.
+    /// The distance from the row's field to the call's field.
     pub distance: u64,
-    /// How it calls.
+    /// The form of the call.
     pub form: GeneralForm,
 }
 
-/// What a word of AArch64 becomes, all but its field.
+/// The new word of AArch64, except for its field.
 #[derive(Clone, Copy)]
 pub enum Word {
     /// `nop`.
@@ -87,18 +87,18 @@ pub enum Word {
     AdrpX0,
     /// `ldr x0, [x0]`.
     LdrX0,
-    /// `movz`, shifted by 16, of the register that the word sets.
+    /// `movz`, shifted by 16, to the register that the old word sets.
     Movz,
-    /// `movk` of it.
+    /// `movk` to that register.
     Movk,
-    /// `adr` of it.
+    /// `adr` to that register.
     Adr,
 }
 
-/// What is written in place of the input's bytes.
+/// The bytes that replace the input's.
 #[derive(Clone, Copy)]
 pub enum Made {
-    /// No byte but the field's.
+    /// Only the field changes.
     Kept,
     /// The opcode of `lea`.
     Lea,
@@ -112,21 +112,21 @@ pub enum Made {
     DirectCall,
     /// `jmp`, and a byte that is never reached.
     DirectJump,
-    /// Nothing to do.
+    /// Instructions that do nothing.
     Nop,
     /// The thread pointer and a number.
     LocalExec,
-    /// The same in place of a longer sequence.
+    /// The same, for a longer sequence.
     LocalExecLarge,
     /// The thread pointer and the offset in a slot.
     InitialExec,
-    /// The thread pointer in place of that sequence.
+    /// The thread pointer, for that sequence.
     ThreadPointer(LocalForm),
     /// A word of AArch64.
     Code(Word),
 }
 
-/// A relocation type of AArch64 that is a distance of code.
+/// A relocation type of AArch64 that holds a code distance.
 #[derive(Clone, Copy)]
 pub enum Distance {
     Jump26,
@@ -136,7 +136,7 @@ pub enum Distance {
     Plt32,
 }
 
-/// What the distance of code goes to.
+/// The target of a code distance.
 #[derive(Clone, Copy)]
 pub enum Goal {
     /// The symbol itself.
@@ -145,7 +145,7 @@ pub enum Goal {
     Stub,
 }
 
-/// The relocation type by which the field is written.
+/// The relocation type with which the field is written.
 #[derive(Clone, Copy)]
 pub enum Written {
     Nothing,
@@ -156,7 +156,7 @@ pub enum Written {
     GotTpOff,
     TpOff32,
     GotOff64,
-    /// That of the input, but for where it goes.
+    /// The type of the input, with its target changed.
     Code(Distance, Goal),
     TlsLeMovwTprelG1,
     TlsLeMovwTprelG0Nc,
@@ -165,29 +165,29 @@ pub enum Written {
     AdrPrelLo21,
 }
 
-/// A row, with one alternative of its bytes.
+/// A row, for one variant of its bytes.
 #[derive(Clone, Copy)]
 pub struct Row {
-    /// The relocation type at which it stands.
+    /// The relocation type to which it applies.
     pub number: u32,
-    /// Whether it stands in sections of code alone.
+    /// Whether it applies only in executable sections.
     pub in_code: bool,
     pub symbol: SymbolTest,
     pub value: ValueTest,
-    /// Whether it is about thread-local storage, which has one place for each thread in an executable alone.
+    /// Whether it is about thread-local storage; only an executable knows offsets from the thread pointer.
     pub thread_local: bool,
-    /// Whether it stands only where the addend takes back the field's own four bytes.
+    /// Whether it applies only if the addend is -4, for the field's own four bytes.
     pub ends: bool,
     pub duty: Duty,
-    /// Whether it stands wherever its relocation is, without a look at bytes.
+    /// Whether it applies whatever the bytes at its relocation are.
     pub anywhere: bool,
-    /// The bytes without which it does not stand.
+    /// The bytes without which it does not apply.
     pub always: Pattern,
-    /// The bytes that it needs where it stands.
+    /// The bytes that it needs if it applies.
     pub needed: Pattern,
-    /// Whether it needs there that the addend takes back the field's own four bytes.
+    /// Whether it then needs the addend to be -4, for the field's own four bytes.
     pub needs_end: bool,
-    /// The call that it takes along, and needs.
+    /// The call that it needs and rewrites with it.
     pub partner: Option<Partner>,
     pub made: Made,
     pub written: Written,
@@ -195,7 +195,7 @@ pub struct Row {
     pub kind: RelaxationKind,
 }
 
-// Whether the value is a number when the image is linked, and a field of 32 bits holds it.
+// Whether the value is known at link time and a field of 32 bits can hold it.
 fn is_held(sign: Sign, reference: &Reference) -> bool
     ensures { result ≡ is_held sign (question reference.now) }
 {
@@ -207,7 +207,7 @@ fn is_held(sign: Sign, reference: &Reference) -> bool
     }
 }
 
-// Whether the value is not 0, and `adr` so far behind the relocation reaches it.
+// Whether the value is not 0, and `adr` reaches it from that many bytes after the relocation.
 fn is_near(behind: u64, reference: &Reference) -> bool
     ensures { result ≡ is_near behind (question reference.now) }
 {
@@ -219,7 +219,7 @@ fn is_near(behind: u64, reference: &Reference) -> bool
     value != 0 && AllowedRange::from_bit_size(21, Sign::Signed).contains(value.wrapping_sub(place))
 }
 
-// Whether the symbol's value passes in that output.
+// Whether the symbol's value passes the test in that output.
 fn takes_value(test: ValueTest, reference: &Reference) -> bool
     ensures { result ≡ takes_value test (question reference.now) }
 {
@@ -244,7 +244,7 @@ fn takes_value(test: ValueTest, reference: &Reference) -> bool
     }
 }
 
-// Whether the symbol passes.
+// Whether the symbol passes the test.
 fn takes_symbol(test: SymbolTest, reference: &Reference) -> bool
     ensures { result ≡ takes_symbol test (question reference.now) }
 {
@@ -258,7 +258,7 @@ fn takes_symbol(test: SymbolTest, reference: &Reference) -> bool
     }
 }
 
-/// Whether a row is taken also where rewriting is off.
+/// Whether a row is applied even if rewriting is off.
 pub(crate) fn is_mandatory(duty: Duty, reference: &Reference) -> bool
     ensures { result ≡ is_mandatory duty (question reference.now) }
 {
@@ -272,7 +272,7 @@ pub(crate) fn is_mandatory(duty: Duty, reference: &Reference) -> bool
     }
 }
 
-/// Whether the row stands at the relocation.
+/// Whether the row applies to the relocation.
 #[tactic(auto, unfolding(crate::specs::Rows::applies))]
 pub(crate) fn is_applied(row: &Row, reference: &Reference) -> bool
     ensures { result ≡ applies (question reference.now) row.now }
@@ -325,7 +325,7 @@ fn is_partner(partner: &Partner, offset: u64, next: RelocationInfo) -> bool
         && is_call_addend(partner.form, next.addend)
 }
 
-// Whether the sequence is whole: the field's addend, and the next relocation.
+// Whether the sequence is whole, by the field's addend and the next relocation.
 fn has_partner(row: &Row, reference: &Reference) -> bool
     ensures { result ≡ has_partner row.now (question reference.now) }
 {
@@ -339,7 +339,7 @@ fn has_partner(row: &Row, reference: &Reference) -> bool
     }
 }
 
-/// Whether the row, where it stands, has all that it needs.
+/// Whether the row, if it applies, has all that it needs.
 #[tactic(auto, unfolding(crate::specs::RowSequences::has_its_sequence))]
 pub(crate) fn has_its_sequence(row: &Row, reference: &Reference) -> bool
     ensures { result ≡ has_its_sequence (question reference.now) row.now }
@@ -350,7 +350,7 @@ pub(crate) fn has_its_sequence(row: &Row, reference: &Reference) -> bool
         && has_partner(row, reference)
 }
 
-// The first of the rows that stands.
+// The first of the rows that applies.
 fn first_of(rows: &[Row], reference: &Reference) -> Option<Row>
     ensures { result ≡ first_standing (applies (question reference.now)) rows.now }
 {
@@ -366,14 +366,14 @@ fn first_of(rows: &[Row], reference: &Reference) -> Option<Row>
     }
 }
 
-// The first row that stands: one of those of the relocation's type.
+// The first row that applies, among those of the relocation's type.
 fn standing(reference: &Reference) -> Option<Row>
     ensures { result ≡ standing_x86_64 (question reference.now) }
 {
     first_of(rows_with(reference.relocation().number), reference)
 }
 
-/// The first row that stands; refused without its sequence.
+/// The first row that applies; refused if its sequence is missing.
 #[tactic(auto, unfolding(crate::specs::Rows::chosen_x86_64))]
 pub(crate) fn choose(reference: &Reference) -> Result<Option<Row>, UnknownSequence>
     ensures { result ≡ chosen_x86_64 (question reference.now) }

@@ -1,4 +1,4 @@
-//! Which row of AArch64 stands at a relocation. The first that stands is taken.
+//! Which AArch64 row applies to a relocation. The first row that applies is chosen.
 ghost use Rattle.std.specs.Prelude.{◌≡◌};
 ghost use Rattle.wild_relax.specs.Question.{question};
 ghost use Rattle.wild_relax.specs.First.{first_standing};
@@ -15,14 +15,14 @@ fn is_applied_aarch64(row: &Row, reference: &Reference) -> bool
     is_applied(row, reference) && has_around(reference, row.always)
 }
 
-// Whether the row, where it stands, has all that it needs.
+// Whether the row, if it applies, has all that it needs.
 fn has_its_words(row: &Row, reference: &Reference) -> bool
     ensures { result ≡ has_its_words (question reference.now) row.now }
 {
     has_its_sequence(row, reference) && has_around(reference, row.needed)
 }
 
-// The first of the rows that stands.
+// The first of the rows that applies.
 fn first_of(rows: &[Row], reference: &Reference) -> Option<Row>
     ensures { result ≡ first_standing (applies_aarch64 (question reference.now)) rows.now }
 {
@@ -38,14 +38,14 @@ fn first_of(rows: &[Row], reference: &Reference) -> Option<Row>
     }
 }
 
-// The first row that stands: one of those of the relocation's type.
+// The first row that applies, among those of the relocation's type.
 fn standing(reference: &Reference) -> Option<Row>
     ensures { result ≡ standing_aarch64 (question reference.now) }
 {
     first_of(rows_with_aarch64(reference.relocation().number), reference)
 }
 
-/// The first row that stands; refused without its sequence.
+/// The first row that applies; refused if its sequence is missing.
 #[tactic(auto, unfolding(crate::specs::RowsAArch64::chosen_aarch64))]
 pub fn choose_aarch64(reference: &Reference) -> Result<Option<Row>, UnknownSequence>
     ensures { result ≡ chosen_aarch64 (question reference.now) }

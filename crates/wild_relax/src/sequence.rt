@@ -1,4 +1,4 @@
-//! Words of AArch64 that stand in a row, each with a relocation.
+//! Consecutive words of AArch64, each with a relocation.
 ghost use Rattle.std.specs.Prelude.{◌≡◌, ◌+◌, ◌-◌, ◌*◌, ◌≤◌, ◌^◌, ◌<◌, length, drop};
 ghost use Rattle.wild_relax.specs.Question.{question, relocation_of};
 ghost use Rattle.wild_relax.specs.RewriteX86_64.{register_set};
@@ -39,7 +39,7 @@ fn types_of(sequence: Sequence) -> &'static [u32]
     }
 }
 
-/// How many words of its sequence stand before that of a relocation type; 0 where it is of no sequence.
+/// The number of words of its sequence before that of a relocation type; 0 if it belongs to no sequence.
 pub fn words_before(number: u32) -> usize
     ensures value { result ≡ words_before number }
     ensures few { result ≤ 3 }
@@ -63,7 +63,7 @@ fn same_symbol(one: Option<usize>, other: Option<usize>) -> bool
     }
 }
 
-// Whether these relocations are of those types, of that symbol, with nothing added, 4 bytes apart from a place on.
+// Whether these relocations have those types, that symbol, addend 0 and offsets 4 bytes apart, from a start on.
 fn is_following(
     symbol: Option<usize>,
     place: u64,
@@ -150,7 +150,7 @@ fn is_standing_as(sequence: Sequence, bytes: &[u8], start: usize) -> bool
     }
 }
 
-// Whether the relocation is that of the word with so many before it, and the others stand around it.
+// Whether the relocation is that of the word with `before` words before it, and the others are around it.
 #[tactic(auto, unfolding(crate::specs::SequenceAArch64::is_among))]
 fn is_among(reference: &Reference, sequence: Sequence, before: u64) -> bool
     ensures { result ≡ is_among (question reference.now) sequence before }
@@ -172,7 +172,7 @@ fn is_among(reference: &Reference, sequence: Sequence, before: u64) -> bool
         && is_standing_as(sequence, reference.bytes, start as usize)
 }
 
-/// Whether, where a pattern is a word of a sequence, the relocation is its.
+/// Whether, if a pattern is a word of a sequence, the relocation is that of this word.
 pub(crate) fn has_around(reference: &Reference, pattern: Pattern) -> bool
     ensures { result ≡ has_around (question reference.now) pattern }
 {

@@ -1,5 +1,13 @@
-//! The rows of rewrites of x86-64 as data (x86-64 psABI, "Linker Optimization"; "ELF Handling For Thread-Local Storage", "Linker
-//! Relaxations"), those of one relocation type side by side. Definitions read this table.
+//! The rewrite rows of x86-64 as data, grouped by relocation type. Definitions read this table.
+//!
+//! An instruction that loads from a GOT slot becomes one with the address or number itself, of the same length. A shorter
+//! sequence is filled up with prefixes or `nop`.
+//! The GOTPCRELX types promise an instruction that may be rewritten, but not which one, so the bytes are still compared.
+//! GOTPCREL promises nothing: its row only applies if the bytes match.
+//! General and local dynamic sequences span two relocations. The row of the first also covers the call of the second, which is
+//! then skipped.
+//! With REX2 (Intel APX) the same instructions have longer prefixes and relocation types of their own.
+//! Read x86-64 psABI, "Linker Optimization", and "ELF Handling For Thread-Local Storage", "Linker Relaxations".
 ghost use Rattle.std.specs.Prelude.{◌≡◌};
 ghost use Rattle.wild_relax.specs.ByNumber.{rows_with};
 
@@ -13,7 +21,8 @@ use wild_records::abi::relocation::{
     R_X86_64_TLSDESC_CALL, R_X86_64_TLSGD, R_X86_64_TLSLD,
 };
 
-/// The stub's distance from the global offset table becomes the symbol's; what a row says that says nothing else.
+/// The distance from the global offset table to a stub becomes that to the symbol. This row also has the defaults of the other
+/// rows.
 pub const PLT_OFF: Row = Row {
     number: R_X86_64_PLTOFF64,
     in_code: true,
@@ -63,7 +72,7 @@ const NUMBER: Row = Row {
     ..PLT_OFF
 };
 
-/// The same of `cmp`.
+/// The same for `cmp`.
 pub const COMPARISON: Row = Row {
     always: Pattern::Wide(Prefix::Rex, Operation::Cmp),
     made: Made::Immediate(Prefix::Rex, Operation::Cmp),
@@ -90,7 +99,7 @@ pub const LEA_2: Row = Row {
     ..LEA
 };
 
-/// The same by a relocation type that does not ask for it.
+/// The same for a relocation type that does not promise such an instruction.
 pub const PLAIN_LEA: Row = Row {
     number: R_X86_64_GOTPCREL,
     value: ValueTest::OwnFixed,
@@ -118,7 +127,7 @@ pub const JUMP: Row = Row {
     ..CALL
 };
 
-// The offset from the thread pointer that stands in a slot becomes an immediate: of `mov`.
+// `mov` of the thread-pointer offset in a slot becomes `mov` of an immediate.
 const OFFSET: Row = Row {
     number: R_X86_64_GOTTPOFF,
     thread_local: true,
@@ -130,7 +139,7 @@ const OFFSET: Row = Row {
     ..PLT_OFF
 };
 
-// The same of `add`, which works without.
+// The same for `add`, only if rewriting is on: the code works without it.
 const ADDED: Row = Row {
     duty: Duty::Never,
     always: Pattern::Wide(Prefix::Rex, Operation::Add),
@@ -154,7 +163,7 @@ const GENERAL: Row = Row {
     ..PLT_OFF
 };
 
-/// The same of a call through a slot.
+/// The same for a call through a slot.
 pub const GENERAL_NO_PLT: Row = Row {
     always: Pattern::General(GeneralForm::NoPlt),
     partner: Some(Partner {
@@ -164,7 +173,7 @@ pub const GENERAL_NO_PLT: Row = Row {
     ..GENERAL
 };
 
-/// And to the offset in a slot, of what others may define.
+/// It becomes the offset in a slot, for symbols that other modules may define.
 pub const GENERAL_NO_PLT_SLOT: Row = Row {
     value: ValueTest::Interposable,
     duty: Duty::Never,
@@ -191,7 +200,7 @@ pub const LOCAL: Row = Row {
     ..PLT_OFF
 };
 
-/// The same of a call through a slot.
+/// The same for a call through a slot.
 pub const LOCAL_NO_PLT: Row = Row {
     always: Pattern::LocalStart(LocalForm::NoPlt),
     needed: Pattern::Local(LocalForm::NoPlt),
@@ -216,7 +225,7 @@ pub const DESCRIPTOR: Row = Row {
     ..PLT_OFF
 };
 
-/// It becomes `mov` of the offset in a slot.
+/// `lea` of a descriptor becomes `mov` of the offset in a slot.
 pub const DESCRIPTOR_SLOT: Row = Row {
     value: ValueTest::Interposable,
     made: Made::Load,
@@ -225,7 +234,7 @@ pub const DESCRIPTOR_SLOT: Row = Row {
     ..DESCRIPTOR
 };
 
-/// The same two with the longer prefix.
+/// `lea` of a descriptor with the longer prefix becomes `mov` of the offset.
 pub const DESCRIPTOR_2: Row = Row {
     number: R_X86_64_CODE_4_GOTPC32_TLSDESC,
     needed: Pattern::Lea(Prefix::Rex2),
@@ -234,14 +243,14 @@ pub const DESCRIPTOR_2: Row = Row {
     ..DESCRIPTOR
 };
 
-/// The same with the longer prefix.
+/// `lea` of a descriptor with the longer prefix becomes `mov` of the offset in a slot.
 pub const DESCRIPTOR_SLOT_2: Row = Row {
     number: R_X86_64_CODE_4_GOTPC32_TLSDESC,
     needed: Pattern::Lea(Prefix::Rex2),
     ..DESCRIPTOR_SLOT
 };
 
-/// The call through a descriptor is left out.
+/// The call through a descriptor is removed.
 pub const DESCRIPTOR_CALL: Row = Row {
     number: R_X86_64_TLSDESC_CALL,
     symbol: SymbolTest::Any,
@@ -294,7 +303,7 @@ const WITH_CODE_4_GOTPCRELX: [Row; 4] = [
     LEA_2,
 ];
 
-// `mov` of 32 bits, `call` and `jmp`.
+// Rows for a 32-bit `mov`, `call` and `jmp`.
 const WITH_GOTPCRELX: [Row; 4] = [
     Row {
         number: R_X86_64_GOTPCRELX,
@@ -340,7 +349,7 @@ const WITH_PLT32: [Row; 1] = [PLT];
 
 const WITH_PLTOFF64: [Row; 1] = [PLT_OFF];
 
-// To a number, and of what others may define to the offset in a slot.
+// To a number and, for symbols that other modules may define, to the offset in a slot.
 const WITH_TLSGD: [Row; 5] = [
     GENERAL,
     GENERAL_NO_PLT,

@@ -1,5 +1,11 @@
-//! The rows of rewrites of AArch64 as data ("ELF for the Arm 64-bit Architecture", "Relocation types", "Thread Local Storage", "Call and
-//! Jump relocations"), those of one relocation type side by side. Definitions read this table.
+//! The rewrite rows of AArch64 as data, grouped by relocation type. Definitions read this table.
+//!
+//! Each word of a sequence has its own relocation, so a rewrite of a sequence is one row for each word.
+//! The conditions of a sequence's rows agree, so that either all of them apply or none.
+//! Four words of a descriptor call become two `nop` and two words that compute the offset; the first two are the `nop`.
+//! `adrp` and `add` become `nop` and `adr` if the target is within 1 MiB.
+//! Branch rows change no bytes: only the target changes, from symbol to stub or back.
+//! Read aaelf64, "Relocation types", "Thread Local Storage", "Call and Jump relocations".
 ghost use Rattle.std.specs.Prelude.{◌≡◌};
 ghost use Rattle.wild_relax.specs.RowsAArch64.{rows_with_aarch64};
 
@@ -13,7 +19,7 @@ use wild_records::abi::relocation::{
     R_AARCH64_TLSIE_LD64_GOTTPREL_LO12_NC, R_AARCH64_TSTBR14,
 };
 
-// The distance of a stub, as data, goes to the symbol; what a row says that says nothing else.
+// The distance to a stub, as data, becomes that to the symbol. This row also has the defaults of the other rows.
 const PLT: Row = Row {
     number: R_AARCH64_PLT32,
     in_code: false,
@@ -79,7 +85,7 @@ const TEST: Row = Row {
     ..CONDITION
 };
 
-/// The call of a descriptor's function becomes an offset from the thread pointer, in the last two words.
+/// The call of a descriptor's function becomes an offset from the thread pointer, in the last two words; this is its first word.
 pub const CALL_FIRST: Row = Row {
     number: R_AARCH64_TLSDESC_ADR_PAGE21,
     in_code: true,
@@ -122,7 +128,7 @@ pub const CALL_FOURTH: Row = Row {
     ..CALL_FIRST
 };
 
-/// Of what others may define it becomes the offset in a slot.
+/// For symbols that other modules may define, it becomes the offset in a slot.
 pub const CALL_THIRD_SLOT: Row = Row {
     value: ValueTest::Interposable,
     made: Made::Code(Word::AdrpX0),
@@ -131,7 +137,7 @@ pub const CALL_THIRD_SLOT: Row = Row {
     ..CALL_THIRD
 };
 
-/// The fourth word then.
+/// The fourth word in that case.
 pub const CALL_FOURTH_SLOT: Row = Row {
     value: ValueTest::Interposable,
     made: Made::Code(Word::LdrX0),
@@ -163,7 +169,7 @@ pub const SLOT_SECOND: Row = Row {
     ..SLOT_FIRST
 };
 
-/// A near address is told by its distance, in the second word.
+/// A near address becomes its distance, in the second word; this is the first word.
 pub const ADDRESS_FIRST: Row = Row {
     number: R_AARCH64_ADR_PREL_PG_HI21,
     in_code: true,

@@ -1,4 +1,4 @@
-//! What stands in place of an instruction that is rewritten, as a whole.
+//! The bytes that replace a rewritten instruction, as a whole.
 ghost use Rattle.std.specs.Prelude.{◌≡◌, ◌+◌, true, false, length, slice_range, ◌≤◌};
 ghost use Rattle.wild_words.specs.Words.{place};
 ghost use Rattle.wild_relax.specs.Pattern.{field_of};
@@ -11,7 +11,7 @@ use crate::rewrite::{self, change_of};
 use crate::row::{Made, Row};
 
 impl Row {
-    // All bytes of the input that belong to the row: those that it needs, or those without which it does not stand.
+    // All input bytes of the row's pattern: those that it needs or, if there are none, those without which it does not apply.
     fn pattern(self) -> Pattern
         ensures { result ≡ pattern_of self }
     {
@@ -21,36 +21,36 @@ impl Row {
         }
     }
 
-    /// How far behind the start of its instruction the relocation's field stands in the input.
+    /// The offset of the relocation's field from the start of its instruction in the input.
     pub fn pattern_field(self) -> u64
         ensures { result ≡ field_of (pattern_of self) }
     {
         pattern::field(self.pattern())
     }
 
-    /// How many bytes of the input belong to the row.
+    /// The number of input bytes in the row's pattern.
     pub fn pattern_size(self) -> u64
         ensures { result ≡ pattern_size self }
     {
         pattern::cells(self.pattern()).len() as u64
     }
 
-    /// Whether no byte but the field's changes.
+    /// Whether only the field's bytes change.
     pub fn keeps_bytes(self) -> bool
         ensures { result ≡ keeps_bytes self }
     {
         matches!(self.made, Made::Kept)
     }
 
-    /// Whether the relocation behind belongs to the same sequence.
+    /// Whether the next relocation belongs to the same sequence.
     pub fn takes_next(self) -> bool
         ensures { result ≡ is_skip (rewrite_of self).next }
     {
         self.partner.is_some()
     }
 
-    /// Whether what it writes lies among the bytes of the input that belong to it, as that of each row of the table does that changes
-    /// bytes around its field.
+    /// Whether the bytes that it writes are within the row's pattern. This is so for each row of the table that changes bytes
+    /// around its field.
     pub fn fits(self) -> bool
         ensures { result ≡ fits_in self }
     {
@@ -64,8 +64,8 @@ impl Row {
             && start + change.field + self.row_written().width() as u64 <= size
     }
 
-    /// Writes the row's instruction, with the value in its field, in place of the bytes of the input that stand at `start`. What the
-    /// row writes lies among these.
+    /// Writes the row's instruction, with the value in its field, over the input bytes at `start`. The bytes written are within
+    /// the row's pattern.
     pub fn write_template(self, value: u64, room: &mut [u8], start: usize)
         requires inside { start + pattern_size self ≤ length room.old }
         requires changes { keeps_bytes self ≡ false }
@@ -77,7 +77,7 @@ impl Row {
     }
 }
 
-// The same over just those bytes.
+// The same over exactly those bytes.
 fn write_part(row: Row, value: u64, part: &mut [u8])
     requires whole { length part.old ≡ pattern_size row }
     requires changes { keeps_bytes row ≡ false }

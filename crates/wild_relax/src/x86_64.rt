@@ -1,4 +1,11 @@
-//! x86-64 (x86-64 psABI).
+//! x86-64 as a machine of the linker.
+//!
+//! Instructions differ in length, so a rewrite has to keep the length: it adds prefixes or `nop`, or leaves a byte that is never
+//! reached.
+//! Most fields are 32-bit distances to the end of the field, so compilers give them the addend -4.
+//! A rewrite to an immediate moves the register from ModRM.reg to ModRM.rm, and a bit of the REX prefix moves with it.
+//! There are no thunks: `call` and `jmp` reach 2 GiB.
+//! Read x86-64 psABI, "Relocation Types" and "Linker Optimization", and "ELF Handling For Thread-Local Storage".
 use crate::arch::Arch;
 use crate::reference::{Reference, UnknownSequence};
 use crate::relaxation::Relaxation;
@@ -50,11 +57,11 @@ impl Arch for ElfX86_64 {
     }
 }
 
-/// A rewrite of instructions of x86-64 that stands at a relocation.
+/// A rewrite of x86-64 instructions that applies to a relocation.
 #[derive(Clone, Copy)]
 pub struct ElfX86_64Relaxation {
     pub row: Row,
-    /// Whether it is taken also where rewriting is off.
+    /// Whether it is applied even if rewriting is off.
     pub mandatory: bool,
 }
 

@@ -1,8 +1,9 @@
--- The places of words and stubs ascend, and so lie apart (x86-64 psABI, "Global Offset Table (GOT)", "Procedure Linkage Table").
+-- The places of words and stubs are in ascending order and do not overlap (x86-64 psABI, "Global Offset Table (GOT)", "Procedure
+-- Linkage Table").
 --   word_places part l s    the places of a symbol's words in a part
 --   stub_places l s         the place of its stub
---   Ascend n low high ps    items of n bytes at these places, one behind the other
---   HasAscendingPlaces l    so are the words of each table, and the stubs
+--   Ascend n low high ps    items of n bytes at these places, in ascending order
+--   HasAscendingPlaces l    the words of each table, and the stubs, have such places
 --   PlacesAscend            the law
 use Rattle.std.specs.Prelude.{ℕ, ◌+◌, ◌^◌, ◌≤◌, if◌then◌else◌, List, [], Option, Some, None, option_to_list, All, AllPairs}
 use Rattle.std.specs.List.{flat_map}
@@ -21,7 +22,7 @@ use Rattle.wild_clauses.specs.SlotPlaces.{start_of, first_free}
 use Rattle.wild_layout.specs.SlotOrder.{HasSlotsInOrder}
 use Rattle.wild_slots.specs.Order.{written_symbols, end_of}
 
--- the place of a word, where the word stands in the part
+-- the place of a word, if the word is in the part
 abbrev pub place_in : WordPart → ℕ → SlotWord → Option ℕ
 place_in words.Block at w = block_place at w
 place_in words.Got at (InBlock a) = None
@@ -31,26 +32,26 @@ place_in words.Got at other = Some at
 abbrev pub word_places : WordPart → Layout → Symbol → List ℕ
 word_places part l s = at_places (place_in part) (slots_at s) (slots_of l s).words
 
--- the place of its stub, where it has one
+-- the place of its stub, if it has one
 abbrev pub stub_places : Layout → Symbol → List ℕ
 stub_places l s = if (slots_of l s).has_stub then option_to_list (plt_of s) else []
 
--- an item of n bytes lies there
+-- an item of n bytes is within these bounds
 pub record LiesWithin (n low high p : ℕ) : Type 0 where
   pub from : low ≤ p
   pub to : p + n ≤ high
 
--- items of n bytes at these places lie there, each behind those before it
+-- items of n bytes at these places are within these bounds, each after those before it
 pub record Ascend (n low high : ℕ) (ps : List ℕ) : Type 0 where
   pub within : All (LiesWithin n low high) ps
   pub ascend : AllPairs (λ p q. p + n ≤ q) ps
 
--- words behind what stands once, those of blocks, and stubs
+-- words after the shared module pair, those of RELR blocks, and stubs
 pub record HasAscendingPlaces (l : Layout) : Type 0 where
   pub table : Ascend word_size (first_free l).got (end_of l role.Got) (flat_map (word_places words.Got l) (written_symbols l))
   pub blocks : Ascend word_size (start_of l role.GotRelr) (end_of l role.GotRelr) (flat_map (word_places words.Block l) (written_symbols l))
   pub stubs : Ascend stub_size (start_of l role.PltGot) (end_of l role.PltGot) (flat_map (stub_places l) (written_symbols l))
 
--- where addresses are numbers of 64 bits
+-- if addresses are numbers of 64 bits
 abbrev pub PlacesAscend : Type 0
 PlacesAscend = (l : Layout) → HasSlotsInOrder l → end_of l role.Got ≤ 2 ^ 64 → HasAscendingPlaces l

@@ -1,9 +1,9 @@
--- Which entries slots have (x86-64 psABI, "Relocation Types"; ELF Handling For Thread-Local Storage).
---   IsKnownEntry s e        the entry names the symbol, its resolver, or the output's own module
---   EntriesAreKnown         each entry of a symbol's words does
+-- The relocation entries of slots (x86-64 psABI, "Relocation Types"; ELF Handling For Thread-Local Storage).
+--   IsKnownEntry s e        the entry refers to the symbol, its resolver, or the output's own module
+--   EntriesAreKnown         each entry of a symbol's words does so
 --   IsOfWord l f part e     the entry is that of a word of a symbol of the file
---   EntriesAreOfWords       each entry of a file's slots is
---   FixedOutputsMoveNothing in an output at its own addresses none move
+--   EntriesAreOfWords       each entry of a file's slots is such an entry
+--   FixedOutputsMoveNothing in an output with a fixed base no slot moves
 use Rattle.std.specs.Prelude.{◌≡◌, ℕ, ◌+◌, ◌*◌, ◌%◌, ◌^◌, ◌<◌, ◌⊎◌, ⊤, true, false, [], Option, Some, None, All, Contains, slice_get}
 use Rattle.wild_records.specs.declared.relocations.Rela.{Rela}
 use Rattle.wild_reloc.specs.declared.dynamic.DynamicRelocationKind.{DynamicRelocationKind}
@@ -29,9 +29,9 @@ use Rattle.wild_types.specs.FileSymbols.{own_symbols}
 use Rattle.wild_slot.specs.SymbolWords.{slots_of}
 use Rattle.wild_layout.specs.SlotBytes.{slot_words_of, slot_entries_of, flat_places_of}
 
--- ---- what entries name
+-- ---- what entries refer to
 
--- entries of these kinds may name a symbol
+-- entries of these kinds may refer to a symbol
 abbrev pub NamesSymbols : DynamicRelocationKind → Type 0
 NamesSymbols kinds.GotEntry = ⊤
 NamesSymbols kinds.JumpSlot = ⊤
@@ -41,14 +41,14 @@ NamesSymbols kinds.TpOff = ⊤
 NamesSymbols kinds.TlsDesc = ⊤
 NamesSymbols other = ⊥
 
--- and of these none, for the output's own module
+-- entries of these kinds may refer to no symbol, for the output's own module
 abbrev pub NamesModules : DynamicRelocationKind → Type 0
 NamesModules kinds.DtpMod = ⊤
 NamesModules kinds.TpOff = ⊤
 NamesModules kinds.TlsDesc = ⊤
 NamesModules other = ⊥
 
--- the entry names the symbol by its index in the dynamic symbol table, and adds nothing
+-- the entry refers to the symbol by its index in the dynamic symbol table, with addend 0
 pub record NamesItself (s : Symbol) (e : SlotEntry) : Type 0 where
   pub resolution : Resolution
   pub resolved : s.resolution ≡ Some resolution
@@ -74,12 +74,12 @@ entry_in (General e) = Some e
 entry_in (Plt e) = Some e
 entry_in other = None
 
--- each entry of a symbol's words, where what was decided of the symbol has its flags, and of the pair that stands once
+-- each entry of a symbol's words, if the symbol's resolution has its flags, and that of the shared module pair
 pub record EntriesAreKnown : Type 0 where
   pub words : (l : Layout) (s : Symbol) (d : SlotWord) (e : SlotEntry) → HasItsFlags s → Contains (slots_of l s).words d → entry_in d ≡ Some e → IsKnownEntry s e
   pub pair : (l : Layout) (d : SlotWord) (e : SlotEntry) → Contains (storage_words l) d → entry_in d ≡ Some e → (e.kind ≡ kinds.DtpMod) × (e.symbol ≡ 0) × (e.addend ≡ 0)
 
--- ---- where they come from
+-- ---- where entries come from
 
 -- the entry is that of a word of a symbol of the file, at the word's place
 pub record IsOfWord (l : Layout) (f : File) (part : EntryPart) (e : Rela) : Type 0 where
@@ -90,7 +90,7 @@ pub record IsOfWord (l : Layout) (f : File) (part : EntryPart) (e : Rela) : Type
   pub there : slice_get (slots_of l symbol).words number ≡ Some word
   pub is : entry_of part l.machine l.options.relr ((slots_at symbol + word_size * number) % 2 ^ 64) word ≡ Some e
 
--- where the slots' places are numbers of 64 bits
+-- if the slots' places are numbers of 64 bits
 abbrev pub EntriesAreOfWords : Type 0
 EntriesAreOfWords = (l : Layout) (f : File) (part : EntryPart) → All (λ (s : Symbol). (at : ℕ) → got_of s ≡ Some at → at < 2 ^ 64) l.symbols → All (IsOfWord l f part) (slot_entries_of part l f)
 
@@ -101,6 +101,6 @@ pub record MovesNothing (l : Layout) : Type 0 where
   pub block : (f : File) → slot_words_of words.Block l f ≡ []
   pub groups : (g : Group) → group_block l g ≡ []
 
--- in an output at its own addresses
+-- in an output with a fixed base
 abbrev pub FixedOutputsMoveNothing : Type 0
 FixedOutputsMoveNothing = (l : Layout) → is_position_independent l.kind ≡ false → MovesNothing l

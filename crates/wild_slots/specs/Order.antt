@@ -1,7 +1,7 @@
 -- The order in which slots and stubs are written (x86-64 psABI, "Global Offset Table (GOT)", "Procedure Linkage Table").
 --   written_symbols l    the symbols whose slots files write, in their order
 --   IsWritten l s        a file of a group writes the symbol's slots
---   end_of l r           where the table of a role ends
+--   end_of l r           the end of the table of a role
 use Rattle.std.specs.Prelude.{◌≡◌, ℕ, ◌+◌, List, true, length, Contains}
 use Rattle.std.specs.List.{flat_map}
 use Rattle.wild_types.specs.declared.part.Role.{Role}
@@ -14,7 +14,7 @@ use Rattle.wild_types.specs.FileSymbols.{own_symbols}
 use Rattle.wild_clauses.specs.SlotPlaces.{start_of}
 use Rattle.wild_layout.specs.TablePlaces.{table_bytes}
 
--- the symbols whose slots the files of a group write, in their order, and those of all groups
+-- the symbols whose slots the files of a group write, in order; and those of all groups
 abbrev pub group_symbols : Layout → Group → List Symbol
 group_symbols l g = flat_map (own_symbols l) g.files
 
@@ -30,6 +30,6 @@ pub record IsWritten (l : Layout) (s : Symbol) : Type 0 where
   pub writes : writes_slots file.role ≡ true
   pub own : Contains (own_symbols l file) s
 
--- where the table of a role ends
+-- the end of the table of a role
 abbrev pub end_of : Layout → Role → ℕ
 end_of l r = start_of l r + length (table_bytes l r)

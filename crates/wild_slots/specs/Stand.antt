@@ -1,8 +1,7 @@
--- Where the words and the stub of a symbol stand in the tables (x86-64 psABI, "Global Offset Table (GOT)", "Procedure
--- Linkage Table").
---   StandsAt l r at bs   bytes stand in the table of a role, at an address
---   SymbolStands l s at  a symbol's words and its stub stand where the layout has them
---   WordStands l at w    a word stands in its table
+-- The places of a symbol's words and stub in the tables (x86-64 psABI, "Global Offset Table (GOT)", "Procedure Linkage Table").
+--   StandsAt l r at bs   the table of a role has these bytes at an address
+--   SymbolStands l s at  a symbol's words and its stub are at their addresses in the layout
+--   WordStands l at w    a word is at its address in its table
 --   SlotsStand, EachWordStands, StubsAreThere, PairStands   the laws
 use Rattle.std.specs.Prelude.{◌≡◌, ℕ, ◌+◌, ◌-◌, ◌*◌, ◌≤◌, Bool, true, false, List, [], length, Some, None, slice_get}
 use Rattle.wild_words.specs.Words.{word, Stands}
@@ -25,24 +24,25 @@ use Rattle.wild_layout.specs.TablePlaces.{table_bytes}
 use Rattle.wild_layout.specs.SlotOrder.{HasSlotsInOrder}
 use Rattle.wild_slots.specs.Order.{IsWritten, end_of}
 
--- the bytes stand in the table of that role, at that address
+-- the table of that role has the bytes at that address
 pub record StandsAt (l : Layout) (r : Role) (at : ℕ) (bs : List ℕ) : Type 0 where
   pub from : start_of l r ≤ at
   pub to : at + length bs ≤ end_of l r
   pub stands : Stands (table_bytes l r) (at - start_of l r) bs
 
--- words that begin with one of the block stand in its table, and are no others; words that do not stand in the other table
+-- if the first word is in the RELR block, the words are in the block's table and no others exist; otherwise they are in the other
+-- table, and none is in the block
 abbrev pub WordsStand : Layout → Symbol → ℕ → Bool → Type 0
 WordsStand l s at true = StandsAt l role.GotRelr at (word_bytes (words_in words.Block l s)) × (words_in words.Got l s ≡ [])
 WordsStand l s at false = StandsAt l role.Got at (word_bytes (words_in words.Got l s)) × (words_in words.Block l s ≡ [])
 
--- a file writes the symbol's words and its stub, and they stand where the layout has them
+-- a file writes the symbol's words and its stub, at their addresses in the layout
 pub record SymbolStands (l : Layout) (s : Symbol) (at : ℕ) : Type 0 where
   pub written : IsWritten l s
   pub words : WordsStand l s at (begins_block (slots_of l s).words)
   pub stub : (p : ℕ) → plt_of s ≡ Some p → StandsAt l role.PltGot p (stub_bytes l s)
 
--- each symbol with slots
+-- for each symbol with slots
 abbrev pub SlotsStand : Type 0
 SlotsStand = (l : Layout) → HasSlotsInOrder l → (i at : ℕ) (s : Symbol) → slice_get l.symbols i ≡ Some s → got_of s ≡ Some at → SymbolStands l s at
 
@@ -57,25 +57,25 @@ abbrev pub role_of_words : WordPart → Role
 role_of_words words.Got = role.Got
 role_of_words words.Block = role.GotRelr
 
--- the word stands at that address: what the file has for it, as eight bytes
+-- the word is at that address: its value in the file, as eight bytes
 pub record WordStands (l : Layout) (at : ℕ) (w : SlotWord) : Type 0 where
   pub value : ℕ
   pub is : word_of (part_of_word w) l.options.relr at w ≡ Some value
   pub stands : StandsAt l (role_of_words (part_of_word w)) at (word 8 value)
 
--- each word of each symbol, 8 bytes behind the word before it
+-- each word of each symbol, 8 bytes after the word before it
 abbrev pub EachWordStands : Type 0
 EachWordStands = (l : Layout) → HasSlotsInOrder l → (i at k : ℕ) (s : Symbol) (w : SlotWord) → slice_get l.symbols i ≡ Some s → got_of s ≡ Some at
     → slice_get (slots_of l s).words k ≡ Some w → WordStands l (at + word_size * k) w
 
 -- ---- stubs
 
--- a symbol with slots whose stub has a place has a stub, where nothing failed
+-- a symbol with slots whose stub has an address has a stub, if its slots have no fault
 abbrev pub StubsAreThere : Type 0
 StubsAreThere = (l : Layout) → HasSlotsInOrder l → (i at p : ℕ) (s : Symbol) → slice_get l.symbols i ≡ Some s → got_of s ≡ Some at → plt_of s ≡ Some p
     → (slots_of l s).fault ≡ None → (slots_of l s).has_stub ≡ true
 
--- ---- what stands once
+-- ---- the shared module pair
 
 -- the pair of the output's own thread-local data (ELF Handling For Thread-Local Storage, "Local Dynamic TLS Model")
 abbrev pub PairStands : Type 0

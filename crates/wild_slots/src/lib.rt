@@ -1,4 +1,4 @@
-//! Where the words of slots stand in their tables, and which entries they have. All functions are laws without work.
+//! The places of slots' words in their tables, and their relocation entries. All functions are laws without code.
 #![tactic(auto)]
 
 ghost use Rattle.wild_slots.specs.Stand.{SlotsStand, EachWordStands, StubsAreThere, PairStands};
@@ -6,37 +6,37 @@ ghost use Rattle.wild_slots.specs.Ascend.{PlacesAscend};
 ghost use Rattle.wild_slots.specs.Blocks.{BlocksAreWhole};
 ghost use Rattle.wild_slots.specs.Entries.{EntriesAreKnown, EntriesAreOfWords, FixedOutputsMoveNothing};
 
-/// A file writes the words and the stub of each symbol with slots, and they stand at their addresses in the tables.
+/// A file writes the words and the stub of each symbol with slots, at their addresses in the tables.
 pub fn slots_stand()
     ensures { SlotsStand }
 {}
 
-/// Each word stands 8 bytes behind the one before it.
+/// Each word is 8 bytes after the one before it.
 pub fn each_word_stands()
     ensures { EachWordStands }
 {}
 
-/// A symbol with slots whose stub has a place has a stub, where nothing failed.
+/// A symbol with slots whose stub has an address has a stub, if its slots have no fault.
 pub fn stubs_are_there()
     ensures { StubsAreThere }
 {}
 
-/// The pair of the output's own thread-local data stands at its address.
+/// The pair of the output's own thread-local data is at its address.
 pub fn pair_stands()
     ensures { PairStands }
 {}
 
-/// The places of words and of stubs ascend.
+/// The places of words and of stubs are in ascending order.
 pub fn places_ascend()
     ensures { PlacesAscend }
 {}
 
-/// A group's block of slots has no gap.
+/// A group's RELR block of slots has no gap.
 pub fn blocks_are_whole()
     ensures { BlocksAreWhole }
 {}
 
-/// Each entry of a slot names its symbol, the symbol's resolver, or the output's own module.
+/// Each entry of a slot refers to its symbol, the symbol's resolver, or the output's own module.
 pub fn entries_are_known()
     ensures { EntriesAreKnown }
 {}
@@ -46,7 +46,7 @@ pub fn entries_are_of_words()
     ensures { EntriesAreOfWords }
 {}
 
-/// In an output at its own addresses no slot has an address that moves.
+/// In an output with a fixed base no slot has an address that moves.
 pub fn fixed_outputs_move_nothing()
     ensures { FixedOutputsMoveNothing }
 {}

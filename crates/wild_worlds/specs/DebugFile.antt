@@ -1,6 +1,7 @@
--- A small layout for debuggers alone, of a program that is loaded anywhere: it has a note of its function, and code that is not written.
---   note_distance    the note has the distance of the function
---   note_address     and its address, which moves
+-- A small layout only for debuggers, of a program that can be loaded at any base: it has a note about its function, and code that
+-- is not written.
+--   note_distance    the note holds the distance of the function
+--   note_address     the note also holds its address, which moves with the base
 --   note, code       the input sections
 --   debug_file       the layout
 use Rattle.std.specs.Prelude.{ℕ, false, true, List, [], ◌∷◌, codes, map, None, Some}
@@ -50,7 +51,7 @@ function = record {
   resolution = Some (record { raw_value = function_at; flags = record { 0 = non_interposable }; dynamic_symbol_index = None; got_address = None; plt_address = None });
 }
 
--- ---- the note: of no name, with 12 bytes of type 1 (gABI, "Note Section")
+-- ---- the note: without a name, with 12 bytes of type 1 (gABI, "Note Section")
 
 abbrev pub note_distance : InputRelocation
 note_distance = record { offset = 12; number = r_x86_64_pc32; symbol = Some 0; addend = pos 0; malformed = false }
@@ -102,7 +103,7 @@ code = record {
   relocations = code_call ∷ [];
 }
 
--- ---- the layout: the names of sections stand where the program has its dynamic symbols
+-- ---- the layout: the names of sections are where the program has its dynamic symbols
 
 abbrev pub note_part : Part
 note_part = part_with role.Raw 1 176 176 24 4
@@ -142,7 +143,7 @@ debug_sections =
     ∷ section_with (codes ".shstrtab") sht_strtab 0 0 200 58 1
     ∷ []
 
--- one segment that is loaded, with file bytes as far as the note, and the dynamic section, which has none
+-- one segment that is loaded, with file bytes up to the end of the note, and the dynamic section, which has none
 abbrev pub debug_segments : List Segment
 debug_segments =
     record { kind = pt_load; flags = 7; offset = 0; address = 0; physical = 0; file_size = 200; mem_size = 520; align = 4096 }

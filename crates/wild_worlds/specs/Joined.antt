@@ -1,10 +1,10 @@
--- The premises of the headline are met together.
+-- The premises of the headline can be met together.
 --   HasCall l            a kept item of the layout calls a function
---   IsJoined l           the layout has no faults, a legal world elsewhere than at base 0, and such a call, which holds there
---   HasNote l            an image for debuggers alone has a note with a reference that is asked, and with one that is left out
---   HasHollow l          and it has nothing of a section that a program would load
---   IsJoinedForDebuggers l   the same of such a layout, and of a note's reference, which reads as one number alone
---   PremisesAreJoined    so it is of a layout of each kind that is loaded anywhere, and of one for debuggers alone
+--   IsJoined l           the layout has no faults, a legal world at a base other than 0, and such a call, which holds there
+--   HasNote l            an image only for debuggers has a note with a reference that is checked, and with one that is left out
+--   HasHollow l          of a section that a program would load, it has only the header
+--   IsJoinedForDebuggers l   the same for such a layout, and for a reference in a note, whose field has only one right value
+--   PremisesAreJoined    this is so for a layout of each kind that can be loaded at any base, and for one only for debuggers
 use Rattle.std.specs.Prelude.{◌≡◌, ◌≢◌, ℕ, false, [], Some, Contains, slice_get}
 use Rattle.wild_records.specs.Abi.Relocation.{r_x86_64_none}
 use Rattle.wild_records.specs.Abi.Section.{sht_note, shf_alloc}
@@ -33,13 +33,13 @@ use Rattle.wild_meaning.specs.Linked.{IsLinked}
 use Rattle.wild_meaning.specs.Worked.{Refuses}
 use Rattle.wild_meaning.specs.Refusals.{HasWrongNumber}
 
--- what an instruction that calls or jumps goes by: on x86-64 the slot that it names, on AArch64 the distance in its word
+-- how an instruction calls or jumps: on x86-64 through the slot that it names, on AArch64 by the distance in its word
 abbrev pub GoesBy : Machine → Sort → Type 0
 GoesBy machine.X86_64 sort = sort ≡ TargetInSlot
 GoesBy machine.AArch64 sort = sort ≡ Target
 
--- a reference of a kept item that is no exception and does not take the output's own symbol alone, and its instruction, which calls or
--- jumps so
+-- a reference of a kept item that is not excepted and does not refer only to the output's own symbol, and its instruction, which
+-- calls or jumps in this way
 pub record HasCall (l : Layout) : Type 0 where
   pub item : Item
   pub kept : IsKept l item
@@ -52,7 +52,8 @@ pub record HasCall (l : Layout) : Type 0 where
   pub template : IsTemplate l item reference start instruction reference
   pub goes : GoesBy l.machine instruction.sort
 
--- all of it of one layout: a legal world at another base than 0, in which the layout's image is linked, and the reference holds
+-- all of this for one layout: a legal world at a base other than 0, in which the layout's image is linked, and the reference
+-- holds
 pub record IsJoined (l : Layout) : Type 0 where
   pub faultless : errors l ≡ []
   pub world : World
@@ -62,9 +63,9 @@ pub record IsJoined (l : Layout) : Type 0 where
   pub call : HasCall l
   pub holds : ReferenceHolds l world linked.memory call.item call.reference
 
--- ---- an image for debuggers alone
+-- ---- an image only for debuggers
 
--- the input section stands in a section of notes that has room in memory (gABI, "Sections": SHT_NOTE)
+-- the input section is in a section of notes that has memory (gABI, "Sections": SHT_NOTE)
 pub record IsOfNotes (l : Layout) (s : InputSection) : Type 0 where
   pub part : Part
   pub listed : slice_get l.parts s.part ≡ Some part
@@ -73,8 +74,8 @@ pub record IsOfNotes (l : Layout) (s : InputSection) : Type 0 where
   pub room : IsSet section.flags shf_alloc
   pub kind : section.kind ≡ sht_note
 
--- a kept item of notes; a reference of it that is no exception, does not take the output's own symbol alone and is not left out; and one
--- that is left out
+-- A kept item of notes with two references. One is not excepted, does not refer only to the output's own symbol and is not left
+-- out; the other is left out.
 pub record HasNote (l : Layout) : Type 0 where
   pub section : InputSection
   pub kept : IsKeptSection l section
@@ -90,7 +91,8 @@ pub record HasNote (l : Layout) : Type 0 where
   pub other_refers : IsReference item other
   pub left : IsLeftOut l item other
 
--- an input section with data that a program would load, of which nothing is written; and a relocation of it, which is no kept item's
+-- an input section with data that a program would load, of which only the header is written; and a relocation of it, which
+-- belongs to no kept item
 pub record HasHollow (l : Layout) : Type 0 where
   pub section : InputSection
   pub input : IsInput l section
@@ -105,8 +107,8 @@ pub record HasHollow (l : Layout) : Type 0 where
   pub refers : reference.number ≢ r_x86_64_none
   pub unasked : (item : Item) → IsKept l item → IsReference item reference → ⊥
 
--- all of it of one layout for debuggers alone: the note's reference holds, and its field of four bytes is a number; no image of the layout
--- is linked in that world where it is another
+-- All of this for one layout only for debuggers: the note's reference holds, and its field of four bytes is a number. No image of
+-- the layout is linked in that world if the field is another number.
 pub record IsJoinedForDebuggers (l : Layout) : Type 0 where
   pub bare : IsForDebuggers l
   pub faultless : errors l ≡ []
@@ -127,11 +129,12 @@ pub record IsJoinedForDebuggers (l : Layout) : Type 0 where
 abbrev pub IsMet : Machine → OutputKind → Type 0
 IsMet machine kind = (l : Layout) × (l.machine ≡ machine) × (l.kind ≡ kind) × IsJoined l
 
--- one for debuggers alone
+-- a layout only for debuggers, of a kind, for a machine
 abbrev pub IsMetForDebuggers : Machine → OutputKind → Type 0
 IsMetForDebuggers machine kind = (l : Layout) × (l.machine ≡ machine) × (l.kind ≡ kind) × IsJoinedForDebuggers l
 
--- a program without a dynamic linker, one with it, and a shared object, of either machine; and what debuggers read of a program without
+-- a program without a dynamic linker, one with it, and a shared object, for either machine; and the debuggers' image of a program
+-- without a dynamic linker
 pub record PremisesAreJoined : Type 0 where
   pub static_pie : IsMet machine.X86_64 (output.StaticExecutable model.Relocatable)
   pub dynamic_pie : IsMet machine.X86_64 (output.DynamicExecutable model.Relocatable)

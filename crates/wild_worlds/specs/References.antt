@@ -1,9 +1,9 @@
--- The premises of the headline are met: items are kept, and their references asked for.
---   SectionsAreKept        loaded, allocated input sections with data are
+-- The premises of the headline can be met: items are kept, and their references are checked.
+--   SectionsAreKept        loaded, allocated input sections with data are kept
 --   RelocationsRefer       each of their relocations but NONE is a reference
---   ReferencesAreAsked, SlotsAreAsked   which is asked of an image
---   FewAreLinkedAlone      few of them take the output's own symbol
---   BlanksAreAsked         sections without data are asked for zeros
+--   ReferencesAreAsked, SlotsAreAsked   which references of an image are checked
+--   FewAreLinkedAlone      few of them refer only to the output's own symbol
+--   BlanksAreAsked         sections without data are checked for zeros
 use Rattle.std.specs.Prelude.{◌≡◌, ◌≢◌, ℕ, ◌+◌, ◌<◌, ◌≤◌, true, false, [], ◌∷◌, Some, None, Contains}
 use Rattle.wild_records.specs.Abi.Relocation.{r_x86_64_none, r_x86_64_gotpcrel, r_x86_64_gotpcrelx, r_aarch64_adr_prel_pg_hi21, r_aarch64_add_abs_lo12_nc}
 use Rattle.wild_records.specs.Abi.Section.{shf_execinstr}
@@ -38,12 +38,12 @@ SectionsAreKept = (l : Layout) (s : InputSection) (k : IsLoadedSection l s) → 
 abbrev pub RelocationsRefer : Type 0
 RelocationsRefer = (item : Item) (r : InputRelocation) → Contains item.relocations r → r.number ≢ r_x86_64_none → IsReference item r
 
--- where a layout has no faults, no IFUNC is absolute
+-- if a layout has no faults, no IFUNC is absolute
 abbrev pub ResolversAreNotAbsolute : Type 0
 ResolversAreNotAbsolute = (l : Layout) (i : ℕ) → errors l ≡ [] → HasFlag l i ifunc true → IsAbsolute l i → ⊥
 
--- a reference is asked at base 0, and at every base where its symbol is not absolute, as no resolver is, or it takes no place
--- from an address: neither its value does, nor does its instruction count from its own place, as a call or a jump through a slot
+-- A reference is checked at base 0. It is checked at every base if its symbol is not absolute, as for every IFUNC, or if neither
+-- its value nor its instruction is relative to a place. A call or jump through a slot is relative to its place.
 pub record ReferencesAreAsked : Type 0 where
   pub zero : (l : Layout) (w : World) (item : Item) (r : InputRelocation) → w.base ≡ 0 → IsAsked l w item r
   pub fixed : (l : Layout) (w : World) (item : Item) (r : InputRelocation) → IsFixed l.kind → IsAsked l w item r
@@ -52,16 +52,19 @@ pub record ReferencesAreAsked : Type 0 where
   pub resolved : (l : Layout) (w : World) (item : Item) (r : InputRelocation) (i : ℕ) → errors l ≡ [] → r.symbol ≡ Some i → HasFlag l i ifunc true → IsAsked l w item r
   pub placeless : (l : Layout) (w : World) (item : Item) (r : InputRelocation) → (HasPlace l r → ⊥) → (GoesByPlace l item r → ⊥) → IsAsked l w item r
 
--- so a value that takes no place from an address, as a slot's distance, is asked unless the relocation's type is one that calls
--- and jumps through slots have, or on AArch64 the two instructions that make an address, and it stands in code
+-- So a value that is not relative to a place, such as the distance to a slot, is checked in every section without code. In code
+-- it is checked unless its type is one of calls and jumps through slots or, on AArch64, of the two instructions that form an
+-- address.
 pub record SlotsAreAsked : Type 0 where
   pub numbers : (l : Layout) (w : World) (item : Item) (r : InputRelocation) (f : Formula) → l.machine ≡ machine.X86_64 → formula_of l.machine r.number ≡ Some f → (IsPlaceRelative f.value → ⊥) → (Contains (r_x86_64_gotpcrel ∷ r_x86_64_gotpcrelx ∷ []) r.number → ⊥) → IsAsked l w item r
   pub words : (l : Layout) (w : World) (item : Item) (r : InputRelocation) (f : Formula) → l.machine ≡ machine.AArch64 → formula_of l.machine r.number ≡ Some f → (IsPlaceRelative f.value → ⊥) → (Contains (r_aarch64_adr_prel_pg_hi21 ∷ r_aarch64_add_abs_lo12_nc ∷ []) r.number → ⊥) → IsAsked l w item r
   pub elsewhere : (l : Layout) (w : World) (item : Item) (r : InputRelocation) (f : Formula) → formula_of l.machine r.number ≡ Some f → (IsPlaceRelative f.value → ⊥) → (IsSet item.flags shf_execinstr → ⊥) → IsAsked l w item r
 
--- a reference takes the output's own symbol only where another module may have one: not of a symbol that is not replaceable, nor
--- without one; not by an expression that has neither the symbol's address nor its offset, as a slot's or a stub's distance; not in
--- a field that is left to a loader, nor where the address is a stub's, nor where a conditional branch goes by one
+-- A reference does not refer only to the output's own symbol if:
+-- - its symbol is not replaceable, or it has none;
+-- - its expression has neither the symbol's address nor its offset, such as the distance to a slot or a stub;
+-- - its field is left to a loader, or the address is that of a stub;
+-- - it is a conditional branch through a stub.
 pub record FewAreLinkedAlone : Type 0 where
   pub own : (l : Layout) (item : Item) (r : InputRelocation) (i : ℕ) → r.symbol ≡ Some i → IsReplaceable l i false → IsLinkedAlone l item r → ⊥
   pub unnamed : (l : Layout) (item : Item) (r : InputRelocation) → r.symbol ≡ None → IsLinkedAlone l item r → ⊥
@@ -70,8 +73,8 @@ pub record FewAreLinkedAlone : Type 0 where
   pub stubbed : (l : Layout) (item : Item) (r : InputRelocation) (i : ℕ) (f : Formula) → r.symbol ≡ Some i → formula_of l.machine r.number ≡ Some f → (TakesOffset f.value → ⊥) → IsStubbed l i → IsLinkedAlone l item r → ⊥
   pub branched : (l : Layout) (item : Item) (r : InputRelocation) → GoesByStub l item r → IsLinkedAlone l item r → ⊥
 
--- each loaded, allocated input section without data is asked for zeros, but those that each thread has a copy of, at every
--- address behind the file bytes of a loaded segment
+-- Each loaded, allocated input section without data is checked for zeros, unless it is thread-local, at every address after the
+-- file bytes of a loaded segment.
 pub record BlanksAreAsked : Type 0 where
   pub sections : (l : Layout) (s : InputSection) → IsInput l s → s.slot ≡ slot.Loaded → allocated s.flags ≡ true → thread_local s.flags ≡ false → s.nobits ≡ true → IsBlank l s
   pub behind : (l : Layout) (g : Segment) (a : ℕ) → Contains l.segments g → g.kind ≡ pt_load → g.address + g.file_size ≤ a → a < g.address + g.mem_size → IsBehind l a

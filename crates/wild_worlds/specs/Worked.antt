@@ -1,4 +1,4 @@
--- Worked code is asked for what its instructions do.
+-- The effects of worked code are checked.
 --   IsWorked ..               the code has a reference with that instruction
 --   WorkedBranchesAreAsked    calls and jumps, direct and through slots, of either machine
 --   WorkedAddressesAreAsked   an address in a slot or in two words, and a thread address, of either machine
@@ -23,8 +23,8 @@ use Rattle.wild_meaning.specs.Partners.{NamesGetter}
 use Rattle.wild_meaning.specs.Template.{IsTemplate}
 use Rattle.wild_made.specs.Calling.{branch_reference, branch_bytes}
 
--- the worked examples' code: an instruction with four bytes that a relocation fills, and two returns; and a sequence with two such
--- fields
+-- the code of the worked examples: an instruction with four bytes that a relocation fills, and two returns; and a sequence with
+-- two such fields
 abbrev pub worked_relocation : ℕ → ℕ → ℕ → InputRelocation
 worked_relocation offset number symbol = record { offset = offset; number = number; symbol = Some symbol; addend = negsuc 3; malformed = false }
 
@@ -45,7 +45,7 @@ load_code = 0x48 ∷ 0x8b ∷ 0x05 ∷ 0 ∷ 0 ∷ 0 ∷ 0 ∷ 0xc3 ∷ 0xc3 ∷
 abbrev pub general_code : List ℕ
 general_code = 0x66 ∷ 0x48 ∷ 0x8d ∷ 0x3d ∷ 0 ∷ 0 ∷ 0 ∷ 0 ∷ 0x66 ∷ 0x66 ∷ 0x48 ∷ 0xe8 ∷ 0 ∷ 0 ∷ 0 ∷ 0 ∷ []
 
--- the instructions that these are
+-- the instructions of this code
 abbrev pub direct_branch : ℕ → Deed → Instruction
 direct_branch opcode deed = of_field (branch (opcode ∷ []) Number deed) 1 Target (r_x86_64_pc32 ∷ r_x86_64_plt32 ∷ [])
 
@@ -58,7 +58,7 @@ load = of_field (with_slot 0x8b Word Set rex) 3 AddressInSlot (r_x86_64_rex_gotp
 abbrev pub general : Instruction
 general = of_sequence general_call 4 SymbolPair r_x86_64_tlsgd of_symbol (by_call 12)
 
--- of AArch64: `bl`, and `b` with a return behind it
+-- for AArch64: `bl`, and `b` followed by a return
 abbrev pub branch_word : Instruction
 branch_word = of_word Target r_aarch64_call26
 
@@ -93,7 +93,7 @@ getter_relocation = worked_relocation 12 r_x86_64_plt32 1
 abbrev pub general_item : ℕ → Item
 general_item address = worked_item address general_code (pair_relocation ∷ getter_relocation ∷ [])
 
--- an executable whose symbol 0 is no IFUNC and its own, and whose symbol 1 gives thread addresses
+-- an executable whose symbol 0 is its own and not an IFUNC, and whose symbol 1 returns thread-local addresses
 pub record AsksForThreadAddress (l : Layout) : Type 0 where
   pub x86 : l.machine ≡ machine.X86_64
   pub executable : IsExecutable l.kind
@@ -101,7 +101,7 @@ pub record AsksForThreadAddress (l : Layout) : Type 0 where
   pub own : HasFlag l 0 non_interposable true
   pub getter : NamesGetter l getter_relocation
 
--- each of the two belongs to the sequence, whose first relocation is the one of the pair
+-- both relocations belong to the sequence, and the first one is that of the pair
 abbrev pub IsPaired : Layout → ℕ → InputRelocation → Type 0
 IsPaired l address r = IsReference (general_item address) r × IsTemplate l (general_item address) r 0 general pair_relocation
 
@@ -115,7 +115,7 @@ page_relocation = word_relocation 0 r_aarch64_adr_prel_pg_hi21
 abbrev pub address_relocations : List InputRelocation
 address_relocations = page_relocation ∷ word_relocation 4 r_aarch64_add_abs_lo12_nc ∷ []
 
--- and `adrp x0, descriptor; ldr x1, [x0, descriptor]; add x0, x0, descriptor; blr x1`
+-- `adrp x0, descriptor; ldr x1, [x0, descriptor]; add x0, x0, descriptor; blr x1`
 abbrev pub descriptor_code : List ℕ
 descriptor_code = 0 ∷ 0 ∷ 0 ∷ 0x90 ∷ 0x01 ∷ 0 ∷ 0x40 ∷ 0xf9 ∷ 0 ∷ 0 ∷ 0 ∷ 0x91 ∷ 0x20 ∷ 0 ∷ 0x3f ∷ 0xd6 ∷ []
 
@@ -126,11 +126,11 @@ abbrev pub descriptor_relocations : List InputRelocation
 descriptor_relocations =
     descriptor_relocation ∷ word_relocation 4 r_aarch64_tlsdesc_ld64_lo12 ∷ word_relocation 8 r_aarch64_tlsdesc_add_lo12 ∷ word_relocation 12 r_aarch64_tlsdesc_call ∷ []
 
--- each of the relocations belongs to the run of words, whose first one is the first
+-- each of the relocations belongs to the run of words, and the first of them is the run's first
 abbrev pub AreOfRun : Layout → ℕ → List ℕ → List InputRelocation → InputRelocation → Instruction → Type 0
 AreOfRun l address bytes rs first o = (r : InputRelocation) → Contains rs r → IsReference (worked_item address bytes rs) r × IsTemplate l (worked_item address bytes rs) r 0 o first
 
--- a register is set to an address, and a thread address is asked for
+-- code that sets a register to an address, and code that computes a thread-local address
 pub record WorkedAddressesAreAsked : Type 0 where
   pub loads : (l : Layout) (address : ℕ) → l.machine ≡ machine.X86_64 → IsWorked l address load_code (worked_relocation 3 r_x86_64_rex_gotpcrelx 0) load
   pub pairs : (l : Layout) (address : ℕ) → AsksForThreadAddress l → IsPaired l address pair_relocation

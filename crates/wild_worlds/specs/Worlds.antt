@@ -1,9 +1,9 @@
--- The premises of the headline are met: there are legal worlds.
---   ZeroIsLegal, MovedIsLegal   base 0 is legal; so is every roomy base of a movable output
---   NoneHasNone        where no symbol is an IFUNC, resolvers ask nothing of a world
---   IsTold l           what is known of a layout whose worlds are told
---   WorldsAreThere     it has a legal world, whatever resolvers answer and the other module has
---   KindsAreLoaded     every kind of output but a partial object is loaded
+-- The premises of the headline can be met: there are legal worlds.
+--   ZeroIsLegal, MovedIsLegal   base 0 is legal; so is every base with enough room, if the output is movable
+--   NoneHasNone        if no symbol is an IFUNC, a world needs no answers of resolvers
+--   IsTold l           the conditions on a layout under which its worlds are given
+--   WorldsAreThere     it has a legal world, whatever the resolvers answer and the other module defines
+--   KindsAreLoaded     every kind of output except a partial object can be loaded
 use Rattle.std.specs.Prelude.{◌≡◌, ◌≢◌, ℕ, ℤ, ◌+◌, ◌%◌, ◌^◌, ◌<◌, ◌≤◌, true, false, [], Some, Ok, All}
 use Rattle.std.specs.Int.{w64, cast_unsigned}
 use Rattle.std.specs.Int.RustNames.{FitsSigned}
@@ -23,15 +23,15 @@ use Rattle.wild_loader.specs.Changes.{answer_at, distance_of}
 use Rattle.wild_meaning.specs.World.{IsFixed, IsMovable, IsLoadable, IsExecutable, IsFirstModule, HasResolver, AnswersSymbols, IsCopied, IsBehind, AreBeside, IsLegal}
 use Rattle.wild_meaning.specs.Value.{IsDefinedBy, HasRaw, HasOwnSize, IsReplaceable, HasAnswer}
 
--- the world has an executable for the program's module
+-- in the world an executable is the program's own module
 abbrev pub KnowsModule : Layout → World → Type 0
 KnowsModule l w = IsExecutable l.kind → IsFirstModule l w
 
--- the world has one answer of each symbol's resolver
+-- the world has exactly one answer of each symbol's resolver
 abbrev pub HasResolvers : Layout → World → Type 0
 HasResolvers l w = All (HasResolver w) l.symbols
 
--- where no symbol is an IFUNC it needs none
+-- if no symbol is an IFUNC, none is needed
 abbrev pub NoneHasNone : Type 0
 NoneHasNone = (l : Layout) (w : World) → All (λ (s : Symbol). has_flag s.flags ifunc ≡ false) l.symbols → HasResolvers l w
 
@@ -40,24 +40,24 @@ pub record IsRoomy (l : Layout) (base : ℕ) : Type 0 where
   pub aligned : base % l.page_size ≡ 0
   pub ends : All (λ (g : Segment). base + g.address + g.mem_size ≤ 2 ^ 64) l.segments
 
--- whatever else a world has, base 0 is legal where it answers for modules, resolvers and dynamic symbols
+-- base 0 is legal in every world with answers for modules, resolvers and dynamic symbols
 abbrev pub ZeroIsLegal : Type 0
 ZeroIsLegal = (l : Layout) (w : World) → errors l ≡ [] → w.base ≡ 0 → KnowsModule l w → HasResolvers l w → AnswersSymbols l w → IsLegal l w
 
--- where the output is movable, so is every roomy base
+-- if the output is movable, so is every base with enough room
 abbrev pub MovedIsLegal : Type 0
 MovedIsLegal = (l : Layout) (w : World) → IsMovable l.kind → IsRoomy l w.base → KnowsModule l w → HasResolvers l w → AnswersSymbols l w → IsLegal l w
 
--- the resolvers of a layout's symbols answer that, each at its own address
+-- the resolvers of a layout's symbols have these answers, each at its own address
 abbrev pub AreAnswered : Layout → World → (ℕ → ℕ) → Type 0
 AreAnswered l w answers = All (λ (s : Symbol). (r : Resolution) → s.resolution ≡ Some r → answer_at w ((w.base + r.raw_value) % 2 ^ 64) ≡ Ok (answers ((w.base + r.raw_value) % 2 ^ 64))) l.symbols
 
--- each answer is an address of the machine
+-- each answer is an address in the machine's range
 abbrev pub AreAddresses : (ℕ → ℕ) → Type 0
 AreAddresses answers = (a : ℕ) → answers a < 2 ^ 64
 
--- what another module has for each index of the dynamic symbol table, how far its thread-local data are from the thread pointer, and
--- how far the output's own are where it is a library
+-- Another module's definitions for each index of the dynamic symbol table, and the distance of its thread-local data from the
+-- thread pointer. For a library also the distance of the output's own data.
 pub record Others : Type 0 where
   pub address : ℕ → ℕ
   pub offset : ℕ → ℕ
@@ -65,7 +65,7 @@ pub record Others : Type 0 where
   pub distance : ℤ
   pub own : ℤ
 
--- these are numbers of the machine
+-- these numbers are in the machine's range
 pub record AreNumbers (o : Others) : Type 0 where
   pub address : AreAddresses o.address
   pub offset : AreAddresses o.offset
@@ -73,18 +73,19 @@ pub record AreNumbers (o : Others) : Type 0 where
   pub distance : FitsSigned w64 o.distance
   pub own : FitsSigned w64 o.own
 
--- the module behind the first one
+-- the module after the first one
 abbrev pub other_module : ℕ
 other_module = 2
 
--- the answer for an index is what the other module has
+-- the answer for an index is the other module's definition
 pub record IsOthers (o : Others) (index : ℕ) (x : Answer) : Type 0 where
   pub address : x.address ≡ o.address index
   pub owner : x.module ≡ other_module
   pub offset : x.offset ≡ o.offset index
   pub size : x.size ≡ o.size index
 
--- symbols that are copied are the output's own then, and have room for as many bytes as their sizes say, behind file bytes and apart
+-- Copied symbols are then the output's own. The memory for each has as many bytes as its size says, after file bytes, and no two
+-- overlap.
 pub record CopiesHaveRoom (l : Layout) : Type 0 where
   pub own : (i : ℕ) → IsCopied l i → IsReplaceable l i false
   pub behind : (i raw z k : ℕ) → IsCopied l i → HasRaw l i raw → HasOwnSize l i z → k < z → IsBehind l (raw + k)
@@ -100,20 +101,20 @@ pub record HasWorld (l : Layout) (base : ℕ) (answers : ℕ → ℕ) (others : 
   pub far : distance_of world other_module ≡ Ok (cast_unsigned w64 others.distance)
   pub near : (IsExecutable l.kind → ⊥) → distance_of world world.own_module ≡ Ok (cast_unsigned w64 others.own)
 
--- what is known of a layout whose worlds are told
+-- the conditions on a layout under which its worlds are given
 pub record IsTold (l : Layout) : Type 0 where
   pub faultless : errors l ≡ []
   pub numbers : NumbersFit l
   pub sizes : All (λ (s : Symbol). s.size < 2 ^ 64) l.symbols
   pub copies : CopiesHaveRoom l
 
--- so legal worlds are there, whatever resolvers answer and the other module has: at base 0, and where the output is movable at every
--- roomy base
+-- So there are legal worlds, whatever the resolvers answer and the other module defines: at base 0 and, if the output is movable,
+-- at every base with enough room.
 pub record WorldsAreThere : Type 0 where
   pub zero : (l : Layout) (answers : ℕ → ℕ) (others : Others) → AreAddresses answers → AreNumbers others → IsTold l → HasWorld l 0 answers others
   pub elsewhere : (l : Layout) (base : ℕ) (answers : ℕ → ℕ) (others : Others) → AreAddresses answers → AreNumbers others → IsMovable l.kind → IsRoomy l base → IsTold l → HasWorld l base answers others
 
--- every kind but a partial object is loaded, at its own addresses or elsewhere
+-- every kind except a partial object can be loaded, at its own addresses or at any base
 pub record KindsAreLoaded : Type 0 where
   pub static : IsFixed (output.StaticExecutable model.NonRelocatable)
   pub dynamic : IsFixed (output.DynamicExecutable model.NonRelocatable)

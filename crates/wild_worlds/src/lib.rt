@@ -1,4 +1,4 @@
-//! The premises of soundness are met: there are legal worlds, and references that are asked in them.
+//! The premises of soundness can be met: there are legal worlds, and references that are checked in them.
 #![tactic(auto)]
 
 ghost use Rattle.wild_worlds.specs.Worlds.{ZeroIsLegal, MovedIsLegal, NoneHasNone, WorldsAreThere, KindsAreLoaded};
@@ -12,14 +12,19 @@ use wild_laws::images_are_sound;
 use wild_made::laws_of_calling_plans;
 use wild_references::thread_places_are_known;
 
-/// The premises of soundness are met. A layout without faults has legal worlds, with the distance of its own
-/// thread-local data, whatever its resolvers answer and another module has: at base 0, and where the output is movable at every
-/// page-aligned base at which no segment wraps. Each loaded, allocated input section with data is kept, each of its relocations but NONE
-/// is a reference, and is asked unless its symbol is absolute and its value takes a place from it, or its instruction goes
-/// through a slot; few take the output's own symbol alone; the address of an own symbol that is not absolute moves with the base,
-/// an IFUNC's value is what its resolver answers, a replaceable symbol's what the world does; an offset from the thread pointer is
-/// an address less that; a symbol has one slot of a sort, and of an own one the whole size is asked; the worked examples have calls and jumps, an address that is loaded from a slot, on AArch64
-/// one that two words make, and a sequence that asks for a thread address.
+/// The premises of soundness can be met.
+///
+/// - A layout without faults has legal worlds, with the distance of its own thread-local data, whatever its resolvers answer and
+/// another module defines. They are at base 0 and, if the output is movable, at every page-aligned base at which no segment
+/// wraps.
+/// - Each loaded, allocated input section with data is kept, and each of its relocations but NONE is a reference. It is checked
+/// unless its symbol is absolute and its value or instruction is relative to its place. Few refer only to the output's own
+/// symbol.
+/// - The address of an own symbol that is not absolute moves with the base. An IFUNC's value is its resolver's answer, a
+/// replaceable symbol's value the world's answer. A thread-pointer offset is an address minus the thread pointer.
+/// - A symbol has one slot of each sort, and the whole size of an own symbol is checked.
+/// - The worked examples have calls and jumps, an address that is loaded from a slot, on AArch64 one that two words form, and a
+/// sequence that computes a thread-local address.
 pub fn premises_are_met()
     ensures zero { ZeroIsLegal }
     ensures elsewhere { MovedIsLegal }
@@ -45,10 +50,11 @@ pub fn premises_are_met()
     thread_places_are_known();
 }
 
-/// They are met together: for each kind of output that is loaded anywhere, on either machine, there is a layout without faults, a legal world
-/// at another base than 0 in which its image is linked, and a kept item with a call, on x86-64 through a slot, which is asked there and holds.
-/// So there is for debuggers alone, of x86-64, with a note: a reference of it is asked and holds, another one is left out, a section of code is not
-/// written, and no image is linked there where the field of the first one is another number.
+/// They can be met together. For each kind of output that can be loaded at any base, on either machine, there is a layout without
+/// faults and a legal world at a base other than 0 in which its image is linked. A kept item has a call, on x86-64 through a
+/// slot, which is checked there and holds.
+/// The same is true of an x86-64 image only for debuggers, with a note. One of its references is checked and holds, another one
+/// is left out, and a section of code is not written. No image is linked there if the field of the first one is another number.
 pub fn premises_are_joined()
     ensures { PremisesAreJoined }
 {
