@@ -68,7 +68,7 @@ part_of image hs tag (Some a) = part_at image hs a
 abbrev pub sized : ℕ → Part → Result Part ImageFault
 sized n p = if nat_le n p.size then Ok (record p { size = n }) else Err (faults.Cut p.offset)
 
--- the string table, from DT_STRTAB and DT_STRSZ; if only one of them is present, the fault has its tag
+-- the string table, from DT_STRTAB and DT_STRSZ; if only one is present, the fault has its tag
 unfoldable pub strings_of : List ℕ → List ProgramHeader → Option ℕ → Option ℕ → Result Part ImageFault
 strings_of image hs None None = Err (faults.NoTable dt_strtab)
 strings_of image hs None (Some n) = Err (faults.NoTable dt_strsz)
