@@ -66,7 +66,7 @@ no_dynamic_symbols l group = record {
   strtab = record { part = part_of l role.Dynstr; group = group; start = dynstr_start l group; bytes = []; room = share_of l group role.Dynstr; behind = 0 };
 }
 
--- empty tables; every symbol has an extended section index if the layout has such a table
+-- empty tables; every symbol has an extended section index if the layout has a table of them
 abbrev pub no_symbols : Layout → ℕ → SymbolTableWriter
 no_symbols l group = record {
   locals = symbols_with l group role.SymtabLocal (share_of l group role.SymtabLocal);
