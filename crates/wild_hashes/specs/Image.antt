@@ -1,9 +1,9 @@
--- The look-up of a name in an image: its hash table, symbols and strings are those that the dynamic section names.
---   image_header image        the file header, where it is one and the program headers lie in the image
---   dynamic_of image hs       the entries of the dynamic section, none where there is no such segment
---   part_at image hs a        the file bytes from an address on, in the first segment to load that has it
---   tables_of image tag       the parts of a look-up in the hash table of a tag; none where the image has no such table
---   gnu_lookup_in image name, sysv_lookup_in image name   the symbol that the image's table leads to
+-- The look-up of a name in an image. Its hash, symbol and string tables are found through the dynamic section.
+--   image_header image        the file header, if it is that of a loadable image and the program headers lie in the image
+--   dynamic_in image d        the entries of the dynamic section; none without a PT_DYNAMIC
+--   part_at image hs a        the file bytes from an address on, in the first PT_LOAD that contains it
+--   tables_of image tag       the tables for a look-up in the hash table of a tag; none if the image has no such table
+--   gnu_lookup_in image name, sysv_lookup_in image name   the symbol that the look-up in the image's table finds
 use Rattle.std.specs.Prelude.{ℕ, ◌+◌, ◌-◌, ◌*◌, ◌/◌, ◌%◌, ◌^◌, ◌≤◌, ◌&&◌, ◌==◌, if◌then◌else◌, nat_le, min, List, [], ◌∷◌, length, take, drop, Option, Some, None, Result, Ok, Err, IfOk}
 use Rattle.wild_records.specs.Abi.Dynamic.{dt_hash, dt_gnu_hash, dt_symtab, dt_strtab, dt_strsz}
 use Rattle.wild_records.specs.Dynamic.{dynamic_entry_size}
@@ -23,7 +23,7 @@ use Rattle.wild_hashes.specs.declared.image.Part.{Part}
 use Rattle.wild_hashes.specs.declared.image.Parts.{Parts}
 use Rattle.wild_hashes.specs.LookUp.{gnu_lookup, sysv_lookup}
 
--- one step, and what it gives to the next; the first fault is the whole's
+-- a step and the next one, which uses its value; the first fault is that of both
 infixl 10 ◌>>>◌
 abbrev pub ◌>>>◌ : {A B : Type 0} → Result A ImageFault → (A → Result B ImageFault) → Result B ImageFault
 (Ok x) >>> f = f x
@@ -38,15 +38,15 @@ image_header image =
     then (if nat_le ((file_header_at image 0).program_offset + program_header_size * (file_header_at image 0).program_count) (length image) then Ok (file_header_at image 0) else Err (faults.Cut (file_header_at image 0).program_offset))
     else Err faults.NotElf
 
--- the entries of the dynamic section of a segment, which lies in the image; an empty one has none
+-- the entries of the dynamic section; the PT_DYNAMIC segment must lie in the image, and one without file bytes has no entries
 abbrev pub dynamic_in : List ℕ → Option ProgramHeader → Result (List DynamicEntry) ImageFault
 dynamic_in image None = Ok []
 dynamic_in image (Some d) =
     if d.file_size == 0 then Ok []
     else if nat_le (d.offset + d.file_size) (length image) then Ok (dynamic_entries image (d.file_size / dynamic_entry_size) d.offset) else Err (faults.Cut d.offset)
 
--- the file bytes from an address of a segment on: where they begin (modulo 2^64 as a fault tells it, and within the
--- image), and how many there are
+-- the file bytes of a segment from an address on: their file offset modulo 2^64 for faults, the index of the first in the image,
+-- and their number
 abbrev pub part_in : List ℕ → ProgramHeader → ℕ → Part
 part_in image h a = record {
   offset = offset_in h a % 2 ^ 64;
@@ -54,29 +54,29 @@ part_in image h a = record {
   size = min (h.address + h.file_size - a) (length image - offset_in h a);
 }
 
--- the file bytes from an address on, in the first segment to load that has the address (gABI, "Program Header")
+-- the file bytes from an address on, in the first PT_LOAD that contains the address (gABI, "Program Header")
 unfoldable pub part_at : List ℕ → List ProgramHeader → ℕ → Result Part ImageFault
 part_at image [] a = Err (faults.Cut a)
 part_at image (h ∷ hs) a = if has_in_memory h a then Ok (part_in image h a) else part_at image hs a
 
--- those of the table of a tag
+-- the file bytes of the table whose address the entry with a tag has
 unfoldable pub part_of : List ℕ → List ProgramHeader → ℕ → Option ℕ → Result Part ImageFault
 part_of image hs tag None = Err (faults.NoTable tag)
 part_of image hs tag (Some a) = part_at image hs a
 
--- the first n of them; else the table is cut
+-- the first n bytes of a part; if it has fewer, the table is cut
 abbrev pub sized : ℕ → Part → Result Part ImageFault
 sized n p = if nat_le n p.size then Ok (record p { size = n }) else Err (faults.Cut p.offset)
 
--- the string table by its address and its size
+-- the string table, from DT_STRTAB and DT_STRSZ; if only one is present, the fault has its tag
 unfoldable pub strings_of : List ℕ → List ProgramHeader → Option ℕ → Option ℕ → Result Part ImageFault
 strings_of image hs None None = Err (faults.NoTable dt_strtab)
 strings_of image hs None (Some n) = Err (faults.NoTable dt_strsz)
 strings_of image hs (Some a) None = Err (faults.NoTable dt_strtab)
 strings_of image hs (Some a) (Some n) = part_at image hs a >>> λ p. sized n p
 
--- the parts of a look-up in the hash table at an address: symbols and strings are needed where a name is read, and no
--- earlier, so each is told, or why it is not there
+-- the tables for a look-up in the hash table at an address; the symbol and string tables are only needed once a name is compared, so
+-- a fault of theirs is kept until then
 abbrev pub parts_by : List ℕ → List ProgramHeader → List DynamicEntry → Option ℕ → Result (Option Parts) ImageFault
 parts_by image hs ds None = Ok None
 parts_by image hs ds (Some a) =
@@ -86,7 +86,7 @@ parts_by image hs ds (Some a) =
 abbrev pub parts_of : List ℕ → List ProgramHeader → ℕ → Result (Option Parts) ImageFault
 parts_of image hs tag = dynamic_in image (first_dynamic hs) >>> λ ds. parts_by image hs ds (tagged tag ds)
 
--- the parts of a look-up in the hash table of a tag
+-- the tables for a look-up in the hash table of a tag
 unfoldable pub tables_of : List ℕ → ℕ → Result (Option Parts) ImageFault
 tables_of image tag = image_header image >>> λ e. parts_of image (program_headers image e.program_count e.program_offset) tag
 
@@ -106,17 +106,17 @@ pub record AreInside (image : List ℕ) (ps : Parts) : Type 0 where
 abbrev pub bytes_of : List ℕ → Part → List ℕ
 bytes_of image p = take p.size (drop p.start image)
 
--- those of one that may not be there
+-- the bytes of a part; none if it was not found
 abbrev pub bytes_if : List ℕ → Result Part ImageFault → List ℕ
 bytes_if image (Ok p) = bytes_of image p
 bytes_if image (Err e) = []
 
--- what is cut at an offset of a part; or why the part is not there
+-- the fault at an offset of a part, or the fault because of which the part was not found
 abbrev pub cut_in : Result Part ImageFault → ℕ → ImageFault
 cut_in (Ok p) at = faults.Cut ((p.offset + at) % 2 ^ 64)
 cut_in (Err e) at = e
 
--- a fault of a look-up in the image
+-- a fault of the look-up in tables, with its offset in the image
 abbrev pub placed : Parts → LookupFault → ImageFault
 placed ps (low.Cut at) = faults.Cut ((ps.hashes.offset + at) % 2 ^ 64)
 placed ps (low.NoSymbol i) = cut_in ps.symbols (symtab_entry_size * i)
@@ -135,10 +135,10 @@ abbrev pub sysv_by : List ℕ → List ℕ → Option Parts → Result (Option �
 sysv_by image name None = Ok None
 sysv_by image name (Some ps) = answer ps (sysv_lookup (bytes_of image ps.hashes) (bytes_if image ps.symbols) (bytes_if image ps.strings) name)
 
--- the symbol that the GNU table of an image leads to
+-- the symbol that the look-up in the GNU table of an image finds
 unfoldable pub gnu_lookup_in : List ℕ → List ℕ → Result (Option ℕ) ImageFault
 gnu_lookup_in image name = tables_of image dt_gnu_hash >>> λ ps. gnu_by image name ps
 
--- the symbol that the System V table of an image leads to
+-- the symbol that the look-up in the System V table of an image finds
 unfoldable pub sysv_lookup_in : List ℕ → List ℕ → Result (Option ℕ) ImageFault
 sysv_lookup_in image name = tables_of image dt_hash >>> λ ps. sysv_by image name ps

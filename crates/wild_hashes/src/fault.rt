@@ -1,30 +1,29 @@
-//! Why a name is not looked up.
+//! Why the look-up of a name fails.
 
-/// Why a name is not looked up in the bytes of tables.
+/// Why the look-up of a name in the bytes of tables fails.
 #[derive(Clone, Copy, Drop)]
 pub enum LookupFault {
-    /// A word that begins at that offset of the hash table goes past its end.
+    /// The word at this offset of the hash table goes past the end of the table.
     Cut { offset: u64 },
-    /// The hash table tells of a symbol that the symbol table has not.
+    /// The hash table refers to a symbol past the end of the symbol table.
     NoSymbol { index: u64 },
-    /// The string that begins at that offset has no zero at its end.
+    /// The string at this offset has no zero at its end.
     NoString { offset: u64 },
-    /// A System V chain is longer than its count; it was left at that symbol.
+    /// A System V chain has a cycle: it is longer than the table's number of symbols. The walk ended at this symbol.
     Cycle { index: u64 },
 }
 
-/// Why a name is not looked up in an image.
+/// Why the look-up of a name in an image fails.
 #[derive(Clone, Copy, Debug, PartialEq, Eq, Drop)]
 pub enum ImageFault {
-    /// The first 64 bytes are no header of an executable or shared ELF64 little-endian file of a known machine.
+    /// The first 64 bytes are not the header of an ELF64 little-endian executable or shared object for a known machine.
     NotElf,
-    /// A header, a table, a word or symbol of one, or a string that begins at that offset goes past the end of the
-    /// image, or past the file bytes of the segment that has it; where no segment has the table's address, that
-    /// address.
+    /// What begins at this offset goes past the end of the image, or past the file bytes of its segment: a header, a
+    /// table, a word or symbol of a table, or a string. If no segment contains the table's address, this is the address.
     Cut { offset: u64 },
-    /// The look-up needs the dynamic entry of that tag and there is none, or one of the string table's address and
-    /// size is there without the other.
+    /// The look-up needs the dynamic entry with this tag, and the image has none. If only one of `DT_STRTAB` and
+    /// `DT_STRSZ` is present, this is the tag of that one.
     NoTable { tag: u64 },
-    /// A System V chain is longer than its count; it was left at that symbol.
+    /// A System V chain has a cycle: it is longer than the table's number of symbols. The walk ended at this symbol.
     Cycle { index: u64 },
 }

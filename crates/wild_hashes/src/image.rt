@@ -1,4 +1,4 @@
-//! The look-up of a name in an image. No call takes memory.
+//! The look-up of a name in an image. Nothing is allocated.
 ghost use Rattle.std.specs.Prelude.{◌≡◌, ◌+◌, ◌*◌, ◌/◌, ◌≤◌, ◌<◌, [], length, IfOk, IfErr, IfSome, Ok, Err};
 ghost use Rattle.wild_records.specs.Dynamic.{dynamic_entry_size};
 ghost use Rattle.wild_records.specs.FileHeader.{file_header_at};
@@ -18,19 +18,19 @@ use wild_records::abi::header::{
 use wild_records::abi::segment::{PT_DYNAMIC, PT_LOAD};
 use wild_records::{DynamicEntry, FileHeader, ProgramHeader, SymtabEntry};
 
-/// The file bytes from an address on.
+/// The file bytes of a segment from some address to the end of its file bytes, or fewer.
 #[derive(Clone, Copy)]
 pub struct Part {
-    /// Their offset as a fault tells it.
+    /// Their file offset modulo 2^64, for faults. It may lie past the end of the image.
     pub offset: u64,
-    /// Where they begin in the image.
+    /// The index of the first of them in the image, at most the image's length.
     pub start: usize,
-    /// How many there are.
+    /// The number of these bytes in the image.
     pub size: usize,
 }
 
-/// What a look-up reads of an image. Symbols and strings are needed where a name is read, and no earlier: each is there,
-/// or the fault of such a name.
+/// The tables of an image that a look-up reads. The symbol and string tables are only needed once a name is compared, so a
+/// fault of theirs is kept until then.
 #[derive(Clone, Copy)]
 pub struct Parts {
     pub hashes: Part,
@@ -38,14 +38,14 @@ pub struct Parts {
     pub strings: Result<Part, ImageFault>,
 }
 
-/// So many records of an image behind each other.
+/// `count` consecutive records of an image.
 #[derive(Clone, Copy)]
 struct Records {
     start: usize,
     count: usize,
 }
 
-/// Whether it is the header of an executable or shared file that is known.
+/// Whether the header is that of an ELF64 little-endian executable or shared object for a known machine.
 fn is_loadable(header: &FileHeader) -> bool
     ensures { result ≡ is_loadable_header header.now }
 {
@@ -56,7 +56,7 @@ fn is_loadable(header: &FileHeader) -> bool
         && (header.machine == EM_X86_64 || header.machine == EM_AARCH64)
 }
 
-/// The file header, where it is one and the program headers lie in the image.
+/// The file header. Fails if it is not one of a loadable image, or if the program headers go past the image's end.
 #[tactic(auto, unfolding(crate::specs::Image::image_header))]
 fn read_header(image: &[u8]) -> Result<FileHeader, ImageFault>
     ensures is { result ≡ image_header image.now }
@@ -78,7 +78,7 @@ fn read_header(image: &[u8]) -> Result<FileHeader, ImageFault>
     }
 }
 
-/// The first segment of type PT_DYNAMIC.
+/// The first program header of type `PT_DYNAMIC`.
 #[tactic(auto, using(crate::proofs::ImageLemmas::dynamic_steps))]
 fn find_dynamic(image: &[u8], headers: Records) -> Option<ProgramHeader>
     requires { headers.start + program_header_size * headers.count ≤ length image.now }
@@ -93,7 +93,7 @@ fn find_dynamic(image: &[u8], headers: Records) -> Option<ProgramHeader>
     None
 }
 
-/// The value of the first dynamic entry with a tag, before the first DT_NULL.
+/// The value of the first dynamic entry with a tag, before the first `DT_NULL`.
 #[tactic(auto, using(crate::proofs::ImageLemmas::tag_steps))]
 fn find_tag(image: &[u8], entries: Records, tag: u64) -> Option<u64>
     requires { entries.start + dynamic_entry_size * entries.count ≤ length image.now }
@@ -111,7 +111,7 @@ fn find_tag(image: &[u8], entries: Records, tag: u64) -> Option<u64>
     None
 }
 
-/// Whether a segment to load has an address in memory.
+/// Whether a program header is a `PT_LOAD` that contains an address in memory.
 fn is_in(header: &ProgramHeader, address: u64) -> bool
     ensures { result ≡ has_in_memory header.now address }
 {
@@ -120,7 +120,7 @@ fn is_in(header: &ProgramHeader, address: u64) -> bool
         && (address as u128) < header.address as u128 + header.mem_size as u128
 }
 
-/// The file bytes from an address of a segment on.
+/// The file bytes of a segment from an address on.
 fn part_within(image: &[u8], header: &ProgramHeader, address: u64) -> Part
     requires { header.now.address ≤ address }
     ensures is { result ≡ part_in image.now header.now address }
@@ -139,7 +139,7 @@ fn part_within(image: &[u8], header: &ProgramHeader, address: u64) -> Part
     }
 }
 
-/// The file bytes from an address on, in the first segment to load that has the address.
+/// The file bytes from an address on, in the first `PT_LOAD` that contains the address.
 #[tactic(auto, using(crate::proofs::ImageLemmas::part_steps))]
 fn find_part(image: &[u8], headers: Records, address: u64) -> Result<Part, ImageFault>
     requires { headers.start + program_header_size * headers.count ≤ length image.now }
@@ -155,7 +155,7 @@ fn find_part(image: &[u8], headers: Records, address: u64) -> Result<Part, Image
     Err(ImageFault::Cut { offset: address })
 }
 
-/// The file bytes of the table of a tag.
+/// The file bytes of the table whose address the dynamic entry with this tag has.
 #[tactic(auto, unfolding(crate::specs::Image::part_of))]
 fn find_table(
     image: &[u8],
@@ -173,7 +173,7 @@ fn find_table(
     }
 }
 
-/// The first bytes of a part.
+/// The first `size` bytes of a part. Fails if it has fewer.
 fn sized(part: Part, size: u64) -> Result<Part, ImageFault>
     ensures { result ≡ sized size part }
 {
@@ -190,7 +190,7 @@ fn sized(part: Part, size: u64) -> Result<Part, ImageFault>
     }
 }
 
-/// The string table by its address and its size.
+/// The string table, from `DT_STRTAB` and `DT_STRSZ`.
 #[tactic(auto, unfolding(crate::specs::Image::strings_of))]
 fn find_strings(
     image: &[u8],
@@ -209,7 +209,7 @@ fn find_strings(
     }
 }
 
-/// The entries of the dynamic section of a segment, where there is one.
+/// The entries of the dynamic section; none if the image has no `PT_DYNAMIC` or an empty one.
 #[tactic(auto, unfolding(wild_loader::specs::Tables::dynamic_entries))]
 fn find_entries(image: &[u8], segment: Option<ProgramHeader>) -> Result<Records, ImageFault>
     ensures is { IfOk result (λ r. dynamic_in image.now segment ≡ Ok (dynamic_entries image.now r.count r.start)) }
@@ -234,7 +234,7 @@ fn find_entries(image: &[u8], segment: Option<ProgramHeader>) -> Result<Records,
     })
 }
 
-/// The parts of a look-up in the hash table of a tag; none where no entry has the tag.
+/// The tables for a look-up in the hash table with this tag; `None` if no dynamic entry has the tag.
 fn find_parts(
     image: &[u8],
     headers: Records,
@@ -262,7 +262,7 @@ fn find_parts(
     }))
 }
 
-/// The same, from the file header on.
+/// The tables for a look-up in the hash table with this tag, found from the file header.
 #[tactic(auto, unfolding(crate::specs::Image::tables_of))]
 fn find_tables(image: &[u8], tag: u64) -> Result<Option<Parts>, ImageFault>
     ensures is { result ≡ tables_of image.now tag }
@@ -285,7 +285,7 @@ fn bytes_of(image: &[u8], part: Part) -> &[u8]
     &image[part.start..part.start + part.size]
 }
 
-/// Those of one that may not be there.
+/// The bytes of a part; none if it was not found.
 fn bytes_if(image: &[u8], part: Result<Part, ImageFault>) -> &[u8]
     requires { IfOk part (λ p. IsInside image.now p) }
     ensures { result.now ≡ bytes_if image.now part }
@@ -296,7 +296,7 @@ fn bytes_if(image: &[u8], part: Result<Part, ImageFault>) -> &[u8]
     }
 }
 
-/// What is cut at an offset of a part; or why the part is not there.
+/// The fault at an offset of a part, or the fault because of which the part was not found.
 fn cut_in(part: Result<Part, ImageFault>, at: u64) -> ImageFault
     ensures { result ≡ cut_in part at }
 {
@@ -308,7 +308,7 @@ fn cut_in(part: Result<Part, ImageFault>, at: u64) -> ImageFault
     }
 }
 
-/// The symbol table that has no such symbol.
+/// The fault of a symbol past the end of the symbol table.
 #[tactic(auto, using(crate::proofs::ImageLemmas::wrapped_once))]
 fn symbol_cut(symbols: Result<Part, ImageFault>, index: u64) -> ImageFault
     ensures { result ≡ cut_in symbols (symtab_entry_size * index) }
@@ -324,7 +324,7 @@ fn symbol_cut(symbols: Result<Part, ImageFault>, index: u64) -> ImageFault
     }
 }
 
-/// A fault of a look-up in the image.
+/// A fault of the look-up in tables, with its offset in the image.
 fn placed(parts: Parts, fault: LookupFault) -> ImageFault
     ensures { result ≡ placed parts fault }
 {
@@ -336,7 +336,7 @@ fn placed(parts: Parts, fault: LookupFault) -> ImageFault
     }
 }
 
-/// What a look-up in the parts says of the image.
+/// The result of the look-up in tables, with a fault's offset in the image.
 fn answer(parts: Parts, found: Result<Option<u64>, LookupFault>) -> Result<Option<u64>, ImageFault>
     ensures { result ≡ answer parts found }
 {
@@ -346,8 +346,8 @@ fn answer(parts: Parts, found: Result<Option<u64>, LookupFault>) -> Result<Optio
     }
 }
 
-/// Looks a name up in the GNU hash table of an image, and answers the index of the dynamic symbol; none where the image
-/// has no such table, or one without buckets or without a Bloom filter.
+/// Looks a name up in the GNU hash table of an image, and returns the index of the dynamic symbol. `None` if no symbol has
+/// the name, or if the image has no such table, or one without buckets or without a Bloom filter.
 #[tactic(auto, unfolding(crate::specs::Image::gnu_lookup_in))]
 pub fn lookup_gnu(image: &[u8], name: &[u8]) -> Result<Option<u64>, ImageFault>
     ensures { result ≡ gnu_lookup_in image.now name.now }
@@ -363,8 +363,8 @@ pub fn lookup_gnu(image: &[u8], name: &[u8]) -> Result<Option<u64>, ImageFault>
     answer(parts, find_gnu_symbol(&tables, name))
 }
 
-/// Looks a name up in the System V hash table of an image, and answers the index of the dynamic symbol; none where the
-/// image has no such table, or one without buckets.
+/// Looks a name up in the System V hash table of an image, and returns the index of the dynamic symbol. `None` if no symbol
+/// has the name, or if the image has no such table, or one without buckets.
 #[tactic(auto, unfolding(crate::specs::Image::sysv_lookup_in))]
 pub fn lookup_sysv(image: &[u8], name: &[u8]) -> Result<Option<u64>, ImageFault>
     ensures { result ≡ sysv_lookup_in image.now name.now }

@@ -3,14 +3,15 @@ ghost use Rattle.wild_hashes.specs.Laws.{LengthsOfSysvTables, LengthsOfGnuTables
 
 use wild_records::gnu_hash_header_is_read;
 
-/// How many bytes tables have, by the numbers of their buckets, of the words of the filter, and of their symbols.
+/// The lengths of the tables, from the numbers of their buckets, Bloom filter words and symbols.
 pub fn hash_tables_have_their_lengths()
     ensures sysv { LengthsOfSysvTables }
     ensures gnu { LengthsOfGnuTables }
 {}
 
-/// In a GNU hash table of defined symbols the look-up of any name gives the first symbol that has it, and none where
-/// none has: through readers of its words and of names, where it stands in bytes, in the bytes that are written, and in an image that names them.
+/// In a GNU hash table of defined symbols, the look-up of any name gives the first symbol with that name, and none if no
+/// symbol has it. This holds with any readers of words and names, for a table anywhere in bytes, for the bytes that are
+/// written here, and in an image whose dynamic section refers to such tables.
 pub fn gnu_look_up_finds_the_first()
     ensures readers { GnuReadersFindTheFirst }
     ensures standing { GnuTablesInBytesFindTheFirst }
@@ -20,7 +21,7 @@ pub fn gnu_look_up_finds_the_first()
     gnu_hash_header_is_read();
 }
 
-/// The same of a System V hash table.
+/// The same for a System V hash table.
 pub fn sysv_look_up_finds_the_first()
     ensures readers { SysvReadersFindTheFirst }
     ensures standing { SysvTablesInBytesFindTheFirst }
@@ -28,7 +29,7 @@ pub fn sysv_look_up_finds_the_first()
     ensures images { SysvLookUpInImagesFindsTheFirst }
 {}
 
-/// Symbols ascend by bucket where each one's bucket is at most the next one's.
+/// If each symbol's bucket is at most the next symbol's, all symbols ascend by bucket.
 pub fn neighbours_ascend()
     ensures { NeighboursAscend }
 {}

@@ -1,4 +1,4 @@
-//! The look-up of a name.
+//! The look-up of a name in the bytes of a hash table.
 ghost use Rattle.std.specs.Prelude.{◌≡◌, ℕ, ◌+◌, ◌*◌, ◌/◌, ◌^◌, ◌<◌, ◌≤◌, ◌==◌, length};
 ghost use Rattle.std.specs.Int.{bit_at};
 ghost use Rattle.wild_hashes.specs.Reading.{read, symbol_name};
@@ -8,7 +8,7 @@ use crate::fault::LookupFault;
 use crate::reading::{LookupTables, chain_word, has_name, is_named, read_double_word, read_word};
 use wild_records::{GnuHashHeader, gnu_hash, sysv_hash};
 
-/// The System V chain from a symbol on, for `count` symbols at most, whose words begin at `at`.
+/// Walks the System V chain from symbol `first`, for at most `count` symbols. The chain words begin at `at`.
 #[tactic(auto, using(crate::proofs::ScanLemmas::sysv_scan_more, crate::proofs::ScanLemmas::sysv_scan_none))]
 fn scan_sysv(
     tables: &LookupTables<'_>,
@@ -38,7 +38,7 @@ fn scan_sysv(
     })
 }
 
-/// The look-up in a System V table of so many buckets and symbols.
+/// The look-up in a System V table with these numbers of buckets and symbols.
 #[tactic(auto, unfolding(crate::specs::LookUp::sysv_find))]
 fn find_sysv(
     tables: &LookupTables<'_>,
@@ -56,7 +56,7 @@ fn find_sysv(
     scan_sysv(tables, name, 8 + 4 * buckets as usize, count, first)
 }
 
-/// The look-up in a System V table.
+/// The look-up in a System V table. `None` if no symbol has the name, or if the table has no buckets.
 #[tactic(auto, unfolding(crate::specs::LookUp::sysv_lookup, crate::specs::LookUp::sysv_by))]
 pub fn find_sysv_symbol(tables: &LookupTables<'_>, name: &[u8]) -> Result<Option<u64>, LookupFault>
     ensures { result ≡ sysv_lookup tables.now.hashes.now tables.now.symbols.now tables.now.strings.now name.now }
@@ -66,7 +66,7 @@ pub fn find_sysv_symbol(tables: &LookupTables<'_>, name: &[u8]) -> Result<Option
     find_sysv(tables, name, sysv_hash(name), buckets, count)
 }
 
-/// The GNU chain from a symbol on, whose words begin at `at` with that of symbol `base`.
+/// Walks the GNU chain from a symbol. The chain words begin at `at`, with that of symbol `base`.
 #[tactic(auto, using(crate::proofs::ScanLemmas::gnu_scan_more, crate::proofs::ScanLemmas::chain_word_at))]
 fn scan_gnu(
     tables: &LookupTables<'_>,
@@ -97,7 +97,7 @@ fn scan_gnu(
     Ok(None)
 }
 
-/// A hash without its lowest bits; none is left of a shift past 31.
+/// A hash shifted right; 0 for a shift of 32 or more.
 #[tactic(auto, using(crate::proofs::StringLemmas::shifted_out))]
 fn shifted(hash: u32, shift: u32) -> u32
     ensures { result ≡ hash / 2 ^ shift }
@@ -113,7 +113,7 @@ fn has_bit(word: u64, bit: u32) -> bool
     (word >> bit) & 1 == 1
 }
 
-/// Whether the two bits of a hash are set in its word of the Bloom filter.
+/// Whether the two bits of a hash are set in this word of the Bloom filter.
 #[tactic(auto)]
 fn may_hold(shift: u32, hash: u32, word: u64) -> bool
     ensures { result ≡ may_hold shift hash word }
@@ -150,7 +150,7 @@ fn find_in_bucket(
     )
 }
 
-/// The look-up in a GNU table with that header.
+/// The look-up in a GNU table with this header.
 #[tactic(auto, unfolding(crate::specs::LookUp::gnu_find))]
 fn find_gnu(
     header: &GnuHashHeader,
@@ -174,7 +174,7 @@ fn find_gnu(
     }
 }
 
-/// The look-up in a GNU table.
+/// The look-up in a GNU table. `None` if no symbol has the name, or if the table has no buckets or no Bloom filter.
 #[tactic(auto, unfolding(crate::specs::LookUp::gnu_lookup))]
 pub fn find_gnu_symbol(tables: &LookupTables<'_>, name: &[u8]) -> Result<Option<u64>, LookupFault>
     ensures { result ≡ gnu_lookup tables.now.hashes.now tables.now.symbols.now tables.now.strings.now name.now }

@@ -1,4 +1,4 @@
-//! Words of a hash table, and names of symbols.
+//! Reads words of a hash table, and names of symbols.
 ghost use Rattle.std.specs.Prelude.{◌≡◌, ◌+◌, ◌*◌, ◌≤◌, ◌^◌, ◌<◌, length, position, IfOk, IfSome};
 ghost use Rattle.wild_hashes.specs.Reading.{read, is_zero, string_at, name_offset, symbol_name, has_name};
 ghost use Rattle.wild_hashes.specs.LookUp.{chain_word, is_named};
@@ -7,8 +7,8 @@ use crate::fault::LookupFault;
 use wild_records::SymtabEntry;
 use wild_words::{read_u32, read_u64};
 
-/// The bytes that a look-up reads: from where a hash table stands on, from where the dynamic symbol table stands on,
-/// and from where its strings stand on.
+/// The bytes that a look-up reads. Each slice begins where the hash table, the dynamic symbol table or its string table
+/// begins.
 #[derive(Clone, Copy)]
 pub struct LookupTables<'a> {
     pub hashes: &'a [u8],
@@ -39,7 +39,7 @@ pub(crate) fn read_double_word(table: &[u8], at: usize) -> Result<u64, LookupFau
     Ok(read_u64(table, at))
 }
 
-/// The word of a symbol in the chains that begin at an offset with symbol 0.
+/// The chain word of a symbol. The chain words begin at an offset, with that of symbol 0.
 #[tactic(auto, using(crate::proofs::ScanLemmas::chain_word_0))]
 pub(crate) fn chain_word(table: &[u8], at: usize, index: u32) -> Result<u32, LookupFault>
     requires { at < 2 ^ 40 }
@@ -48,7 +48,7 @@ pub(crate) fn chain_word(table: &[u8], at: usize, index: u32) -> Result<u32, Loo
     read_word(table, at + 4 * index as usize)
 }
 
-/// The place of the first zero.
+/// The index of the first zero.
 fn find_zero(bytes: &[u8]) -> Option<usize>
     ensures first { result ≡ position is_zero bytes.now }
     ensures inside { IfSome result (λ i. i < length bytes.now) }
@@ -56,7 +56,7 @@ fn find_zero(bytes: &[u8]) -> Option<usize>
     bytes.iter().position(|byte| *byte == 0)
 }
 
-/// Whether the string from an offset on is the name.
+/// Whether the string at an offset is the name.
 #[tactic(auto, using(crate::proofs::StringLemmas::string_steps))]
 fn is_string(strings: &[u8], at: usize, name: &[u8]) -> Result<bool, LookupFault>
     ensures { result ≡ has_name (string_at strings.now) name.now at }
@@ -71,7 +71,7 @@ fn is_string(strings: &[u8], at: usize, name: &[u8]) -> Result<bool, LookupFault
     }
 }
 
-/// Where the name of a symbol begins.
+/// `st_name` of a symbol.
 #[tactic(auto, unfolding(crate::specs::Reading::name_offset, wild_records::specs::SymtabEntry::symtab_entry_at))]
 fn name_offset(symbols: &[u8], index: u64) -> Result<u32, LookupFault>
     ensures { result ≡ name_offset symbols.now index }
@@ -95,7 +95,7 @@ pub(crate) fn has_name(
     is_string(tables.strings, at as usize, name)
 }
 
-/// Whether a symbol has that name, where its chain's word has the name's hash; else its name is not read.
+/// Whether a symbol has that name. The names are compared only if the chain word has the name's hash.
 pub(crate) fn is_named(
     tables: &LookupTables<'_>,
     index: u64,

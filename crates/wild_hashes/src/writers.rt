@@ -1,4 +1,4 @@
-//! Writers of hash tables into their room. None takes memory.
+//! Writers of hash tables. Nothing is allocated.
 ghost use Rattle.std.specs.Prelude.{◌≡◌, ℕ, ◌+◌, ◌*◌, ◌/◌, ◌%◌, ◌^◌, ◌<◌, ◌≤◌, ◌++◌, length, map, drop, if◌then◌else◌, [], ◌∷◌, replicate};
 ghost use Rattle.wild_words.specs.Words.{word, number};
 ghost use Rattle.wild_hashes.specs.Tables.{sysv_hash_of, gnu_hash_of, gnu_header, words, buckets, with_bits, bloom, is_last, gnu_chains, sysv_chains, gnu_table, sysv_table};
@@ -7,7 +7,7 @@ use wild_records::{GnuHashHeader, gnu_hash, sysv_hash};
 use wild_types::{DynamicSymbol, GnuHash};
 use wild_words::{put_u32, put_u64, read_u32, read_u64};
 
-/// The hash of a symbol's name in GNU's table.
+/// The GNU hash of a symbol's name.
 #[tactic(auto, unfolding(crate::specs::Tables::gnu_hash_of))]
 fn gnu_hash_of(definition: &DynamicSymbol) -> u32
     ensures { result ≡ gnu_hash_of definition.now }
@@ -15,7 +15,7 @@ fn gnu_hash_of(definition: &DynamicSymbol) -> u32
     gnu_hash(definition.name.as_slice())
 }
 
-/// The hash of a symbol's name in System V's table.
+/// The System V hash of a symbol's name.
 #[tactic(auto, unfolding(crate::specs::Tables::sysv_hash_of))]
 fn sysv_hash_of(definition: &DynamicSymbol) -> u32
     ensures { result ≡ sysv_hash_of definition.now }
@@ -23,8 +23,8 @@ fn sysv_hash_of(definition: &DynamicSymbol) -> u32
     sysv_hash(definition.name.as_slice())
 }
 
-/// The buckets of a GNU table of names whose symbols begin at `base`: from the last symbol on, each goes over those
-/// behind it.
+/// The buckets of a GNU table of symbols with the indexes from `base` on. The walk is from the last symbol to the first,
+/// so each bucket ends with its first symbol.
 #[tactic(auto, using(crate::proofs::WriterLemmas::bucket_steps))]
 fn write_gnu_buckets(out: &mut [u8], count: u32, base: u32, definitions: &[DynamicSymbol])
     requires room { length out.old ≡ 4 * count }
@@ -50,7 +50,7 @@ fn with_bits(shift: u32, hash: u32, old: u64) -> u64
     old | (1 << (hash % 64)) | (1 << ((hash >> shift) % 64))
 }
 
-/// The Bloom filter of names.
+/// The Bloom filter of the names.
 #[tactic(auto, using(crate::proofs::WriterLemmas::bloom_steps))]
 fn write_bloom(out: &mut [u8], count: u32, shift: u32, definitions: &[DynamicSymbol])
     requires room { length out.old ≡ 8 * count }
@@ -69,7 +69,7 @@ fn write_bloom(out: &mut [u8], count: u32, shift: u32, definitions: &[DynamicSym
     }
 }
 
-/// Whether a symbol of that hash is its bucket's last, where the others behind it begin at `next`.
+/// Whether a symbol with this hash is the last of its bucket. The following symbols begin at index `next`.
 #[tactic(auto, using(crate::proofs::WriterLemmas::last_steps))]
 fn is_last(count: u32, hash: u32, definitions: &[DynamicSymbol], next: usize) -> bool
     requires some { 0 < count }
@@ -79,7 +79,7 @@ fn is_last(count: u32, hash: u32, definitions: &[DynamicSymbol], next: usize) ->
     next == definitions.len() || gnu_hash_of(&definitions[next]) % count != hash % count
 }
 
-/// The word of a symbol of that hash in its chain.
+/// The chain word of a symbol with this hash: the hash, with bit 0 set for the last symbol of its bucket.
 fn gnu_word(count: u32, hash: u32, definitions: &[DynamicSymbol], next: usize) -> u32
     requires some { 0 < count }
     requires within { next ≤ length definitions.now }
@@ -92,7 +92,7 @@ fn gnu_word(count: u32, hash: u32, definitions: &[DynamicSymbol], next: usize) -
     }
 }
 
-/// The chains of a GNU table of names.
+/// The chain words of a GNU table.
 #[tactic(auto, using(crate::proofs::WriterLemmas::chain_steps))]
 fn write_gnu_chains(out: &mut [u8], count: u32, definitions: &[DynamicSymbol])
     requires room { length out.old ≡ 4 * length definitions.now }
@@ -107,8 +107,8 @@ fn write_gnu_chains(out: &mut [u8], count: u32, definitions: &[DynamicSymbol])
     }
 }
 
-/// The buckets and the chains of a System V table of names whose symbols begin at `base`: from the last symbol on,
-/// each goes before those of its bucket.
+/// The buckets and chain words of a System V table of symbols with the indexes from `base` on. The walk is from the last
+/// symbol to the first, and puts each at the head of its bucket's chain.
 #[tactic(auto, using(crate::proofs::WriterLemmas::sysv_steps))]
 fn write_sysv_parts(
     firsts: &mut [u8],
@@ -135,8 +135,8 @@ fn write_sysv_parts(
     }
 }
 
-/// The GNU hash table of the defined symbols (GNU, "DT_GNU_HASH") into its room: header, Bloom filter, buckets, chains.
-/// Symbols begin at the shape's base of the dynamic symbol table. A name is found in it where they ascend by bucket.
+/// Writes the GNU hash table of the defined symbols (GNU, "DT_GNU_HASH"): header, Bloom filter, buckets, chain words. The
+/// defined symbols have the indexes from the shape's `base` on in `.dynsym`. A look-up finds them if they ascend by bucket.
 #[tactic(auto, unfolding(crate::specs::Tables::gnu_table))]
 pub fn write_gnu_hash_tables(out: &mut [u8], shape: &GnuHash, definitions: &[DynamicSymbol])
     requires room { length out.old ≡ 16 + 8 * shape.now.bloom_count + 4 * shape.now.buckets + 4 * length definitions.now }
@@ -161,8 +161,8 @@ pub fn write_gnu_hash_tables(out: &mut [u8], shape: &GnuHash, definitions: &[Dyn
     write_gnu_chains(chains, shape.buckets, definitions);
 }
 
-/// The System V hash table of the defined symbols (gABI, "Hash Table") into its room: the counts, the buckets, and a
-/// chain word for each symbol of the dynamic symbol table, of which the defined ones begin at `base`.
+/// Writes the System V hash table of the defined symbols (gABI, "Hash Table"): the two counts, the buckets, and a chain word
+/// for each symbol of `.dynsym`. The defined symbols have the indexes from `base` on.
 #[tactic(auto, unfolding(crate::specs::Tables::sysv_table))]
 pub fn write_sysv_hash_table(out: &mut [u8], count: u32, base: u32, definitions: &[DynamicSymbol])
     requires room { length out.old ≡ 8 + 4 * count + 4 * base + 4 * length definitions.now }
@@ -178,7 +178,7 @@ pub fn write_sysv_hash_table(out: &mut [u8], count: u32, base: u32, definitions:
     write_sysv_parts(firsts, chains, count, base, definitions);
 }
 
-/// The two counts of a System V table.
+/// The counts of a System V table: buckets, and symbols.
 fn write_counts(out: &mut [u8], buckets: u32, symbols: u32)
     requires { length out.old ≡ 8 }
     ensures { out.new ≡ words 4 (buckets ∷ symbols ∷ []) }
@@ -187,7 +187,7 @@ fn write_counts(out: &mut [u8], buckets: u32, symbols: u32)
     put_u32(out, 4, symbols);
 }
 
-/// So many words of 0.
+/// `count` words of 0: the chain words of the symbols before `base`.
 #[tactic(auto, using(crate::proofs::WriterLemmas::zero_words))]
 fn write_no_words(out: &mut [u8], count: u32)
     requires { length out.old ≡ 4 * count }

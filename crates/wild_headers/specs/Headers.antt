@@ -1,6 +1,6 @@
 -- The headers of an image (gABI, "ELF Header", "Section Header", "Program Header").
 --   file_header l         the file header; file_header_bytes l its bytes
---   program_header l g    the header of a segment; program_header_bytes l the bytes of all
+--   program_header l g    the header of a segment; program_header_bytes l the bytes of the whole table
 --   section_headers_of l  the section headers; section_header_bytes l their bytes
 --   names_of l            the names of the sections
 use Rattle.std.specs.Prelude.{ℕ, ◌+◌, ◌-◌, ◌%◌, ◌/◌, ◌^◌, ◌==◌, if◌then◌else◌, nat_lt, max, List, [], ◌∷◌, ◌++◌, length}
@@ -51,34 +51,34 @@ machine_number machine.AArch64 = em_aarch64
 abbrev pub entry_address : Layout → ℕ
 entry_address l = (entry_point l).address
 
--- the offset of the first part of a role; 0 where there is none
+-- the file offset of the first part with a role; 0 without such a part
 abbrev pub offset_of_role : Role → List Part → ℕ
 offset_of_role r [] = 0
 offset_of_role r (p ∷ ps) = if has_role r p then p.offset else offset_of_role r ps
 
--- the section of the first part of a role; section 0 where there is none
+-- the header index of the section of the first part with a role; 0 without such a part
 abbrev pub section_of_role : Role → List Part → ℕ
 section_of_role r [] = shn_undef
 section_of_role r (p ∷ ps) = if has_role r p then p.section else section_of_role r ps
 
--- the size of the first part of a role; 0 where there is none
+-- the size of the first part with a role; 0 without such a part
 abbrev pub size_of_role : Role → List Part → ℕ
 size_of_role r [] = 0
 size_of_role r (p ∷ ps) = if has_role r p then p.size else size_of_role r ps
 
--- the header index of the section of the names
+-- the header index of .shstrtab
 abbrev pub name_table : Layout → ℕ
 name_table l = section_of_role role.Shstrtab l.parts
 
--- a number that has a field of the file header, or from SHN_LORESERVE on the escape
+-- a number in the file header: itself below SHN_LORESERVE, the escape from there on
 abbrev pub or_escape : ℕ → ℕ → ℕ
 or_escape n escape = if nat_lt n shn_loreserve then n else escape
 
--- a number that has no field of the file header, and is told by section header 0
+-- the same number in section header 0: 0 below SHN_LORESERVE, itself from there on
 abbrev pub or_none : ℕ → ℕ
 or_none n = if nat_lt n shn_loreserve then 0 else n
 
--- of a relocatable object no program header is told (gABI, "ELF Header": e_phoff, e_phentsize)
+-- a field that is 0 in a relocatable object, which has no program headers (gABI, "ELF Header": e_phoff, e_phentsize)
 abbrev pub or_partial : OutputKind → ℕ → ℕ
 or_partial kind n = if is_partial_link kind then 0 else n
 
@@ -105,11 +105,11 @@ file_header l = record {
   name_table = or_escape (name_table l) shn_xindex;
 }
 
--- PF_X is set
+-- p_flags with PF_X set
 abbrev pub with_execute : ℕ → ℕ
 with_execute flags = if flags / pf_x % 2 == 0 then flags + pf_x else flags
 
--- PT_LOAD is aligned to pages at least; PT_GNU_STACK to 16, and is executable where asked for
+-- p_align of PT_LOAD is at least the page size, that of PT_GNU_STACK 16; PT_GNU_STACK has PF_X if the option execstack is set
 unfoldable pub program_header : Layout → Segment → ProgramHeader
 program_header l g = record {
   kind = g.kind;
@@ -122,7 +122,7 @@ program_header l g = record {
   align = if g.kind == pt_load then max l.page_size g.align else (if g.kind == pt_gnu_stack then 16 else g.align);
 }
 
--- section header 0: what has no room in the file header
+-- section header 0: the numbers that do not fit in the file header
 unfoldable pub null_header : Layout → SectionHeader
 null_header l = record {
   name = 0;
@@ -137,36 +137,36 @@ null_header l = record {
   entry_size = 0;
 }
 
--- SHF_COMPRESSED is cleared
+-- sh_flags with SHF_COMPRESSED cleared
 abbrev pub uncompressed : ℕ → ℕ
 uncompressed flags = if bit flags shf_compressed then flags - shf_compressed else flags
 
--- the number that sh_info of a section tells, by the part that stands in it
+-- sh_info of the section that holds the part with a role: a number modulo 2^32
 abbrev pub told_at : Layout → Role → ℕ → Told
 told_at l r info = record { section = section_of_role r l.parts; info = info % 2 ^ 32 }
 
--- how many symbols of `.symtab` are local: as many as have room in their part
+-- the number of local symbols in .symtab: the size of their part, counted in entries
 abbrev pub local_symbols : Layout → ℕ
 local_symbols l = size_of_role role.SymtabLocal l.parts / symtab_entry_size
 
--- what sh_info tells more than the layout gives (gABI, "Sections", sh_link and sh_info; LSB, "Symbol Versioning"): of symbols, how
--- many local ones stand in front, which among the dynamic ones is the entry of zeros alone; of versions, how many there are; of the
--- entries of stubs, the section whose words they fill
+-- every sh_info that is not the layout's (gABI, "Sections", sh_link and sh_info; LSB, "Symbol Versioning"):
+-- .dynsym has one local symbol, the null symbol; .symtab has its number of local symbols, which come first; .rela.plt has the section
+-- of the GOT words; .gnu.version_d and .gnu.version_r have the number of their records
 unfoldable pub told_of : Layout → List Told
 told_of l =
     told_at l role.Dynsym 1 ∷ told_at l role.RelaPlt (section_of_role role.Got l.parts) ∷ told_at l role.SymtabLocal (local_symbols l)
     ∷ told_at l role.GnuVersionD (length l.verdefs) ∷ told_at l role.GnuVersionR (need_count l) ∷ []
 
--- sh_info of section i: the first that is told of it, else as it is given
+-- sh_info of section i: the first computed value for it, otherwise the layout's
 abbrev pub info_at : List Told → ℕ → ℕ → ℕ
 info_at [] i given = given
 info_at (t ∷ ts) i given = if i == t.section then t.info else info_at ts i given
 
--- the type that is told of a section: where nothing of it is written, that of sections without bytes in the file
+-- sh_type: SHT_NOBITS for a section of which only the header is written, otherwise the layout's
 abbrev pub type_told : Layout → Section → ℕ
 type_told l s = if is_hollow l s then sht_nobits else s.kind
 
--- the header of another section, whose name begins at that offset of the names; in a relocatable object no section has an address (gABI,
+-- the header of a section other than section 0, with its sh_info and sh_name; in a relocatable object sh_addr is 0 (gABI,
 -- "Section Header", sh_addr)
 unfoldable pub section_header : Layout → ℕ → ℕ → Section → SectionHeader
 section_header l info name s = record {
@@ -182,12 +182,12 @@ section_header l info name s = record {
   entry_size = s.entsize;
 }
 
--- the headers of the sections from number i and a name offset on
+-- the headers of a list of sections, whose first has index i and its name at offset name of .shstrtab
 abbrev pub headers_from : Layout → List Told → ℕ → ℕ → List Section → List SectionHeader
 headers_from l told i name [] = []
 headers_from l told i name (s ∷ ss) = section_header l (info_at told i s.info) name s ∷ headers_from l told (i + 1) (name + length s.name + 1) ss
 
--- all section headers
+-- all section headers, section header 0 first
 abbrev pub section_headers_of : Layout → List Section → List SectionHeader
 section_headers_of l [] = []
 section_headers_of l (s ∷ ss) = null_header l ∷ headers_from l (told_of l) 1 (length s.name + 1) ss
@@ -201,6 +201,6 @@ program_header_bytes l = flat_map (λ g. spell (program_header_fields (program_h
 abbrev pub section_header_bytes : Layout → List ℕ
 section_header_bytes l = flat_map (λ h. spell (section_header_fields h)) (section_headers_of l l.sections)
 
--- the names of the sections, a zero behind each (gABI, "String Table")
+-- the names of the sections, each with a zero at its end (gABI, "String Table")
 abbrev pub names_of : Layout → List ℕ
 names_of l = flat_map (λ s. s.name ++ 0 ∷ []) l.sections

@@ -13,7 +13,7 @@ use wild_records::abi::section::{SHN_UNDEF, SHN_XINDEX};
 use wild_records::{FileHeader, ProgramHeader, SectionHeader};
 use wild_types::{Layout, Machine, OutputKind, RelocationModel, Role};
 
-/// `e_type`.
+/// `e_type` of a kind of output.
 fn file_type(kind: OutputKind) -> u16
     ensures { result ≡ file_type kind }
 {
@@ -26,7 +26,7 @@ fn file_type(kind: OutputKind) -> u16
     }
 }
 
-/// `e_machine`.
+/// `e_machine` of a machine.
 fn machine_number(machine: Machine) -> u16
     ensures { result ≡ machine_number machine }
 {
@@ -67,7 +67,7 @@ fn file_header(layout: &Layout) -> FileHeader
     }
 }
 
-/// Writes the file header into its room.
+/// Writes the file header. `out` has exactly its length.
 pub fn populate_file_header(layout: &Layout, out: &mut [u8])
     requires room { length out.old ≡ file_header_size }
     requires segments { length layout.now.segments < 2 ^ 16 }

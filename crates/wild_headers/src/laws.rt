@@ -1,21 +1,21 @@
 //! Laws of the headers.
 ghost use Rattle.wild_headers.specs.Laws.{HeadersHaveTheirLengths, SectionCountStands, NameTableStands, CountsAtTheLimit, ProgramHeadersStand, SectionHeadersStand, NamesStand};
 
-/// The headers and the names are as long as is needed of them.
+/// The headers and the section names have exactly the lengths that `wild_needs` computes for their parts.
 pub fn headers_have_their_lengths()
     ensures { HeadersHaveTheirLengths }
 {}
 
-/// How many sections there are, and which of them has the names, stands in the file header; numbers from 65,280 on do not
-/// fit there, and stand in section header 0.
+/// The number of sections and the header index of `.shstrtab` are in the file header (`e_shnum`, `e_shstrndx`). Numbers
+/// from `SHN_LORESERVE` (65,280) on do not fit there and are in section header 0 (`sh_size`, `sh_link`).
 pub fn large_numbers_stand()
     ensures counts { SectionCountStands }
     ensures names { NameTableStands }
     ensures limit { CountsAtTheLimit }
 {}
 
-/// Program header k stands at 56 k of the program headers, section header k at 64 k of the section headers, and
-/// the name of a section where its header tells.
+/// Program header k is at offset 56 k of the program header table, section header k at offset 64 k of the section header
+/// table, and the name of a section at its `sh_name` in `.shstrtab`.
 pub fn headers_are_read()
     ensures programs { ProgramHeadersStand }
     ensures sections { SectionHeadersStand }

@@ -1,5 +1,5 @@
-//! The headers of an image and the names of its sections: what they are, how long, what a reader finds in them, and
-//! their writers.
+//! The headers of an image and the names of its sections: their definition, their length, what a reader finds in them,
+//! and their writers.
 #![tactic(auto)]
 
 mod file_header;

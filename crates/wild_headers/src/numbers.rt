@@ -1,4 +1,4 @@
-//! What the headers tell of the sections, by its place in them.
+//! The numbers in the headers that are computed from the parts and the libraries of the layout.
 ghost use Rattle.std.specs.Prelude.{◌≡◌, ◌%◌, ◌^◌};
 ghost use Rattle.wild_headers.specs.Headers.{offset_of_role, section_of_role, size_of_role, or_escape, or_none, or_partial};
 ghost use Rattle.wild_types.specs.Parts.{has_role};
@@ -8,7 +8,7 @@ ghost use Rattle.wild_types.specs.declared.part.Role.TheVariants.{SectionHeaders
 use wild_records::abi::section::{SHN_LORESERVE, SHN_UNDEF};
 use wild_types::{File, Layout, OutputKind, Part, Role, SectionIndex, has_role};
 
-/// A number of sections, or an index of one, as the file header has it.
+/// `e_shnum` or `e_shstrndx`: the number, or the escape if the number is `SHN_LORESERVE` or more.
 pub(crate) fn or_escape(n: usize, escape: u16) -> u16
     ensures { result ≡ or_escape n escape }
 {
@@ -19,14 +19,14 @@ pub(crate) fn or_escape(n: usize, escape: u16) -> u16
     }
 }
 
-/// What section header 0 tells of it.
+/// The same number in section header 0: 0 if it is below `SHN_LORESERVE`.
 pub(crate) fn or_none(n: usize) -> usize
     ensures { result ≡ or_none n }
 {
     if n < SHN_LORESERVE as usize { 0 } else { n }
 }
 
-/// What a header tells, which is 0 in a relocatable object.
+/// The value of a header field that is 0 in a relocatable object.
 pub(crate) fn or_partial(kind: OutputKind, n: u64) -> u64
     ensures { result ≡ or_partial kind n }
 {
@@ -39,7 +39,7 @@ fn has_section_headers(part: &Part) -> bool
     matches!(part.role, Role::SectionHeaders)
 }
 
-/// The offset of the section headers.
+/// `e_shoff`: the file offset of the section header table; 0 without one.
 pub(crate) fn section_headers_offset(parts: &[Part]) -> u64
     ensures { result ≡ offset_of_role SectionHeaders parts.now }
 {
@@ -51,7 +51,7 @@ pub(crate) fn section_headers_offset(parts: &[Part]) -> u64
     0
 }
 
-/// The header index of the section of the part of a role; 0 where there is none.
+/// The header index of the output section that holds the first part with this role; 0 without such a part.
 pub(crate) fn section_of_role(role: Role, parts: &[Part]) -> SectionIndex
     ensures { result ≡ section_of_role role parts.now }
 {
@@ -63,7 +63,7 @@ pub(crate) fn section_of_role(role: Role, parts: &[Part]) -> SectionIndex
     SectionIndex(SHN_UNDEF as usize)
 }
 
-/// The size of the part of a role; 0 where there is none.
+/// The size of the first part with this role; 0 without such a part.
 pub(crate) fn size_of_role(role: Role, parts: &[Part]) -> u64
     ensures { result ≡ size_of_role role parts.now }
 {
@@ -75,14 +75,14 @@ pub(crate) fn size_of_role(role: Role, parts: &[Part]) -> u64
     0
 }
 
-/// Whether versions are needed of a file.
+/// Whether the output needs symbol versions of this file, which is then a shared library.
 fn has_needs(file: &File) -> bool
     ensures { result ≡ has_needs file.now }
 {
     file.role.is_library() && file.verneed.is_some()
 }
 
-/// Of how many libraries versions are needed, modulo 2^32.
+/// The number of libraries of which the output needs versions, modulo 2^32.
 pub(crate) fn need_count(layout: &Layout) -> u32
     ensures { result ≡ need_count layout.now % 2 ^ 32 }
 {

@@ -10,7 +10,7 @@ use wild_records::abi::segment::{PF_X, PT_GNU_STACK, PT_LOAD};
 use wild_types::{Layout, Segment};
 use wild_words::put;
 
-/// The flags with `PF_X`.
+/// `p_flags` with `PF_X` set.
 fn with_execute(flags: u32) -> u32
     ensures { result ≡ with_execute flags }
 {
@@ -56,7 +56,7 @@ fn put_program_header(layout: &Layout, segment: &Segment, i: usize, out: &mut [u
     put(out, i * ProgramHeader::SIZE, &header);
 }
 
-/// Writes the program headers into their room.
+/// Writes the program header table. `out` has exactly its length.
 pub fn write_program_headers(layout: &Layout, out: &mut [u8])
     requires room { length out.old ≡ program_header_size * length layout.now.segments }
     ensures { out.new ≡ program_header_bytes layout.now }

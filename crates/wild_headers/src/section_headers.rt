@@ -31,7 +31,7 @@ fn null_header(layout: &Layout) -> SectionHeader
     }
 }
 
-/// The flags without `SHF_COMPRESSED`.
+/// `sh_flags` with `SHF_COMPRESSED` cleared.
 #[tactic(auto, unfolding(wild_types::specs::Lookups::bit))]
 fn uncompressed(flags: u64) -> u64
     ensures { result ≡ uncompressed flags }
@@ -43,14 +43,14 @@ fn uncompressed(flags: u64) -> u64
     }
 }
 
-/// What `sh_info` of a section tells more than the layout gives.
+/// An `sh_info` that the writer computes, and the section that gets it instead of the layout's value.
 #[derive(Clone, Copy)]
 struct Told {
     section: SectionIndex,
     info: u32,
 }
 
-/// A number, modulo 2^32, that the section of the part of a role tells.
+/// `sh_info` of the section that holds the part with this role: a number, modulo 2^32.
 fn told_at(layout: &Layout, role: Role, number: u64) -> Told
     ensures { result ≡ told_at layout.now role number }
 {
@@ -60,15 +60,15 @@ fn told_at(layout: &Layout, role: Role, number: u64) -> Told
     }
 }
 
-/// How many symbols of `.symtab` are local.
+/// The number of local symbols in `.symtab`.
 fn local_symbols(layout: &Layout) -> u64
     ensures { result ≡ local_symbols layout.now }
 {
     size_of_role(Role::SymtabLocal, layout.parts.as_slice()) / SymtabEntry::SIZE as u64
 }
 
-/// Of symbols, how many local ones stand in front; of versions, how many there are; of the entries of stubs, the section
-/// whose words they fill.
+/// Every computed `sh_info`: for `.dynsym` and `.symtab` the number of local symbols, which come first; for `.rela.plt`
+/// the section of the GOT words; for `.gnu.version_d` and `.gnu.version_r` the number of their records.
 #[tactic(auto, unfolding(crate::specs::Headers::told_of))]
 fn told_of(layout: &Layout) -> [Told; 5]
     ensures { result ≡ told_of layout.now }
@@ -83,7 +83,7 @@ fn told_of(layout: &Layout) -> [Told; 5]
     ]
 }
 
-/// What `sh_info` of section i tells: the first that is told of it, else what the layout gives.
+/// `sh_info` of section i: the first computed value for it, otherwise the layout's.
 fn info_at(told: &[Told], i: SectionIndex, given: u32) -> u32
     ensures { result ≡ info_at told.now i given }
 {
@@ -95,7 +95,7 @@ fn info_at(told: &[Told], i: SectionIndex, given: u32) -> u32
     given
 }
 
-/// The type that is told of a section: where nothing of it is written, that of sections without bytes in the file.
+/// `sh_type`: `SHT_NOBITS` for a section of which only the header is written, otherwise the layout's.
 fn type_told(layout: &Layout, section: &Section) -> u32
     ensures { result ≡ type_told layout.now section.now }
 {
@@ -106,7 +106,7 @@ fn type_told(layout: &Layout, section: &Section) -> u32
     }
 }
 
-/// The header of another section. In a relocatable object no section has an address.
+/// The header of a section other than section 0. In a relocatable object `sh_addr` is 0.
 #[tactic(auto, unfolding(crate::specs::Headers::section_header))]
 fn section_header(layout: &Layout, info: u32, name: u32, section: &Section) -> SectionHeader
     ensures { result ≡ section_header layout.now info name section.now }
@@ -125,7 +125,7 @@ fn section_header(layout: &Layout, info: u32, name: u32, section: &Section) -> S
     }
 }
 
-/// The header of the section with that index, whose name begins at `name`.
+/// The header of section i, whose name begins at offset `name` of `.shstrtab`.
 fn header_of(
     layout: &Layout,
     told: &[Told],
@@ -163,7 +163,7 @@ fn put_section_header(
     put(out, i * SectionHeader::SIZE, &header);
 }
 
-/// Writes the section headers into their room.
+/// Writes the section header table. `out` has exactly its length.
 pub fn write_section_headers(layout: &Layout, out: &mut [u8])
     requires room { length out.old ≡ section_header_size * length layout.now.sections }
     requires names { name_bytes layout.now < 2 ^ 32 }

@@ -7,7 +7,7 @@ ghost use Rattle.wild_headers.specs.Headers.{names_of};
 use wild_types::{Layout, Section};
 use wild_words::{put, put_u8};
 
-/// Writes the name of a section, and a zero behind it.
+/// Writes the name of a section and the zero that ends it.
 #[tactic(auto, using(crate::proofs::HeaderLemmas::place_word_behind))]
 fn put_name(section: &Section, at: usize, out: &mut [u8])
     requires { at + (length section.now.name + 1) ≤ length out.old }
@@ -17,7 +17,7 @@ fn put_name(section: &Section, at: usize, out: &mut [u8])
     put_u8(out, at + section.name.len(), 0);
 }
 
-/// Writes the names of the sections into their room.
+/// Writes the section names (`.shstrtab`). `out` has exactly their length.
 pub fn write_section_names(layout: &Layout, out: &mut [u8])
     requires room { length out.old ≡ name_bytes layout.now }
     ensures { out.new ≡ names_of layout.now }

@@ -1,7 +1,7 @@
--- What the entries of the dynamic symbol table say of symbols (gABI, "Symbol Table").
---   undefined_fields role s    of a symbol that another module defines
---   named_sections l           the sections of symbols that no input section has
---   listed_fields l i s        of symbol i of the list of those that other modules see; or what it lacks
+-- The fields of the entries of .dynsym (gABI, "Symbol Table").
+--   undefined_fields role s    those of a symbol that another module defines
+--   named_sections l           the output sections of symbols that no input section defines
+--   listed_fields l i s        those of symbol i, which is exported; or the fault of a symbol without section or stub
 use Rattle.std.specs.Prelude.{ℕ, ◌+◌, ◌-◌, ◌*◌, ◌/◌, ◌%◌, ◌^◌, ◌==◌, Bool, ◌&&◌, if◌then◌else◌, List, Option, Some, None, option_map, unwrap_or, is_some, Result, Ok, Err, bytes_eq, codes}
 use Rattle.std.specs.List.{position_from}
 use Rattle.wild_records.specs.Abi.Section.{shn_undef, shn_abs}
@@ -34,19 +34,19 @@ use Rattle.wild_symbols.specs.declared.dynamic.NamedSections.{NamedSections}
 
 -- ---- attributes
 
--- the attributes that the layout gives for a symbol
+-- the layout's type, binding, visibility and size of a symbol
 abbrev pub own_attributes : Symbol → SymbolAttributes
 own_attributes s = record { info = s.info; other = s.other; size = s.size }
 
--- the binding of st_info with another type
+-- st_info with its binding kept and its type replaced
 abbrev pub with_type : ℕ → ℕ → ℕ
 with_type info type = info / 16 * 16 + type
 
--- a library's function that a resolver chooses there is a function here
+-- an ifunc of a library is an ordinary function for this output
 abbrev pub library_info : ℕ → ℕ
 library_info info = if info % 16 == stt_gnu_ifunc then with_type info stt_func else info
 
--- of a library's symbol neither visibility nor size is told
+-- a library's symbol has neither visibility nor size
 abbrev pub library_attributes : ℕ → SymbolAttributes
 library_attributes info = record { info = info; other = 0; size = 0 }
 
@@ -58,13 +58,13 @@ nowhere_with a = record { section = shn_undef; value = 0; attributes = a }
 abbrev pub undefined_fields : FileRole → Symbol → SymbolFields
 undefined_fields role s = nowhere_with (if is_library role then library_attributes (library_info s.info) else own_attributes s)
 
--- ---- symbols that other modules see
+-- ---- exported symbols
 
--- the header index of the first section of a name (gABI, "Special Sections")
+-- the header index of the first section with a name (gABI, "Special Sections")
 abbrev pub section_named : Layout → List ℕ → Option ℕ
 section_named l name = position_from (λ (s : Section). bytes_eq s.name name) 0 l.sections
 
--- section 0 is none
+-- a header index; none for section 0
 abbrev pub some_section : ℕ → Option ℕ
 some_section k = if k == 0 then None else Some k
 
@@ -72,8 +72,8 @@ abbrev pub part_section : Option Part → Option ℕ
 part_section None = None
 part_section (Some p) = some_section p.section
 
--- the sections of symbols that no input section has: of data without bytes in the file, of such thread-local data, of stubs, of
--- slots, and of the slots whose words are packed
+-- the output sections of symbols that no input section defines: .bss, .tbss, and the sections of PLT stubs, of GOT words, and of the
+-- GOT words that are relocated by RELR
 abbrev pub named_sections : Layout → NamedSections
 named_sections l = record {
   bss = section_named l (codes ".bss");
@@ -83,23 +83,23 @@ named_sections l = record {
   block = part_section (part_with role.GotRelr l.parts);
 }
 
--- in a section, at a value; or that symbol i has none
+-- the fields with a value in a section; or the fault that symbol i has no section
 abbrev pub in_section : ℕ → Option ℕ → ℕ → SymbolAttributes → Result SymbolFields Fault
 in_section i None value a = Err (faults.MissingResolution missing.Section i)
 in_section i (Some k) value a = Ok (record { section = (split_index k).0; value = value; attributes = a })
 
--- the address that was decided of a symbol; 0 where nothing was
+-- the resolved address of a symbol; 0 if it has none
 abbrev pub decided_value : Symbol → ℕ
 decided_value s = unwrap_or (option_map (λ (r : Resolution). r.raw_value) s.resolution) 0
 
 abbrev pub is_thread_symbol : Symbol → Bool
 is_thread_symbol s = s.info % 16 == stt_tls
 
--- of thread-local data the value counts from their beginning (gABI, "Symbol Table", st_value)
+-- st_value of a thread-local symbol is its offset from the start of the TLS segment (gABI, "Symbol Table", st_value)
 abbrev pub value_in : Layout → Symbol → ℕ
 value_in l s = if is_thread_symbol s then (decided_value s + (2 ^ 64 - l.tls.start)) % 2 ^ 64 else decided_value s
 
--- the function that a resolver chooses is its stub in a program that does not move: pointers to it compare equal
+-- an ifunc's entry has its PLT stub's address in an output with a fixed load address, where pointers to it must compare equal
 abbrev pub stands_as_stub : Layout → Symbol → Bool
 stands_as_stub l s = has_flag s.flags ifunc && (is_some (plt_of s) && has_fixed_load_address l.kind)
 
@@ -112,28 +112,28 @@ as_function s = record { info = with_type s.info stt_func; other = s.other; size
 abbrev pub common_section : Layout → Symbol → Option ℕ
 common_section l s = if is_thread_symbol s then section_named l (codes ".tbss") else section_named l (codes ".bss")
 
--- in its section, or as its stub
+-- in its section, or at its PLT stub
 abbrev pub placed_fields : Layout → ℕ → Symbol → Option ℕ → Result SymbolFields Fault
 placed_fields l i s section =
     if stands_as_stub l s
     then in_section i (part_section (part_with role.PltGot l.parts)) (stub_or_zero s) (as_function s)
     else in_section i section (value_in l s) (own_attributes s)
 
--- by its place
+-- of a symbol that this output defines, or of an undefined one
 abbrev pub fields_at : Layout → ℕ → Symbol → ℕ → Place → Result SymbolFields Fault
 fields_at l i s section at.Undefined = Ok (nowhere_with (own_attributes s))
 fields_at l i s section at.Absolute = Ok (record { section = shn_abs; value = s.value; attributes = own_attributes s })
 fields_at l i s section at.Common = placed_fields l i s (common_section l s)
 fields_at l i s section other = placed_fields l i s (some_section section)
 
--- a library's function whose stub is its address in every module: one that no section has, with that value (x86-64 psABI,
--- "Function Addresses")
+-- a library's function with a canonical PLT entry is undefined, with the stub's address as its value (x86-64 psABI, "Function
+-- Addresses")
 abbrev pub canonical_fields : ℕ → Symbol → Place → Option ℕ → Result SymbolFields Fault
 canonical_fields i s at.Undefined stub = Ok (nowhere_with (library_attributes s.info))
 canonical_fields i s other None = Err (faults.MissingResolution missing.Stub i)
 canonical_fields i s other (Some stub) = Ok (record { section = shn_undef; value = stub; attributes = library_attributes (with_type s.info stt_func) })
 
--- what is copied from a library stands in .bss
+-- a symbol with a COPY relocation is in .bss
 abbrev pub copied_fields : Layout → ℕ → Symbol → Result SymbolFields Fault
 copied_fields l i s = in_section i (section_named l (codes ".bss")) (decided_value s) (own_attributes s)
 
@@ -147,6 +147,6 @@ abbrev pub role_of : Option File → FileRole
 role_of None = file_role.Object
 role_of (Some f) = f.role
 
--- what the entry of symbol i says
+-- the fields of symbol i
 abbrev pub listed_fields : Layout → ℕ → Symbol → Result SymbolFields Fault
 listed_fields l i s = listed_by l i (role_of (file_of (files_of l.groups) i)) s (output_section l (file_of (files_of l.groups) i) s.place)

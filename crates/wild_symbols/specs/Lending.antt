@@ -1,5 +1,5 @@
--- What a writer ends as whose prefix was taken.
---   PrefixOrNone w r   where there was no room for a prefix, as it was; else as the prefix left it
+-- The state of a writer after a prefix of it was requested.
+--   PrefixOrNone w r   if there was no room for a prefix, the writer is unchanged; otherwise it is as the prefix left it
 use Rattle.std.specs.Prelude.{◌≡◌, Result}
 use Rattle.std.specs.Borrow.{Fml, MutBor, RestsIfErr}
 use Rattle.wild_types.specs.declared.fault.Error.{Error}

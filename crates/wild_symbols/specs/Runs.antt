@@ -1,16 +1,16 @@
--- Whole runs of a writer: lists of calls that give symbols.
---   defined .., undefined ..  what calls of define_symbol and undefined_symbol are given
+-- Lists of calls of a writer, each of which appends a symbol or fails.
+--   defined .., undefined ..  the arguments of calls of define_symbol and undefined_symbol
 --   has_room c w          the symbol and its name fit
---   called c w            what the call leaves; after cs w what calls leave, one after another
---   taken local cs w      the calls that gave a local symbol, or a global one
---   RunsAreRead           symbol k of a run is that of the k-th call that gave one
---   RunsCount             each call that gave a symbol gave one
---   RunsStandBehind       what stood before a run stands before what it wrote
---   RunsKeepIndexes       their longer section indexes stand one behind the other
---   RunsWithRoomAreWhole  where there is room for all, each call gives its symbol
---   RunsAreEntries        calls with names and fields leave their entries, as `entries_at` has them
---   RunsAreTables         calls with the entries of `.symtab` leave these, as `side_entries` has them
---   PrefixesAreTheWriters what calls write through a prefix, the writer itself would have written
+--   called c w            the writer after a call; after cs w is the writer after several calls
+--   taken local cs w      the successful calls for a local symbol, or for a global one
+--   RunsAreRead           symbol k that was appended is that of the k-th successful call
+--   RunsCount             each successful call appends one symbol
+--   RunsStandBehind       earlier symbols and strings are unchanged
+--   RunsKeepIndexes       their extended section indexes are appended in order
+--   RunsWithRoomAreWhole  if there is room for all, each call succeeds
+--   RunsAreEntries        calls with names and fields append their entries, as `entries_at` has them
+--   RunsAreTables         calls with the entries of `.symtab` append these, as `side_entries` has them
+--   PrefixesAreTheWriters calls through a prefix write what the same calls of the writer write
 use Rattle.std.specs.Prelude.{◌≡◌, ℕ, ◌+◌, ◌*◌, ◌<◌, ◌≤◌, ◌^◌, Bool, true, false, not, List, [], ◌∷◌, ◌++◌, length, take, map, All, slice_index_or, Option, Some, None, Result, Ok, Err}
 use Rattle.std.specs.List.{filter, flat_map}
 use Rattle.wild_words.specs.Words.{Stands}
@@ -32,11 +32,11 @@ use Rattle.wild_symbols.specs.TableLaws.{NamedEntryFits, IsEntryOf, names_of}
 use Rattle.wild_symbols.specs.declared.writer.SymbolAttributes.{SymbolAttributes}
 use Rattle.wild_symbols.specs.declared.writer.SymbolTableWriter.{SymbolTableWriter}
 
--- what a call is given: a name, whether the symbol is local, and what is said of it
+-- the arguments of a call: a name, whether the symbol is local, and its fields
 abbrev pub defined : Bool → List ℕ → SymbolSection → ℕ → SymbolAttributes → NamedEntry
 defined local name s value a = record { name = Some name; local = local; fields = told s value a }
 
--- a symbol that no section has, of value 0
+-- an undefined symbol (SHN_UNDEF, value 0)
 abbrev pub undefined : Bool → List ℕ → SymbolAttributes → NamedEntry
 undefined local name a = defined local name (Raw shn_undef) 0 a
 
@@ -54,16 +54,16 @@ abbrev pub called_if : Bool → NamedEntry → SymbolTableWriter → SymbolTable
 called_if true c w = with_fields c.local c.name c.fields w
 called_if false c w = w
 
--- what a call leaves: one symbol and its name more; where they do not fit, the writer as it was
+-- the writer after a call: with the symbol and its name appended, or unchanged if they do not fit
 abbrev pub called : NamedEntry → SymbolTableWriter → SymbolTableWriter
 called c w = called_if (has_room c w) c w
 
--- what calls leave, one after another
+-- the writer after several calls
 abbrev pub after : List NamedEntry → SymbolTableWriter → SymbolTableWriter
 after [] w = w
 after (c ∷ cs) w = after cs (called c w)
 
--- a call of that kind of symbols
+-- a call for a local symbol, or for a global one
 abbrev pub is_in : Bool → Bool → Bool
 is_in true local = local
 is_in false local = not local
@@ -73,74 +73,74 @@ taken_if true true c cs = c ∷ cs
 taken_if true false c cs = cs
 taken_if false here c cs = cs
 
--- the calls that gave a local symbol, or those that gave a global one
+-- the successful calls for a local symbol, or for a global one
 abbrev pub taken : Bool → List NamedEntry → SymbolTableWriter → List NamedEntry
 taken local [] w = []
 taken local (c ∷ cs) w = taken_if (has_room c w) (is_in local c.local) c (taken local cs (called c w))
 
--- ---- what is read
+-- ---- reading
 
--- where the symbols of a list stand, and the group's strings in the output's table, symbol k of a run is that of the
--- k-th call that gave one, behind those of before
+-- if a table has the symbols of the list, and the output's string table the group's strings, symbol k after the earlier ones is read
+-- as that of the k-th successful call
 abbrev pub RunsAreRead : Type 0
 RunsAreRead = (cs : List NamedEntry) (w : SymbolTableWriter) (local : Bool) (k : ℕ) (table strings : List ℕ) (at : ℕ) (d : NamedEntry) → All NamedEntryFits cs → w.strtab.start + w.strtab.room < 2 ^ 32
     → Stands table at (symbol_bytes (list_of local (after cs w)).symbols) → Stands strings w.strtab.start (after cs w).strtab.bytes → k < length (taken local cs w)
     → IsEntryOf strings (slice_index_or (taken local cs w) k d) (symtab_entry_at table (at + symtab_entry_size * (length (list_of local w).symbols + k)))
 
--- each call that gave a symbol gave one, and no other came
+-- each successful call appends one symbol, and no other call does
 abbrev pub RunsCount : Type 0
 RunsCount = (cs : List NamedEntry) (w : SymbolTableWriter) (local : Bool) → length (list_of local (after cs w)).symbols ≡ length (list_of local w).symbols + length (taken local cs w)
 
--- what stood before a run stands before what it wrote
+-- the symbols and strings of before are at the front, unchanged
 abbrev pub RunsStandBehind : Type 0
 RunsStandBehind = (cs : List NamedEntry) (w : SymbolTableWriter) (local : Bool) → (take (length (list_of local w).symbols) (list_of local (after cs w)).symbols ≡ (list_of local w).symbols) × (take (length w.strtab.bytes) (after cs w).strtab.bytes ≡ w.strtab.bytes)
 
--- the bytes of a name, with the zero behind it
+-- the number of bytes of a name with its zero
 abbrev pub name_room : Option (List ℕ) → ℕ
 name_room None = 0
 name_room (Some name) = length name + 1
 
--- there is room for the symbols of these calls, for their longer section indexes, and for their names
+-- the symbols of these calls, their extended section indexes and their names fit
 pub record HasRoomFor (cs : List NamedEntry) (w : SymbolTableWriter) : Type 0 where
   pub symbols : (local : Bool) → symbols_used (list_of local w) + symtab_entry_size * length (filter (λ c. is_in local c.local) cs) ≤ (list_of local w).room
   pub indexes : (local : Bool) → length (indexes_of local w).bytes + total (λ c. index_room (indexes_of local w).each c.fields.long) (filter (λ c. is_in local c.local) cs) ≤ (indexes_of local w).room
   pub names : length w.strtab.bytes + total (λ c. name_room c.name) cs ≤ w.strtab.room
 
--- the longer section indexes of the calls that gave a symbol stand behind those that were there, one of each where each has one
+-- the extended section indexes of the successful calls are appended in order, one for every symbol if every symbol has one
 abbrev pub RunsKeepIndexes : Type 0
 RunsKeepIndexes = (cs : List NamedEntry) (w : SymbolTableWriter) (local : Bool)
     → (indexes_of local (after cs w)).bytes ≡ (indexes_of local w).bytes ++ flat_map (λ (c : NamedEntry). index_of (indexes_of local w).each c.fields.long) (taken local cs w)
 
--- where there is room for all, each call gives its symbol
+-- if there is room for all, each call succeeds
 abbrev pub RunsWithRoomAreWhole : Type 0
 RunsWithRoomAreWhole = (cs : List NamedEntry) (w : SymbolTableWriter) (local : Bool) → HasRoomFor cs w → taken local cs w ≡ filter (λ c. is_in local c.local) cs
 
--- the call that gives a global symbol with these fields
+-- the call for a global symbol with these fields
 abbrev pub call_of : NamedFields → NamedEntry
 call_of n = record { name = Some n.name; local = false; fields = short n.fields }
 
--- the writer has the symbols and the strings of w, behind them these entries, and the names of these one behind the other
+-- writer v is w with these entries appended to its global symbols, and with their names appended to its strings
 pub record HasEntries (ns : List NamedFields) (w v : SymbolTableWriter) : Type 0 where
   pub symbols : v.globals.symbols ≡ w.globals.symbols ++ entries_at (offset_of w.strtab) ns
   pub strings : v.strtab ≡ with_strings (map (λ (n : NamedFields). n.name) ns) w.strtab
 
--- where there is room for all, calls with names and fields leave just their entries and their names
+-- if there is room for all, calls with names and fields append exactly their entries and their names
 abbrev pub RunsAreEntries : Type 0
 RunsAreEntries = (ns : List NamedFields) (w : SymbolTableWriter) → HasRoomFor (map call_of ns) w → w.strtab.start + w.strtab.room < 2 ^ 32 → HasEntries ns w (after (map call_of ns) w)
 
--- the writer has the symbols and the strings of w, behind them these entries of `.symtab`, the longer section index of each where each
--- has one, and the names of all one behind the other
+-- writer v is w with these entries of `.symtab` appended, with their extended section indexes if every symbol has one, and with all
+-- names appended to its strings
 pub record HasTable (ns : List NamedEntry) (w v : SymbolTableWriter) : Type 0 where
   pub symbols : (local : Bool) → (list_of local v).symbols ≡ (list_of local w).symbols ++ side_entries local (offset_of w.strtab) ns
   pub indexes : (local : Bool) → (indexes_of local w).each ≡ true → (indexes_of local v).bytes ≡ (indexes_of local w).bytes ++ index_bytes (long_indexes local ns)
   pub strings : v.strtab ≡ with_strings (names_of ns) w.strtab
 
--- where there is room for all, calls with the entries of `.symtab` leave just these
+-- if there is room for all, calls with the entries of `.symtab` append exactly these
 abbrev pub RunsAreTables : Type 0
 RunsAreTables = (ns : List NamedEntry) (w : SymbolTableWriter) → HasRoomFor ns w → w.strtab.start + w.strtab.room < 2 ^ 32 → HasTable ns w (after ns w)
 
--- what calls write through a prefix that has room for them, the writer itself would have written; when the prefix is
--- let go, the writer has all its room again
+-- calls through a prefix that has room for them write what the same calls of the writer write; after the prefix is dropped, the writer
+-- has all its room again
 abbrev pub PrefixesAreTheWriters : Type 0
 PrefixesAreTheWriters = (n m : ℕ) (cs : List NamedEntry) (w : SymbolTableWriter) → room_for_prefix n m w ≡ Ok tt → symbols_used w.locals ≤ w.locals.room → length w.local_indexes.bytes ≤ w.local_indexes.room → HasRoomFor cs (prefix_of n m w)
     → joined (kept_behind n m w) (after cs (prefix_of n m w)) ≡ after cs w

@@ -1,6 +1,6 @@
--- The symbols of the sections of a relocatable object, written one after another.
---   section_calls l          what the writer is given of each
---   SectionWritten a k b     the symbol of section k is written; SectionRefused a k e b: there is no room for it
+-- Writing the section symbols of a relocatable object in order.
+--   section_calls l          the arguments for each
+--   SectionWritten a k b     the symbol of section k is written; SectionRefused a k e b: it does not fit
 use Rattle.std.specs.Prelude.{◌≡◌, ℕ, List, map, Result, Ok, Err}
 use Rattle.wild_types.specs.declared.fault.Fault.{Fault}
 use Rattle.wild_types.specs.declared.fault.Error.{Error}

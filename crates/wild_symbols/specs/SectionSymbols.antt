@@ -1,10 +1,10 @@
--- The symbols of a relocatable object by their numbers in its `.symtab`, which its tables of relocations tell (gABI, "Relocation": r_info;
--- "Symbol Table").
---   symbol_section l i   the input section that symbol i stands in, of its own file
---   entry_index l i      the number of symbol i's own entry
---   section_index l s    the number of the symbol of the section that an input section stands in
---   symbol_index l i     the number that stands for symbol i: its own entry's, or of a section symbol that of the output's section
---   named_index l symbol the number that a relocation tells: that of its symbol, else of what defines it, else none
+-- The symbol indexes of a relocatable object's `.symtab`, which the relocations of its tables contain (gABI, "Relocation": r_info; "Symbol
+-- Table").
+--   symbol_section l i   the input section of symbol i, in its own file
+--   entry_index l i      the index of symbol i's own entry
+--   section_index l s    the index of the symbol of the output section that contains an input section
+--   symbol_index l i     the index for symbol i: its own entry's, or for a section symbol that of the output section's symbol
+--   named_index l symbol the index in a relocation: that of its symbol, otherwise that of the symbol's definition, otherwise 0
 use Rattle.std.specs.Prelude.{ℕ, ◌+◌, ◌%◌, ◌==◌, ◌&&◌, Bool, true, false, if◌then◌else◌, List, [], ◌∷◌, length, Option, Some, None, option_and_then, option_map, unwrap_or, slice_get}
 use Rattle.std.specs.List.{flat_map}
 use Rattle.std.specs.Option.{option_or}
@@ -20,27 +20,27 @@ use Rattle.wild_needs.specs.declared.table.Named.{Named}
 use Rattle.wild_needs.specs.declared.table.Named.TheVariants as named
 use Rattle.wild_needs.specs.TableSymbols.{TableSymbol, file_items, side, is_local_symbol, asked_from, kept_alone, section_symbols}
 
--- ---- where symbols stand
+-- ---- input sections of symbols
 
 abbrev pub section_at : Place → File → Option InputSection
 section_at (at.Section k) f = slice_get f.sections k
 section_at other f = None
 
--- the input section that symbol i stands in
+-- the input section of symbol i
 abbrev pub symbol_section : Layout → ℕ → Option InputSection
 symbol_section l i = option_and_then (λ (s : Symbol). option_and_then (section_at s.place) (file_of (files_of l.groups) i)) (slice_get l.symbols i)
 
--- it stands for its section
+-- it is a section symbol (STT_SECTION)
 abbrev pub is_section_type : Symbol → Bool
 is_section_type s = s.info % 16 == stt_section
 
 -- ---- own entries
 
--- all that is named in the table, in the order of the files
+-- all named entries of the table, in the order of the files
 abbrev pub all_items : Layout → List TableSymbol
 all_items l = flat_map (file_items l) (files_of l.groups)
 
--- it is symbol i's own entry
+-- the entry is symbol i's own
 abbrev pub is_own_entry : ℕ → TableSymbol → Bool
 is_own_entry i x = is_itself x.named && x.index == i
   where
@@ -48,33 +48,33 @@ is_own_entry i x = is_itself x.named && x.index == i
     is_itself named.Itself = true
     is_itself other = false
 
--- the place of the first such, counted from k on
+-- the index of the first such entry; the list begins with index k
 abbrev pub place_from : ℕ → ℕ → List TableSymbol → Option ℕ
 place_from i k [] = None
 place_from i k (x ∷ xs) = if is_own_entry i x then Some k else place_from i (k + 1) xs
 
--- how many entries stand in front: that of zeros, and those of sections
+-- the number of entries before the named ones: the null symbol and the section symbols
 abbrev pub front_count : Layout → ℕ
 front_count l = 1 + length (section_symbols l)
 
--- local entries stand in front of all others
+-- local entries come before all others
 abbrev pub entry_by : Layout → ℕ → Bool → Option ℕ
 entry_by l i true = place_from i (front_count l) (side true (all_items l))
 entry_by l i false = place_from i (front_count l + length (side true (all_items l))) (side false (all_items l))
 
--- the number of symbol i's own entry
+-- the index of symbol i's own entry
 abbrev pub entry_index : Layout → ℕ → Option ℕ
 entry_index l i = option_and_then (λ (s : Symbol). entry_by l i (is_local_symbol s)) (slice_get l.symbols i)
 
 -- ---- section symbols
 
--- the place of the first such number, counted from k on
+-- the index of the first occurrence of a number; the list begins with index k
 abbrev pub number_from : ℕ → ℕ → List ℕ → Option ℕ
 number_from n k [] = None
 number_from n k (m ∷ ms) = if m == n then Some k else number_from n (k + 1) ms
 
--- the symbol of the section that an input section stands in: of one that the object keeps by itself, its own; where the output has none for
--- its section, number 0 stands for it
+-- the symbol of the output section that contains an input section; one that the object keeps as a section of its own has its own
+-- symbol; 0 if the section has no symbol
 abbrev pub section_index : Layout → InputSection → ℕ
 section_index l s = by s.singleton
   where
@@ -88,13 +88,13 @@ section_number l s = if is_discarded s.slot then None else Some (section_index l
 abbrev pub number_of_section : Layout → ℕ → Symbol → Option ℕ
 number_of_section l i s = if is_section_type s then option_and_then (section_number l) (symbol_section l i) else None
 
--- ---- what relocations tell
+-- ---- symbol indexes in relocations
 
--- the number that stands for symbol i
+-- the index for symbol i
 abbrev pub symbol_index : Layout → ℕ → Option ℕ
 symbol_index l i = option_or (entry_index l i) (option_and_then (number_of_section l i) (slice_get l.symbols i))
 
--- the number that a relocation tells; 0 where nothing stands for its symbol (gABI, "Relocation": STN_UNDEF)
+-- the index in a relocation; 0 if its symbol has none (gABI, "Relocation": STN_UNDEF)
 abbrev pub named_index : Layout → Option ℕ → ℕ
 named_index l None = 0
 named_index l (Some i) = unwrap_or (option_or (symbol_index l i) (symbol_index l (canonical l i))) 0

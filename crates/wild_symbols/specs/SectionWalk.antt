@@ -1,4 +1,4 @@
--- The sections that a relocatable object keeps by themselves, file by file and group by group.
+-- The input sections that a relocatable object keeps as sections of their own, file by file and group by group.
 use Rattle.std.specs.Prelude.{ℕ, List, option_to_list}
 use Rattle.std.specs.List.{flat_map}
 use Rattle.wild_types.specs.declared.input.InputSection.{InputSection}

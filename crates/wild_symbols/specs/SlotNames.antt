@@ -1,10 +1,10 @@
--- The names of a symbol's slot and of its stub as local symbols.
---   slot_fields l i s named   what is said of the slot, or of the stub; or what it lacks
---   slot_names l i s          those of the two that have a name, each with what is said of it
---   offered r w               there is something to say, and room for it; else the fault
---   all_offered rs w          the same of each, one after another: the first fault
---   all_given rs w            the writer with those in front of that
---   SlotNamesAreItems         they are those of a file's entries
+-- The local symbols that name a symbol's slot and its PLT stub.
+--   slot_fields l i s named   the fields of the slot's entry, or of the stub's; or the fault that its part has no section
+--   slot_names l i s          the entries of those of the two that are named, or their faults
+--   offered r w               the entry has no fault and fits; otherwise the fault
+--   all_offered rs w          the same for each in order: the first fault
+--   all_given rs w            the writer after the entries before the first fault
+--   SlotNamesAreItems         these are among a file's entries
 use Rattle.std.specs.Prelude.{◌≡◌, ℕ, map, Bool, true, if◌then◌else◌, List, [], ◌∷◌, ◌++◌, Some, Result, Ok, Err}
 use Rattle.wild_types.specs.declared.fault.Fault.{Fault}
 use Rattle.wild_types.specs.declared.fault.Error.{Error}
@@ -23,7 +23,7 @@ use Rattle.wild_symbols.specs.Runs.{is_ok, called}
 use Rattle.wild_symbols.specs.declared.table.TableFields.{TableFields}
 use Rattle.wild_symbols.specs.declared.writer.SymbolTableWriter.{SymbolTableWriter}
 
--- what is said of the stub, or else of the slot
+-- the fields of the stub's entry, or otherwise of the slot's
 abbrev pub slot_fields : Layout → ℕ → Symbol → Named → Result TableFields Fault
 slot_fields l i s named.Stub = at_part l i role.PltGot (plt_of s)
 slot_fields l i s other = at_part l i (slot_role l s) (got_of s)
@@ -32,20 +32,20 @@ abbrev pub local_entry : List ℕ → Result TableFields Fault → Result NamedE
 local_entry name (Err f) = Err f
 local_entry name (Ok t) = Ok (record { name = Some name; local = true; fields = t })
 
--- with its name
+-- the entry with its name
 abbrev pub slot_entry : Layout → ℕ → Symbol → Named → Result NamedEntry Fault
 slot_entry l i s n = local_entry (s.name ++ suffix n) (slot_fields l i s n)
 
 abbrev pub where_named : Bool → Result NamedEntry Fault → List (Result NamedEntry Fault)
 where_named b r = if b then r ∷ [] else []
 
--- those that have a name
+-- the entries of those that are named
 abbrev pub slot_names : Layout → ℕ → Symbol → List (Result NamedEntry Fault)
 slot_names l i s = where_named (names_slot l i s) (slot_entry l i s named.Slot) ++ where_named (names_stub l i s) (slot_entry l i s named.Stub)
 
 -- ---- writing
 
--- there is something to say, and room for it
+-- the entry has no fault and fits
 abbrev pub offered : Result NamedEntry Fault → SymbolTableWriter → Result (Unit {0}) Error
 offered (Err f) w = Err (record { fault = f; at = nowhere })
 offered (Ok n) w = room_for_fields n.local n.name n.fields.long w
@@ -54,18 +54,18 @@ abbrev pub given : Result NamedEntry Fault → SymbolTableWriter → SymbolTable
 given (Err f) w = w
 given (Ok n) w = called n w
 
--- each, one after another; else the first fault
+-- each of them in order; otherwise the first fault
 abbrev pub all_offered : List (Result NamedEntry Fault) → SymbolTableWriter → Result (Unit {0}) Error
 all_offered [] w = Ok tt
 all_offered (r ∷ rs) w = and_then (offered r w) (all_offered rs (given r w))
 
--- the writer with those in front of the first fault
+-- the writer after the entries before the first fault
 abbrev pub all_given : List (Result NamedEntry Fault) → SymbolTableWriter → SymbolTableWriter
 all_given [] w = w
 all_given (r ∷ rs) w = if is_ok (offered r w) then all_given rs (given r w) else w
 
 -- ---- law
 
--- they are those that a file's entries have, with what is said of them
+-- they are the entries that a file has for the slot and the stub, with the same fields
 abbrev pub SlotNamesAreItems : Type 0
 SlotNamesAreItems = (l : Layout) (f : File) (i : ℕ) (s : Symbol) → slot_names l i s ≡ map (λ (x : TableSymbol). local_entry (item_name x) (table_fields l f x)) (slot_items l i s)

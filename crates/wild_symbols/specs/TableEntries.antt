@@ -1,10 +1,10 @@
--- What the entries of `.symtab` say of symbols (gABI, "Symbol Table").
---   table_fields l f x         what is said of a symbol of a file, of its slot, its stub or a thunk to it; or what it lacks
+-- The entries of `.symtab` (gABI, "Symbol Table").
+--   table_fields l f x         the fields of a symbol of a file, of its slot, its stub or a thunk to it; or the fault
 --   file_table l f             the symbols of a file's entries, each with its name, and whether it is local
---   side_entries local at ns   the entries of the local ones, or of the others; names stand one behind the other from an offset on
+--   side_entries local at ns   the local entries, or the others; the names of all are consecutive strings from offset at
 --   group_table l g            the symbols of a group's entries
---   table_entries l local g    the entries of a group among the local symbols, or the others
---   long_indexes l local f     the longer section indexes of a file's entries
+--   table_entries l local g    the local entries of a group, or the others
+--   long_indexes local ns      the extended section indexes of the local entries, or of the others
 use Rattle.std.specs.Prelude.{ℕ, ◌+◌, ◌-◌, ◌/◌, ◌%◌, ◌^◌, ◌==◌, Bool, true, false, not, ◌&&◌, if◌then◌else◌, min, List, [], ◌∷◌, ◌++◌, map, codes, Option, Some, None, option_map, unwrap_or, is_some, Result, Ok, Err, slice_get}
 use Rattle.std.specs.List.{flat_map, filter}
 use Rattle.wild_words.specs.Words.{word}
@@ -52,11 +52,11 @@ use Rattle.wild_symbols.specs.declared.table.TableFields.{TableFields}
 
 -- ---- attributes
 
--- one that was made local has that binding (gABI, STB_LOCAL)
+-- a symbol that was made local has binding STB_LOCAL (gABI, STB_LOCAL)
 abbrev pub table_info : Symbol → ℕ
 table_info s = if has_flag s.flags downgrade_to_local then s.info % 16 else s.info
 
--- of a library's symbol no visibility is told
+-- a library's symbol has no visibility
 abbrev pub table_attributes : FileRole → Symbol → SymbolAttributes
 table_attributes role s = record { info = table_info s; other = if is_library role then 0 else s.other; size = s.size }
 
@@ -65,25 +65,25 @@ with_function a = record a { info = with_type a.info stt_func }
 
 -- ---- sections
 
--- without a longer section index
+-- without an extended section index
 abbrev pub short : SymbolFields → TableFields
 short fields = record { fields = fields; long = 0 }
 
--- in a section, at a value; or that symbol i has none. A longer index is told modulo 2^32
+-- the fields with a value in a section; or the fault that symbol i has no section. An extended index is modulo 2^32
 abbrev pub in_table_section : ℕ → Option ℕ → ℕ → SymbolAttributes → Result TableFields Fault
 in_table_section i None value a = Err (faults.MissingResolution missing.Section i)
 in_table_section i (Some k) value a = Ok (record { fields = record { section = (split_index k).0; value = value; attributes = a }; long = (split_index k).1 % 2 ^ 32 })
 
--- of thread-local data the value counts from their beginning (gABI, "Symbol Table", st_value)
+-- st_value of a thread-local symbol is its offset from the start of the TLS segment (gABI, "Symbol Table", st_value)
 abbrev pub counted_from : Layout → Symbol → ℕ → ℕ
 counted_from l s v = if is_thread_symbol s then (v + (2 ^ 64 - l.tls.start)) % 2 ^ 64 else v
 
--- in a section, where symbol i has an address
+-- in a section; or the fault that symbol i has no address
 abbrev pub at_address : Layout → ℕ → Symbol → Option ℕ → Option ℕ → SymbolAttributes → Result TableFields Fault
 at_address l i s section None a = Err (faults.MissingResolution missing.Address i)
 at_address l i s section (Some v) a = in_table_section i section (counted_from l s v) a
 
--- where a symbol of an input section stands in the output section of a relocatable object (gABI, "Symbol Table", st_value: an offset from
+-- the offset of a symbol of an input section in the output section of a relocatable object (gABI, "Symbol Table", st_value: an offset from
 -- the beginning of the section)
 abbrev pub offset_within : Layout → ℕ → ℕ → InputSection → Option ℕ
 offset_within l i value s = if is_some s.singleton then Some value else option_or (raw_value l i) (if is_discarded s.slot then None else Some ((s.address + value) % 2 ^ 64))
@@ -92,18 +92,18 @@ abbrev pub offset_by : Layout → ℕ → ℕ → Option InputSection → Option
 offset_by l i value None = raw_value l i
 offset_by l i value (Some s) = offset_within l i value s
 
--- the value of symbol i
+-- the offset of symbol i in a relocatable object, otherwise its address
 abbrev pub table_value : Layout → ℕ → Symbol → Option ℕ
 table_value l i s = if is_partial_link l.kind then offset_by l i s.value (symbol_section l i) else raw_value l i
 
--- in its section, or as its stub
+-- in its section, or at its PLT stub
 abbrev pub table_placed : Layout → ℕ → FileRole → Symbol → Option ℕ → Result TableFields Fault
 table_placed l i r s section =
     if stands_as_stub l s
     then in_table_section i (part_section (part_with role.PltGot l.parts)) (stub_or_zero s) (with_function (table_attributes r s))
     else at_address l i s section (table_value l i s) (table_attributes r s)
 
--- what stands in the headers, in front of all sections, is told of the first of them
+-- a symbol in the headers, before all sections, gets section 1
 abbrev pub first_or : ℕ → ℕ
 first_or k = if k == 0 then 1 else k
 
@@ -111,7 +111,7 @@ first_or k = if k == 0 then 1 else k
 abbrev pub undefined_attributes : Layout → FileRole → Symbol → SymbolAttributes
 undefined_attributes l role s = if is_partial_link l.kind then record (table_attributes role s) { size = 0 } else table_attributes role s
 
--- by its place; section is that of its input section
+-- of a symbol that this output defines, or of an undefined one; section is the output section of its input section
 abbrev pub table_at : Layout → ℕ → FileRole → Symbol → ℕ → Place → Result TableFields Fault
 table_at l i role s section at.Undefined = Ok (short (nowhere_with (undefined_attributes l role s)))
 table_at l i role s section at.Absolute = Ok (short (record { section = shn_abs; value = s.value; attributes = table_attributes role s }))
@@ -119,13 +119,13 @@ table_at l i role s section at.Common = table_placed l i role s (common_section 
 table_at l i role s section (at.Output k) = table_placed l i role s (Some (first_or k))
 table_at l i role s section (at.Section k) = table_placed l i role s (some_section section)
 
--- a library's function whose stub is its address in every module (x86-64 psABI, "Function Addresses")
+-- a library's function with a canonical PLT entry (x86-64 psABI, "Function Addresses")
 abbrev pub table_canonical : ℕ → FileRole → Symbol → Place → Option ℕ → Result TableFields Fault
 table_canonical i role s at.Undefined stub = Ok (short (nowhere_with (table_attributes role s)))
 table_canonical i role s other None = Err (faults.MissingResolution missing.Stub i)
 table_canonical i role s other (Some stub) = Ok (short (record { section = shn_undef; value = stub; attributes = with_function (table_attributes role s) }))
 
--- what is copied from a library stands in .bss
+-- a library's symbol with a COPY relocation is in .bss
 abbrev pub table_by : Layout → ℕ → FileRole → Symbol → ℕ → Result TableFields Fault
 table_by l i role s section =
     if is_library role && has_flag s.flags canonical_plt then table_canonical i role s s.place (plt_of s)
@@ -134,11 +134,11 @@ table_by l i role s section =
 
 -- ---- slots and stubs
 
--- of a slot and a stub nothing more is told
+-- the attributes of the entry of a slot or a stub, all 0
 abbrev pub no_attributes : SymbolAttributes
 no_attributes = record { info = 0; other = 0; size = 0 }
 
--- the part in which the symbol's first slot stands
+-- the part that contains the symbol's first slot
 abbrev pub slot_role : Layout → Symbol → Role
 slot_role l s = if begins_block (slots_of l s).words then role.GotRelr else role.Got
 
@@ -148,11 +148,11 @@ at_part l i r address = in_table_section i (part_section (part_with r l.parts)) 
 
 -- ---- thunks
 
--- a local function of its own (gABI, "Symbol Table": STB_LOCAL, STT_FUNC)
+-- a local function (gABI, "Symbol Table": STB_LOCAL, STT_FUNC)
 abbrev pub thunk_attributes : SymbolAttributes
 thunk_attributes = record { info = stt_func; other = 0; size = thunk_size }
 
--- at an address in the section of the part in which thunks stand
+-- at an address in the section of the part that contains the thunks
 abbrev pub thunk_fields : Layout → ℕ → ℕ → Result TableFields Fault
 thunk_fields l i address = in_table_section i (part_section (slice_get l.parts l.primary_part)) address thunk_attributes
 
@@ -164,13 +164,13 @@ fields_of l f named.Slot i s = at_part l i (slot_role l s) (got_of s)
 fields_of l f named.Stub i s = at_part l i role.PltGot (plt_of s)
 fields_of l f (named.Thunk a) i s = thunk_fields l i a
 
--- what is said of it, or what it lacks
+-- the fields of an entry, or its fault
 unfoldable pub table_fields : Layout → File → TableSymbol → Result TableFields Fault
 table_fields l f x = fields_of l f x.named x.index x.symbol
 
 -- ---- entries
 
--- a name, none for a section's symbol, whether it is local, and what the entry says
+-- a name, none for a section symbol; whether the symbol is local; and the other fields of its entry
 pub record NamedEntry : Type 0 where
   pub name : Option (List ℕ)
   pub local : Bool
@@ -186,11 +186,11 @@ or_none_in_table (Err f) = no_table_fields
 abbrev pub named_entry : Layout → File → TableSymbol → NamedEntry
 named_entry l f x = record { name = Some (item_name x); local = is_local x; fields = or_none_in_table (table_fields l f x) }
 
--- the table begins with an entry of zeros, whose name is the empty string
+-- the null symbol, an entry of zeros with the empty string as its name
 abbrev pub null_entry : NamedEntry
 null_entry = record { name = Some []; local = true; fields = no_table_fields }
 
--- the symbol of a section: local, without a name, at its beginning (gABI, "Symbol Table": STB_LOCAL, STT_SECTION)
+-- a section symbol: local, without a name, at the start of its section (gABI, "Symbol Table": STB_LOCAL, STT_SECTION)
 abbrev pub section_fields : ℕ → TableFields
 section_fields k = record { fields = record { section = (split_index k).0; value = 0; attributes = record { info = stt_section; other = 0; size = 0 } }; long = (split_index k).1 % 2 ^ 32 }
 
@@ -204,7 +204,7 @@ null_entries l f = if has_table l && is_prelude f.role then null_entry ∷ map s
 abbrev pub file_table : Layout → File → List NamedEntry
 file_table l f = null_entries l f ++ map (named_entry l f) (file_items l f)
 
--- those of a group
+-- the symbols of a group's entries
 unfoldable pub group_table : Layout → Group → List NamedEntry
 group_table l g = flat_map (file_table l) g.files
 
@@ -212,7 +212,7 @@ abbrev pub is_side : Bool → NamedEntry → Bool
 is_side true n = n.local
 is_side false n = not n.local
 
--- where a name stands, and where the one behind it does; without one it is told as the empty string, with which the strings begin
+-- st_name, and the offset after the name; without a name st_name is 0, the offset of the empty string at the start of the table
 abbrev pub name_at : ℕ → Option (List ℕ) → ℕ
 name_at at None = 0
 name_at at (Some name) = at
@@ -221,18 +221,18 @@ abbrev pub behind_name : ℕ → Option (List ℕ) → ℕ
 behind_name at None = at
 behind_name at (Some name) = behind_text at name
 
--- the entries of the local ones, or of the others; the names of all stand one behind the other
+-- the local entries, or the others; the names of all are consecutive strings
 unfoldable pub side_entries : Bool → ℕ → List NamedEntry → List SymtabEntry
 side_entries local at [] = []
 side_entries local at (n ∷ ns) = (if is_side local n then entry_at (name_at at n.name) n.fields.fields ∷ [] else []) ++ side_entries local (behind_name at n.name) ns
 
--- the entries of a group, whose strings begin where the layout says
+-- the entries of a group; its strings begin at the layout's offset
 unfoldable pub table_entries : Layout → Bool → Group → List SymtabEntry
 table_entries l local g = side_entries local g.strtab_start (group_table l g)
 
--- ---- longer section indexes
+-- ---- extended section indexes
 
--- one for each entry; 0 where st_shndx tells it (gABI, SHT_SYMTAB_SHNDX)
+-- one for each entry; 0 if st_shndx has its section (gABI, SHT_SYMTAB_SHNDX)
 abbrev pub long_indexes : Bool → List NamedEntry → List ℕ
 long_indexes local ns = map (λ (n : NamedEntry). n.fields.long) (filter (is_side local) ns)
 

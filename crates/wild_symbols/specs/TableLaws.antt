@@ -1,13 +1,13 @@
--- How long the tables behind `.symtab` are, and what a reader finds in them (gABI, "Symbol Table", "String Table").
---   side_count local        how many entries a file has among the local symbols, or among the others
---   LengthsOfSides          as many entries as symbols of that side
---   SidesOfFiles            a file has as many of them as it is counted for
---   SidesOfGroups           a group as many as its files
---   LengthsOfIndexes        as many longer section indexes; IndexesHave4Bytes: of 4 bytes each
+-- The lengths of `.symtab` and of its strings, and what a reader finds in them (gABI, "Symbol Table", "String Table").
+--   side_count local        the number of local entries of a file, or of its other ones
+--   LengthsOfSides          there are as many local, or other, entries as such symbols
+--   SidesOfFiles            a file has as many of them as wild_needs counts
+--   SidesOfGroups           a group has as many as its files
+--   LengthsOfIndexes        there are as many extended section indexes; IndexesHave4Bytes: each has 4 bytes
 --   NamesOfFiles            the names of a file's entries are its strings; NamesOfGroups: those of a group are its files'
 --   LengthsOfTexts          a file's strings have their bytes and a zero each
---   SidesStand              entry k of a side stands at 24 k, and its name where it tells
---   SidesAreRead            there it is read
+--   SidesStand              local or other entry k is at offset 24 k of its list, and its st_name is the offset of its name
+--   SidesAreRead            a reader finds it there
 use Rattle.std.specs.Prelude.{◌≡◌, ℕ, ◌+◌, ◌*◌, ◌<◌, ◌≤◌, ◌^◌, Bool, true, false, List, length, Option, Some, None, option_to_list, All, slice_index_or}
 use Rattle.std.specs.List.{filter, flat_map}
 use Rattle.wild_words.specs.Words.{Stands}
@@ -27,24 +27,24 @@ use Rattle.wild_symbols.specs.TableEntries.{NamedEntry, is_side, file_table, gro
 
 -- ---- counts
 
--- how many entries a file has among the local symbols, or among the others
+-- the number of local entries of a file, or of its other ones
 abbrev pub side_count : Bool → Layout → File → ℕ
 side_count true = local_count
 side_count false = global_count
 
--- as many entries as symbols of that side
+-- there are as many local, or other, entries as such symbols
 abbrev pub LengthsOfSides : Type 0
 LengthsOfSides = (local : Bool) (at : ℕ) (ns : List NamedEntry) → length (side_entries local at ns) ≡ length (filter (is_side local) ns)
 
--- a file has as many of them as it is counted for
+-- a file has as many of them as wild_needs counts
 abbrev pub SidesOfFiles : Type 0
 SidesOfFiles = (local : Bool) (l : Layout) (f : File) → length (filter (is_side local) (file_table l f)) ≡ side_count local l f
 
--- a group as many as its files
+-- a group has as many as its files
 abbrev pub SidesOfGroups : Type 0
 SidesOfGroups = (local : Bool) (l : Layout) (g : Group) → length (table_entries l local g) ≡ total (side_count local l) g.files
 
--- as many longer section indexes as symbols of that side
+-- there are as many extended section indexes as local, or other, symbols
 abbrev pub LengthsOfIndexes : Type 0
 LengthsOfIndexes = (local : Bool) (ns : List NamedEntry) → length (long_indexes local ns) ≡ length (filter (is_side local) ns)
 
@@ -71,26 +71,26 @@ LengthsOfTexts = (l : Layout) (f : File) → length (string_bytes (table_strings
 
 -- ---- reading
 
--- a name stands there, with a zero behind it; where there is none, the empty string is told, with which the strings begin
+-- the name, with a zero at its end, is at this offset; without a name the offset is 0, that of the empty string
 abbrev pub TellsName : List ℕ → ℕ → Option (List ℕ) → Type 0
 TellsName strings at None = at ≡ 0
 TellsName strings at (Some name) = Stands strings at (string name)
 
--- the entry at an offset says that of a symbol, and the symbol's name stands where it tells
+-- at this offset is the entry of the symbol, and its st_name is the offset of the symbol's name
 pub record TellsAt (table : List ℕ) (place : ℕ) (strings : List ℕ) (n : NamedEntry) : Type 0 where
   pub at : ℕ
   pub small : at < 2 ^ 32
   pub entry : Stands table place (spell (symtab_entry_fields (entry_at at n.fields.fields)))
   pub name : TellsName strings at n.name
 
--- where the entries of a side stand, and the names of all from an offset below 2^32 on, entry k stands at 24 k, and its name
--- where it tells
+-- if a table has the local, or the other, entries, and a string table the names of all below 2^32, entry k is at offset 24 k, and its
+-- st_name is the offset of its name
 abbrev pub SidesStand : Type 0
 SidesStand = (local : Bool) (at : ℕ) (ns : List NamedEntry) (table : List ℕ) (from : ℕ) (strings : List ℕ) (k : ℕ) (d : NamedEntry) → at + length (string_bytes (names_of ns)) ≤ 2 ^ 32
     → Stands table from (symbol_bytes (side_entries local at ns)) → Stands strings at (string_bytes (names_of ns)) → k < length (filter (is_side local) ns)
     → TellsAt table (from + symtab_entry_size * k) strings (slice_index_or (filter (is_side local) ns) k d)
 
--- what is said of a symbol fits the fields of an entry (gABI, "Symbol Table")
+-- the symbol's numbers fit in the fields of an entry (gABI, "Symbol Table")
 pub record NamedEntryFits (n : NamedEntry) : Type 0 where
   pub info : n.fields.fields.attributes.info < 2 ^ 8
   pub other : n.fields.fields.attributes.other < 2 ^ 8
@@ -98,7 +98,7 @@ pub record NamedEntryFits (n : NamedEntry) : Type 0 where
   pub value : n.fields.fields.value < 2 ^ 64
   pub size : n.fields.fields.attributes.size < 2 ^ 64
 
--- the entry has the fields of the symbol, and the symbol's name stands at st_name
+-- the entry has the fields of the symbol, and its st_name is the offset of the symbol's name
 pub record IsEntryOf (strings : List ℕ) (n : NamedEntry) (e : SymtabEntry) : Type 0 where
   pub name : TellsName strings e.name n.name
   pub info : e.info ≡ n.fields.fields.attributes.info
@@ -107,7 +107,7 @@ pub record IsEntryOf (strings : List ℕ) (n : NamedEntry) (e : SymtabEntry) : T
   pub value : e.value ≡ n.fields.fields.value
   pub size : e.size ≡ n.fields.fields.attributes.size
 
--- there it is read
+-- a reader finds the entry there
 abbrev pub SidesAreRead : Type 0
 SidesAreRead = (local : Bool) (at : ℕ) (ns : List NamedEntry) (table : List ℕ) (from : ℕ) (strings : List ℕ) (k : ℕ) (d : NamedEntry) → All NamedEntryFits ns → at + length (string_bytes (names_of ns)) ≤ 2 ^ 32
     → Stands table from (symbol_bytes (side_entries local at ns)) → Stands strings at (string_bytes (names_of ns)) → k < length (filter (is_side local) ns)

@@ -1,9 +1,9 @@
 -- The room of a group's symbol tables.
---   room_for_fields local name n w    there is room for these, or InsufficientAllocation
---   left_over w                   no room is left, or ExcessiveAllocation of the first table that has
---   room_for_prefix n m w         there is room for n global symbols and m bytes of strings, or InsufficientAllocation
---   prefix_of n m w               the writer with that room alone; kept_behind n m w is what that leaves behind
---   joined kept w                 the room behind is the writer's again
+--   room_for_fields local name n w    a symbol, its name and its extended section index n fit, or InsufficientAllocation
+--   left_over w                   all tables are full, or ExcessiveAllocation for the first that is not
+--   room_for_prefix n m w         n global symbols and m bytes of strings fit, or InsufficientAllocation
+--   prefix_of n m w               the writer with room for these only; kept_behind n m w has the bytes that are then reserved
+--   joined kept w                 the writer with the reserved bytes usable again
 use Rattle.std.specs.Prelude.{ℕ, Bool, List, Option, Some, None, Result, Ok, Err}
 use Rattle.wild_records.specs.declared.symbol_section.SymbolSection.{SymbolSection}
 use Rattle.wild_types.specs.declared.fault.Error.{Error}
@@ -14,40 +14,40 @@ use Rattle.wild_symbols.specs.declared.prefix.KeptBehind.{KeptBehind}
 use Rattle.wild_symbols.specs.declared.writer.SymbolTableWriter.{SymbolTableWriter}
 use Rattle.wild_symbols.specs.Tables.{long_of, list_of, indexes_of}
 
--- the first fault of two tests
+-- the first fault of two tests, in order
 abbrev pub and_then : {X : Type 0} → Result (Unit {0}) Error → Result X Error → Result (Unit {0}) Error
 and_then (Err e) r = Err e
 and_then (Ok t) (Err e) = Err e
 and_then (Ok t) (Ok x) = Ok tt
 
--- there is room for the symbol and its longer index
+-- the symbol and its extended section index fit
 abbrev pub room_in_lists : Bool → ℕ → SymbolTableWriter → Result (Unit {0}) Error
 room_in_lists local n w = and_then (room_for_entry (list_of local w)) (room_for_index n (indexes_of local w))
 
--- there is room for a name, where there is one
+-- the name fits, if there is one
 abbrev pub room_for_name : Option (List ℕ) → Strings → Result ℕ Error
 room_for_name None t = Ok 0
 room_for_name (Some name) t = room_for_string name t
 
--- and for its name
+-- the symbol, its extended section index and its name fit
 abbrev pub room_for_fields : Bool → Option (List ℕ) → ℕ → SymbolTableWriter → Result (Unit {0}) Error
 room_for_fields local name n w = and_then (room_in_lists local n w) (room_for_name name w.strtab)
 
 abbrev pub room_for_symbol : Bool → List ℕ → SymbolSection → SymbolTableWriter → Result (Unit {0}) Error
 room_for_symbol local name s w = room_for_fields local (Some name) (long_of s) w
 
--- no table has room left; else the first that has, in the order of roles
+-- all tables are full; otherwise the fault of the first that is not, in the order of roles
 abbrev pub left_over : SymbolTableWriter → Result (Unit {0}) Error
 left_over w =
     and_then (and_then (and_then (and_then (left_of_symbols w.locals) (left_of_symbols w.globals)) (left_of_indexes w.local_indexes)) (left_of_indexes w.global_indexes)) (left_of_strings w.strtab)
 
--- ---- the front of a share
+-- ---- limiting the room
 
--- there is room for n global symbols more, and for m bytes of strings
+-- n more global symbols and m bytes of strings fit
 abbrev pub room_for_prefix : ℕ → ℕ → SymbolTableWriter → Result (Unit {0}) Error
 room_for_prefix n m w = and_then (and_then (room_for_entries n w.globals) (room_for_indexes n w.global_indexes)) (room_for_bytes m w.strtab)
 
--- how many bytes of each table lie behind that
+-- the number of bytes of each table after these
 abbrev pub kept_behind : ℕ → ℕ → SymbolTableWriter → KeptBehind
 kept_behind n m w = record {
   locals = kept_symbols 0 w.locals;
@@ -57,7 +57,7 @@ kept_behind n m w = record {
   strings = kept_strings m w.strtab;
 }
 
--- the writer with room for these alone, and for no local symbol
+-- the writer with room for these only, and for no local symbol
 abbrev pub prefix_of : ℕ → ℕ → SymbolTableWriter → SymbolTableWriter
 prefix_of n m w = record {
   locals = front_symbols 0 w.locals;
@@ -67,7 +67,7 @@ prefix_of n m w = record {
   strtab = front_strings m w.strtab;
 }
 
--- the writer, to which what is kept behind belongs again
+-- the writer with the reserved bytes usable again
 abbrev pub joined : KeptBehind → SymbolTableWriter → SymbolTableWriter
 joined k w = record {
   locals = symbols_joined k.locals w.locals;

@@ -1,11 +1,11 @@
 -- The symbol tables of a group (gABI, "Symbol Table").
---   no_dynamic_symbols l group    no symbols yet, in the group's shares of the dynamic table and of its strings
---   no_symbols l group            no symbols yet, in the group's shares of the table of all symbols
---   placed name fields            a symbol whose name stands at that offset of the strings
---   long_of s                     the longer index of its section, where st_shndx has no room for that
---   with_fields local name t w    one symbol, its longer index and its name more
---   with_symbol local name s value a w    the same of a symbol in that section, at that value
---   with_copied name section value s w    a symbol of the layout and its name more
+--   no_dynamic_symbols l group    empty tables with the sizes of the group's shares of .dynsym and .dynstr
+--   no_symbols l group            empty tables with the sizes of the group's shares of .symtab and .strtab
+--   placed name fields            the entry of a symbol; name is the offset of its name
+--   long_of s                     the extended section index, if the header index does not fit in st_shndx
+--   with_fields local name t w    with a symbol, its extended section index and its name appended
+--   with_symbol local name s value a w    the same for a symbol with this value in a section
+--   with_copied name section value s w    with a symbol of the layout and its name appended
 use Rattle.std.specs.Prelude.{ℕ, ◌/◌, ◌%◌, ◌==◌, ◌||◌, if◌then◌else◌, Bool, true, false, List, [], Option, Some, None, option_to_list, slice_get}
 use Rattle.wild_records.specs.Abi.Section.{shn_undef}
 use Rattle.wild_records.specs.Abi.Symbol.{stb_local}
@@ -36,7 +36,7 @@ abbrev pub dynstr_start_of : Option Group → ℕ
 dynstr_start_of None = 0
 dynstr_start_of (Some g) = g.dynstr_start
 
--- where the group's strings begin in the strings of the dynamic table
+-- the offset of the group's strings in .dynstr
 abbrev pub dynstr_start : Layout → ℕ → ℕ
 dynstr_start l group = dynstr_start_of (slice_get l.groups group)
 
@@ -44,19 +44,19 @@ abbrev pub strtab_start_of : Option Group → ℕ
 strtab_start_of None = 0
 strtab_start_of (Some g) = g.strtab_start
 
--- where the group's strings begin in the strings of all symbols
+-- the offset of the group's strings in .strtab
 abbrev pub strtab_start : Layout → ℕ → ℕ
 strtab_start l group = strtab_start_of (slice_get l.groups group)
 
--- no symbols, in the group's share of the part of a role
+-- an empty symbol table for a share of the part with a role
 abbrev pub symbols_with : Layout → ℕ → Role → ℕ → Symbols
 symbols_with l group r room = record { part = part_of l r; group = group; symbols = []; room = room; behind = 0 }
 
--- no longer indexes
+-- an empty table of extended section indexes
 abbrev pub indexes_with : Layout → ℕ → Role → ℕ → Bool → Indexes
 indexes_with l group r room each = record { part = part_of l r; group = group; bytes = []; room = room; behind = 0; each = each }
 
--- no symbols and no strings yet; a dynamic table has no room for local symbols, nor for longer indexes
+-- empty tables; a dynamic one has no room for local symbols, nor for extended section indexes
 abbrev pub no_dynamic_symbols : Layout → ℕ → SymbolTableWriter
 no_dynamic_symbols l group = record {
   locals = symbols_with l group role.SymtabLocal 0;
@@ -66,7 +66,7 @@ no_dynamic_symbols l group = record {
   strtab = record { part = part_of l role.Dynstr; group = group; start = dynstr_start l group; bytes = []; room = share_of l group role.Dynstr; behind = 0 };
 }
 
--- no symbols and no strings yet; each symbol has a longer index where such a table is there
+-- empty tables; every symbol has an extended section index if the layout has a table of them
 abbrev pub no_symbols : Layout → ℕ → SymbolTableWriter
 no_symbols l group = record {
   locals = symbols_with l group role.SymtabLocal (share_of l group role.SymtabLocal);
@@ -83,16 +83,16 @@ abbrev pub section_number : SymbolSection → ℕ
 section_number (Raw n) = n
 section_number (Index i) = (split_index i).0
 
--- the longer index: from SHN_LORESERVE on a header index stands in a table beside the symbols; else 0
+-- the extended section index: a header index from SHN_LORESERVE on; otherwise 0
 abbrev pub long_of : SymbolSection → ℕ
 long_of (Raw n) = 0
 long_of (Index i) = (split_index i).1
 
--- what an entry says of a symbol, by where it lies and what it says of itself
+-- the fields of an entry, from the section, the value and the other attributes
 abbrev pub told : SymbolSection → ℕ → SymbolAttributes → TableFields
 told s value a = record { fields = record { section = section_number s; value = value; attributes = a }; long = long_of s }
 
--- its entry, by the offset of its name
+-- the entry; name is the offset of its name
 abbrev pub placed : ℕ → SymbolFields → SymtabEntry
 placed name fields = record {
   name = name;
@@ -108,41 +108,41 @@ abbrev pub list_of : Bool → SymbolTableWriter → Symbols
 list_of true w = w.locals
 list_of false w = w.globals
 
--- the longer indexes of these
+-- the extended section indexes of these
 abbrev pub indexes_of : Bool → SymbolTableWriter → Indexes
 indexes_of true w = w.local_indexes
 indexes_of false w = w.global_indexes
 
--- one symbol more in its list, with its longer index
+-- with a symbol appended to its list, and its extended section index
 abbrev pub with_listed : Bool → SymtabEntry → ℕ → SymbolTableWriter → SymbolTableWriter
 with_listed true e n w = record w { locals = with_entry e w.locals; local_indexes = with_index n w.local_indexes }
 with_listed false e n w = record w { globals = with_entry e w.globals; global_indexes = with_index n w.global_indexes }
 
--- one string more, where there is a name
+-- with a name appended to the strings, if there is one
 abbrev pub with_name : Option (List ℕ) → SymbolTableWriter → SymbolTableWriter
 with_name name w = record w { strtab = with_strings (option_to_list name) w.strtab }
 
--- one symbol more of which that is said, whose name, where it has one, is the next string
+-- with a symbol with these fields appended; its name, if it has one, is the next string
 abbrev pub with_fields : Bool → Option (List ℕ) → TableFields → SymbolTableWriter → SymbolTableWriter
 with_fields local name t w = with_listed local (placed (name_at (offset_of w.strtab) name) t.fields) t.long (with_name name w)
 
 abbrev pub with_symbol : Bool → List ℕ → SymbolSection → ℕ → SymbolAttributes → SymbolTableWriter → SymbolTableWriter
 with_symbol local name s value a w = with_fields local (Some name) (told s value a) w
 
--- a symbol that no section has, of value 0
+-- with an undefined symbol appended (SHN_UNDEF, value 0)
 abbrev pub with_undefined : Bool → List ℕ → SymbolAttributes → SymbolTableWriter → SymbolTableWriter
 with_undefined local name a w = with_symbol local name (Raw shn_undef) 0 a w
 
 -- ---- symbols of the layout
 
--- a table has the symbol as a local one: by its binding, or since it was made one (gABI, "Symbol Table", STB_LOCAL)
+-- the symbol is local in the table: by its binding, or because it was made local (gABI, "Symbol Table", STB_LOCAL)
 abbrev pub is_local : LaidOut → Bool
 is_local s = s.info / 16 == stb_local || has_flag s.flags downgrade_to_local
 
--- what the layout gives for the symbol, which is a local one where it was made one
+-- the layout's attributes of a symbol, with binding STB_LOCAL if it was made local
 abbrev pub copied_attributes : LaidOut → SymbolAttributes
 copied_attributes s = record { info = if has_flag s.flags downgrade_to_local then s.info % 16 else s.info; other = s.other; size = s.size }
 
--- a symbol of the layout more, in a section, at a value
+-- with a symbol of the layout appended, with this value in a section
 abbrev pub with_copied : List ℕ → SymbolSection → ℕ → LaidOut → SymbolTableWriter → SymbolTableWriter
 with_copied name section value s w = with_symbol (is_local s) name section value (copied_attributes s) w

@@ -1,4 +1,4 @@
-//! What the entries of the dynamic symbol table say of symbols (gABI, "Symbol Table").
+//! The fields of the entries of `.dynsym` (gABI, "Symbol Table").
 ghost use Rattle.std.specs.Prelude.{◌≡◌, ◌<◌};
 ghost use Rattle.wild_records.specs.SymbolSections.{split_index};
 ghost use Rattle.wild_types.specs.Parts.{part_with};
@@ -12,7 +12,7 @@ use wild_records::abi::section::{SHN_ABS, SHN_LORESERVE, SHN_UNDEF, SHN_XINDEX};
 use wild_records::abi::symbol::{STT_FUNC, STT_GNU_IFUNC, STT_TLS};
 use wild_types::{Fault, FileRole, Layout, Missing, Part, Place, Role, Symbol, has_role};
 
-/// What an entry says of a symbol besides its name.
+/// The fields of an entry without `st_name`.
 #[derive(Clone, Copy)]
 pub struct SymbolFields {
     /// `st_shndx`.
@@ -22,23 +22,23 @@ pub struct SymbolFields {
     pub attributes: SymbolAttributes,
 }
 
-/// The header indexes of the sections of symbols that no input section has, where they are there.
+/// The header indexes of the output sections of symbols that no input section defines; `None` for a section that is missing.
 #[derive(Clone, Copy)]
 pub struct NamedSections {
-    /// `.bss`, of common symbols and of what is copied from libraries.
+    /// `.bss`, for common symbols and for copies of a library's data.
     pub bss: Option<usize>,
-    /// `.tbss`, of common symbols that are thread-local.
+    /// `.tbss`, for thread-local common symbols.
     pub tbss: Option<usize>,
-    /// That of the stubs.
+    /// The section of the PLT stubs.
     pub stubs: Option<usize>,
-    /// That of the slots.
+    /// The section of the GOT words.
     pub got: Option<usize>,
-    /// That of the slots whose words are packed.
+    /// The section of the GOT words that are relocated by RELR.
     pub block: Option<usize>,
 }
 
 impl SymbolAttributes {
-    /// What the layout gives for a symbol.
+    /// Type, binding, visibility and size that the layout has for a symbol.
     pub fn of(symbol: &Symbol) -> SymbolAttributes
         ensures { result ≡ own_attributes symbol.now }
     {
@@ -50,7 +50,7 @@ impl SymbolAttributes {
     }
 }
 
-/// The binding of `st_info` with another type.
+/// `st_info` with its binding kept and its type replaced.
 pub(crate) fn with_type(info: u8, kind: u8) -> u8
     requires { kind < 16 }
     ensures { result ≡ with_type info kind }
@@ -58,7 +58,7 @@ pub(crate) fn with_type(info: u8, kind: u8) -> u8
     info / 16 * 16 + kind
 }
 
-/// `st_info` of a library's symbol: a function that a resolver chooses there is a function here.
+/// `st_info` of a library's symbol: an ifunc of the library is an ordinary function for this output.
 fn library_info(info: u8) -> u8
     ensures { result ≡ library_info info }
 {
@@ -69,7 +69,7 @@ fn library_info(info: u8) -> u8
     }
 }
 
-/// Of a library's symbol neither visibility nor size is told.
+/// The attributes of a library's symbol, without visibility and size.
 fn library_attributes(info: u8) -> SymbolAttributes
     ensures { result ≡ library_attributes info }
 {
@@ -80,7 +80,7 @@ fn library_attributes(info: u8) -> SymbolAttributes
     }
 }
 
-/// What is said of a symbol that no section has.
+/// The fields of an undefined symbol: `SHN_UNDEF`, and the value 0.
 pub(crate) fn nowhere_with(attributes: SymbolAttributes) -> SymbolFields
     ensures { result ≡ nowhere_with attributes }
 {
@@ -91,7 +91,7 @@ pub(crate) fn nowhere_with(attributes: SymbolAttributes) -> SymbolFields
     }
 }
 
-/// What is said of a symbol that another module defines, by a file of that role.
+/// The fields of a symbol that another module defines. The entry belongs to a file with this role.
 pub fn undefined_fields(role: FileRole, symbol: &Symbol) -> SymbolFields
     ensures { result ≡ undefined_fields role symbol.now }
 {
@@ -102,7 +102,7 @@ pub fn undefined_fields(role: FileRole, symbol: &Symbol) -> SymbolFields
     }
 }
 
-/// The header index of the first section of a name.
+/// The header index of the first section with a name.
 fn section_named(layout: &Layout, name: &[u8]) -> Option<usize>
     ensures { result ≡ section_named layout.now name.now }
 {
@@ -113,14 +113,14 @@ fn section_named(layout: &Layout, name: &[u8]) -> Option<usize>
         .position(|section| section.name.as_slice() == name)
 }
 
-/// Section 0 is none.
+/// A header index, or `None` for section 0.
 pub(crate) fn some_section(index: usize) -> Option<usize>
     ensures { result ≡ some_section index }
 {
     if index == 0 { None } else { Some(index) }
 }
 
-/// The header index of the section of the first part of a role.
+/// The header index of the section of the first part with a role.
 fn section_of_role(role: Role, parts: &[Part]) -> Option<usize>
     ensures { result ≡ part_section (part_with role parts.now) }
 {
@@ -133,7 +133,7 @@ fn section_of_role(role: Role, parts: &[Part]) -> Option<usize>
 }
 
 impl NamedSections {
-    /// Those of a layout.
+    /// Finds the sections in a layout.
     pub fn of(layout: &Layout) -> NamedSections
         ensures { result ≡ named_sections layout.now }
     {
@@ -147,7 +147,7 @@ impl NamedSections {
     }
 }
 
-/// `st_shndx` of a header index.
+/// `st_shndx` for a header index: `SHN_XINDEX` from `SHN_LORESERVE` on.
 pub(crate) fn section_number(index: usize) -> u16
     ensures { result ≡ (split_index index).0 }
 {
@@ -157,7 +157,7 @@ pub(crate) fn section_number(index: usize) -> u16
     }
 }
 
-/// What is said of a symbol in a section, at a value.
+/// The fields of a symbol with this value in a section. Fails without a section.
 fn in_section(
     index: usize,
     section: Option<usize>,
@@ -179,7 +179,7 @@ fn in_section(
     }
 }
 
-/// The address of the stub of a symbol.
+/// The address of a symbol's PLT stub.
 pub(crate) fn stub_of(symbol: &Symbol) -> Option<u64>
     ensures { result ≡ plt_of symbol.now }
 {
@@ -189,7 +189,7 @@ pub(crate) fn stub_of(symbol: &Symbol) -> Option<u64>
     }
 }
 
-/// The address that was decided of a symbol; 0 where nothing was.
+/// The resolved address of a symbol; 0 if it has none.
 fn decided_value(symbol: &Symbol) -> u64
     ensures { result ≡ decided_value symbol.now }
 {
@@ -205,7 +205,7 @@ pub(crate) fn is_thread_symbol(symbol: &Symbol) -> bool
     symbol.info % 16 == STT_TLS
 }
 
-/// `st_value`: of thread-local data counted from their beginning.
+/// `st_value`: for a thread-local symbol its offset from the start of the TLS segment, otherwise its address.
 fn value_in(layout: &Layout, symbol: &Symbol) -> u64
     ensures { result ≡ value_in layout.now symbol.now }
 {
@@ -217,8 +217,8 @@ fn value_in(layout: &Layout, symbol: &Symbol) -> u64
     }
 }
 
-/// Whether the symbol, which a resolver chooses, is told as its stub: pointers to it compare equal in a program that does
-/// not move.
+/// Whether the entry of an ifunc has the address of its PLT stub. This is so in an output with a fixed load address, where
+/// pointers to the function must compare equal in all modules.
 pub(crate) fn stands_as_stub(layout: &Layout, symbol: &Symbol) -> bool
     ensures { result ≡ stands_as_stub layout.now symbol.now }
 {
@@ -250,7 +250,7 @@ pub(crate) fn common_section(
     }
 }
 
-/// What is said of a symbol in its section, or as its stub.
+/// The fields of a symbol in its section, or of its PLT stub if it is an ifunc at a fixed load address.
 fn placed_fields(
     layout: &Layout,
     named: NamedSections,
@@ -270,7 +270,7 @@ fn placed_fields(
     }
 }
 
-/// What is said of a symbol by its place.
+/// The fields of a symbol that this output defines, and of an undefined one.
 fn fields_at(
     layout: &Layout,
     named: NamedSections,
@@ -298,8 +298,8 @@ fn fields_at(
     }
 }
 
-/// What is said of a library's function whose stub is its address in every module: that no section has it, and the stub's
-/// address for its value.
+/// The fields of a library's function with a canonical PLT entry: undefined (`SHN_UNDEF`), with the stub's address as its
+/// value.
 fn canonical_fields(index: usize, symbol: &Symbol) -> Result<SymbolFields, Fault>
     ensures { result ≡ canonical_fields index symbol.now symbol.now.place (plt_of symbol.now) }
 {
@@ -317,7 +317,7 @@ fn canonical_fields(index: usize, symbol: &Symbol) -> Result<SymbolFields, Fault
     }
 }
 
-/// What is said of a symbol that is copied from a library.
+/// The fields of a symbol with a `COPY` relocation, which is in `.bss`.
 fn copied_fields(
     named: NamedSections,
     layout: &Layout,
@@ -335,13 +335,13 @@ fn copied_fields(
     )
 }
 
-/// What is said of the symbol with that index, which other modules see. It is one of a file of that role (`Object` where
-/// no file has it), and its place is in the output section with that header index (0: in none).
+/// The fields of an exported symbol, which has this index. `role` is that of its file (`Object` if it has none), and
+/// `section` is the header index of its output section (0 if it has none).
 ///
 /// # Errors
 ///
-/// `MissingResolution` exactly where the symbol stands in no section of the output (`Section`), or is told as a stub that
-/// it has not (`Stub`).
+/// `MissingResolution` exactly if the symbol has no output section (`Section`), or needs a canonical PLT entry and has no
+/// stub (`Stub`).
 pub fn listed_fields(
     layout: &Layout,
     named: NamedSections,
@@ -362,14 +362,14 @@ pub fn listed_fields(
     }
 }
 
-/// What is said of a symbol that lacks something, and of the null symbol.
+/// The fields of the null symbol, which also replace those of a symbol with a fault.
 pub fn no_fields() -> SymbolFields
     ensures { result ≡ no_fields }
 {
     nowhere_with(library_attributes(0))
 }
 
-/// The entry of a symbol, whose name stands at an offset of the strings, modulo 2^32.
+/// The entry of a symbol whose name is at `offset` of the string table. `st_name` is the offset modulo 2^32.
 pub fn entry_at(offset: u64, fields: SymbolFields) -> SymtabEntry
     ensures { result ≡ entry_at offset fields }
 {

@@ -1,4 +1,4 @@
-//! Longer section indexes in the room of their part (gABI, `SHT_SYMTAB_SHNDX`).
+//! A group's extended section indexes (gABI, `SHT_SYMTAB_SHNDX`).
 ghost use Rattle.std.specs.Prelude.{◌≡◌, ◌+◌, ◌≤◌, [], length, take, IfOk};
 ghost use Rattle.wild_symbols.specs.Indexes.{has_index, index_room, with_index, room_for_index, left_of_indexes, indexes_room, room_for_indexes, kept_indexes, front_indexes, indexes_joined};
 
@@ -7,11 +7,11 @@ use std::marker::Model;
 use wild_types::{Error, excessive, insufficient};
 use wild_words::put_u32;
 
-/// The bytes of an index.
+/// The size of an extended section index in bytes.
 const INDEX_SIZE: usize = 4;
 
-/// Longer section indexes behind each other, from the front of a group's share of a part on. Where `each`, every symbol has one,
-/// 0 where `st_shndx` tells its section; else only a symbol has one whose section has no room there.
+/// Extended section indexes in a group's share of a part, written from its start. If `each` is set, every symbol has one,
+/// which is 0 if `st_shndx` has its section. Otherwise only a symbol whose section does not fit in `st_shndx` has one.
 #[derive(Drop)]
 pub struct IndexTable {
     part: usize,
@@ -33,7 +33,7 @@ impl Model for IndexTable {
 }
 
 impl IndexTable {
-    /// No indexes yet, in a share of `room` bytes of the part at a place in the layout's list.
+    /// An empty table for a share of `room` bytes. `part` is the index of its part in the layout.
     pub(crate) fn new(
         alloc: Global,
         part: usize,
@@ -53,14 +53,14 @@ impl IndexTable {
         })
     }
 
-    /// Whether a symbol has a longer index.
+    /// Whether a symbol has an extended section index.
     fn has(&self, index: u32) -> bool
         ensures { result ≡ has_index self.now.each index }
     {
         self.each || index != 0
     }
 
-    /// How many bytes the indexes have.
+    /// The number of bytes of all indexes.
     fn used(&self) -> usize
         ensures used { result ≡ length self.now.bytes }
         ensures fits { result ≤ self.now.room }
@@ -68,14 +68,14 @@ impl IndexTable {
         self.used
     }
 
-    /// How many bytes of the share are the indexes'.
+    /// The number of bytes of the share that may be used now.
     fn room(&self) -> usize
         ensures { result ≡ self.now.room }
     {
         self.share.len() - self.behind
     }
 
-    /// How many bytes the indexes have with that of one symbol more.
+    /// The number of bytes of all indexes with that of one more symbol.
     fn with_one(&self, index: u32) -> usize
         ensures { result ≡ length self.now.bytes + index_room self.now.each index }
     {
@@ -86,11 +86,11 @@ impl IndexTable {
         }
     }
 
-    /// Whether there is room for the index of one symbol more.
+    /// Checks that the index of one more symbol fits.
     ///
     /// # Errors
     ///
-    /// `InsufficientAllocation` exactly where there is none.
+    /// `InsufficientAllocation` exactly if it does not fit.
     pub(crate) fn check_room(&self, index: u32) -> Result<(), Error>
         ensures { result ≡ room_for_index index self.now }
     {
@@ -102,7 +102,7 @@ impl IndexTable {
         Ok(())
     }
 
-    /// Adds the index of one symbol behind the others.
+    /// Appends the index of a symbol, if the symbol has one.
     pub(crate) fn push(&mut self, index: u32)
         requires { length self.old.bytes + index_room self.old.each index ≤ self.old.room }
         ensures { self.new ≡ with_index index self.old }
@@ -113,11 +113,11 @@ impl IndexTable {
         }
     }
 
-    /// Whether the share is full.
+    /// Checks that the share is full.
     ///
     /// # Errors
     ///
-    /// `ExcessiveAllocation` exactly where room is left.
+    /// `ExcessiveAllocation` exactly if unwritten bytes are left.
     pub fn check_exhausted(&self) -> Result<(), Error>
         ensures { result ≡ left_of_indexes self.now }
     {
@@ -128,7 +128,7 @@ impl IndexTable {
         Ok(())
     }
 
-    /// How many bytes the indexes of so many symbols take.
+    /// The number of bytes for the indexes of `count` symbols whose sections fit in `st_shndx`.
     fn room_of(&self, count: u32) -> usize
         ensures room { result ≡ indexes_room count self.now }
         ensures none { count ≡ 0 → result ≡ 0 }
@@ -140,11 +140,11 @@ impl IndexTable {
         }
     }
 
-    /// Whether there is room for the indexes of so many symbols more.
+    /// Checks that the indexes of `count` more symbols fit.
     ///
     /// # Errors
     ///
-    /// `InsufficientAllocation` exactly where there is not.
+    /// `InsufficientAllocation` exactly if they do not fit.
     pub(crate) fn check_indexes(&self, count: u32) -> Result<(), Error>
         ensures { result ≡ room_for_indexes count self.now }
     {
@@ -156,7 +156,7 @@ impl IndexTable {
         Ok(())
     }
 
-    /// Leaves room for the indexes of so many symbols more alone, and answers how many bytes lie behind.
+    /// Reserves all of the share after the indexes of the next `count` symbols, and returns the number of bytes reserved.
     pub(crate) fn take_front(&mut self, count: u32) -> usize
         requires { length self.old.bytes + indexes_room count self.old ≤ self.old.room }
         ensures front { self.new ≡ front_indexes count self.old }
@@ -167,7 +167,7 @@ impl IndexTable {
         kept
     }
 
-    /// Leaves room for no index, and answers how many bytes lie behind.
+    /// Reserves all unwritten bytes of the share, and returns their number.
     pub(crate) fn close(&mut self) -> usize
         ensures front { self.new ≡ front_indexes 0 self.old }
         ensures kept { result ≡ kept_indexes 0 self.old }
@@ -177,14 +177,14 @@ impl IndexTable {
         self.take_front(0)
     }
 
-    /// So many bytes of what is kept behind belong to the indexes again.
+    /// Makes `kept` of the reserved bytes usable again.
     pub(crate) fn join(&mut self, kept: usize)
         ensures { self.new ≡ indexes_joined kept self.old }
     {
         self.behind -= kept.min(self.behind);
     }
 
-    /// The bytes of the share: those of the indexes, and then the room that is left.
+    /// The bytes of the share: those of the indexes, then the unwritten rest.
     pub fn bytes(&self) -> &[u8]
         ensures written { take (length self.now.bytes) result.now ≡ self.now.bytes }
         ensures room { length result.now ≡ self.now.room + self.now.behind }

@@ -1,4 +1,4 @@
-//! Laws of the tables.
+//! Laws of the symbol tables.
 ghost use Rattle.wild_symbols.specs.Runs.{RunsAreRead, RunsCount, RunsStandBehind, RunsKeepIndexes, RunsWithRoomAreWhole, RunsAreEntries, RunsAreTables, PrefixesAreTheWriters};
 ghost use Rattle.wild_symbols.specs.Laws.{LengthsOfSymbols, SymbolsAreRead, LengthsOfStrings, StringsAreBehind, StringsStand};
 ghost use Rattle.wild_symbols.specs.SlotNames.{SlotNamesAreItems};
@@ -6,7 +6,7 @@ ghost use Rattle.wild_symbols.specs.TableLaws.{LengthsOfSides, SidesOfFiles, Sid
 
 use wild_records::symtab_entry_is_read;
 
-/// Symbols have 24 bytes each, and each is read where it stands.
+/// A symbol table entry has 24 bytes, and symbol k is read at offset 24 k.
 pub fn symbols_are_read()
     ensures lengths { LengthsOfSymbols }
     ensures read { SymbolsAreRead }
@@ -14,17 +14,17 @@ pub fn symbols_are_read()
     symtab_entry_is_read();
 }
 
-/// Strings have their bytes and a zero each, stand behind those that were there, and each stands at the offset that
-/// was answered for it.
+/// A string has its bytes and a zero. Strings are written consecutively, and each is at the offset that was returned for
+/// it.
 pub fn strings_stand()
     ensures lengths { LengthsOfStrings }
     ensures behind { StringsAreBehind }
     ensures stand { StringsStand }
 {}
 
-/// Of any list of calls of `define_symbol` and `undefined_symbol`, each that was taken gave one symbol behind those of
-/// before. It is read with the fields of its call, and the call's name stands where the symbol tells, with a zero
-/// behind it; their longer section indexes stand one behind the other. Where there is room for all, each was taken.
+/// For any list of calls of `define_symbol` and `undefined_symbol`, each successful call appends one symbol. That symbol is
+/// read with the fields of the call, and its `st_name` is the offset of the call's name. Extended section indexes are
+/// consecutive. If there is room for all symbols, each call succeeds.
 pub fn runs_are_read()
     ensures read { RunsAreRead }
     ensures count { RunsCount }
@@ -37,14 +37,14 @@ pub fn runs_are_read()
     symtab_entry_is_read();
 }
 
-/// What calls write through a prefix that has room for them, the writer itself would have written; when the prefix is
-/// let go, the writer has all its room again.
+/// Calls through a prefix that has room for them write what the same calls of the writer write. When the prefix is dropped,
+/// the writer has all its room again.
 pub fn prefixes_are_the_writers()
     ensures { PrefixesAreTheWriters }
 {}
 
-/// Of the symbols of a file `.symtab` has as many entries among the local symbols, and among the others, as the file is
-/// counted for; of a group as many as of its files. Longer section indexes are as many, of 4 bytes each.
+/// A file has as many local and as many other entries in `.symtab` as `wild_needs` counts for it, and a group as many as its
+/// files. There are as many extended section indexes, of 4 bytes each.
 pub fn entries_are_counted()
     ensures sides { LengthsOfSides }
     ensures files { SidesOfFiles }
@@ -53,8 +53,8 @@ pub fn entries_are_counted()
     ensures bytes { IndexesHave4Bytes }
 {}
 
-/// The names of a file's entries are its strings, and those of a group its files'; a file's strings have their bytes and a
-/// zero each. The names of slots and stubs that are written are those of a file's entries.
+/// The names of a file's entries are the file's strings, each with its bytes and a zero, and those of a group are its files'.
+/// The names of slots and stubs that are written are among those of the file's entries.
 pub fn names_are_strings()
     ensures files { NamesOfFiles }
     ensures groups { NamesOfGroups }
@@ -62,8 +62,7 @@ pub fn names_are_strings()
     ensures slots { SlotNamesAreItems }
 {}
 
-/// Each entry among the local symbols, and among the others, stands at 24 k and is read there, and its name stands where it
-/// tells.
+/// Local entry k, and other entry k, is read at offset 24 k of its list, and its `st_name` is the offset of its name.
 pub fn sides_are_read()
     ensures stand { SidesStand }
     ensures read { SidesAreRead }

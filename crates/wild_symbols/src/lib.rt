@@ -1,4 +1,4 @@
-//! The symbols of a group and their names.
+//! The symbol tables of a group, `.symtab` and `.dynsym`, and their names.
 #![tactic(auto)]
 
 mod dynamic;

@@ -1,4 +1,4 @@
-//! The numbers that relocations tell of symbols in the tables of a relocatable object (gABI, "Relocation": `r_info`).
+//! The symbol indexes in the relocations of a relocatable object (gABI, "Relocation": `r_info`).
 ghost use Rattle.std.specs.Prelude.{◌≡◌, ℕ, ◌<◌, [], ◌∷◌, map, length, IfOk, OnOk, None, replicate, slice_index_or};
 ghost use Rattle.std.specs.List.{range_with_len};
 ghost use Rattle.std.specs.Option.{option_or};
@@ -12,7 +12,7 @@ use std::alloc::{AllocError, Global};
 use wild_types::{File, Layout, SymbolIndex};
 
 impl SectionNumbers<'_> {
-    /// The number of the section symbol of the symbol with that number, as one of a file.
+    /// For a section symbol of the input, the index of the symbol of its output section. `index` is its number in the layout.
     fn tell_of(&self, index: usize, file: &File) -> Result<Option<usize>, AllocError>
         ensures { IfOk result (λ n. n ≡ number_told self.now.layout.now index file.now) }
     {
@@ -22,7 +22,7 @@ impl SectionNumbers<'_> {
         }
     }
 
-    /// Notes those of a file that no earlier file has.
+    /// Notes the index of each symbol of a file, unless an earlier file has the symbol.
     fn note_file(&self, file: &File, notes: &mut [Option<Option<usize>>]) -> Result<(), AllocError>
         ensures { OnOk result ((k : ℕ) → k < length notes.old → slice_index_or notes.new k None
             ≡ option_or (slice_index_or notes.old k None) (found (number_told self.now.layout.now) (file.now ∷ []) k)) }
@@ -35,7 +35,7 @@ impl SectionNumbers<'_> {
         Ok(())
     }
 
-    /// Notes those of some files.
+    /// Notes the indexes of the symbols of several files.
     fn note_files(
         &self,
         files: &[File],
@@ -50,7 +50,7 @@ impl SectionNumbers<'_> {
         Ok(())
     }
 
-    /// Notes those of all symbols.
+    /// Notes the indexes of the symbols of all files.
     fn note_groups(&self, notes: &mut [Option<Option<usize>>]) -> Result<(), AllocError>
         ensures { OnOk result ((k : ℕ) → k < length notes.old → slice_index_or notes.new k None
             ≡ option_or (slice_index_or notes.old k None) (found (number_told self.now.layout.now) (files_of self.now.layout.now.groups) k)) }
@@ -62,7 +62,7 @@ impl SectionNumbers<'_> {
     }
 }
 
-/// The numbers that stand for symbols: of their own entries, else those that were noted.
+/// The index of each symbol: that of its own entry, otherwise the noted one.
 fn joined(
     alloc: Global,
     layout: &Layout,
@@ -81,12 +81,12 @@ fn joined(
     Ok(numbers)
 }
 
-/// The numbers that stand for all symbols of a relocatable object in its table: of each its own entry's, or of a section symbol that
-/// of the section that it stands for. It takes one walk over files for the entries, and one for section symbols.
+/// The index in `.symtab` of each symbol of a relocatable object: that of its own entry, or for a section symbol of the
+/// input that of its output section's symbol. This takes one walk over the entries, and one over the files' symbols.
 ///
 /// # Errors
 ///
-/// Only for want of memory; more entries than 2^64 are none that memory has room for.
+/// Only if out of memory. This includes more than 2^64 - 1 entries, which no memory could hold.
 pub fn build_sym_index_map(alloc: Global, layout: &Layout) -> Result<Vec<Option<usize>>, AllocError>
     ensures { IfOk result (λ v. v.items ≡ map (symbol_index layout.now) (range_with_len 0 (length layout.now.symbols))) }
 {
@@ -97,7 +97,7 @@ pub fn build_sym_index_map(alloc: Global, layout: &Layout) -> Result<Vec<Option<
     joined(alloc, layout, &own, &notes)
 }
 
-/// The number that stands for a symbol, by such a map.
+/// The index of a symbol, looked up in the map.
 #[tactic(auto, using(crate::proofs::NoteLemmas::looked_up))]
 fn number_of(numbers: &[Option<usize>], layout: &Layout, symbol: SymbolIndex) -> Option<usize>
     requires { numbers.now ≡ map (symbol_index layout.now) (range_with_len 0 (length layout.now.symbols)) }
@@ -109,7 +109,7 @@ fn number_of(numbers: &[Option<usize>], layout: &Layout, symbol: SymbolIndex) ->
     }
 }
 
-/// The number that a relocation tells: that of its symbol, else that of what defines the symbol; 0 where there is none.
+/// The symbol index in a relocation: that of its symbol, otherwise that of the symbol's definition, otherwise 0.
 pub fn named_index(numbers: &[Option<usize>], layout: &Layout, symbol: Option<SymbolIndex>) -> usize
     requires { numbers.now ≡ map (symbol_index layout.now) (range_with_len 0 (length layout.now.symbols)) }
     ensures { result ≡ named_index layout.now symbol }

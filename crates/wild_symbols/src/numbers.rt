@@ -1,4 +1,4 @@
-//! The numbers of symbols' own entries in a `.symtab` (gABI, "Symbol Table").
+//! The indexes of symbols' own entries in `.symtab` (gABI, "Symbol Table").
 ghost use Rattle.std.specs.Prelude.{◌≡◌, ℕ, ◌+◌, ◌<◌, ◌&&◌, ◌==◌, length, IfOk, true, Some, None, if◌then◌else◌, slice_index_or};
 ghost use Rattle.std.specs.List.{flat_map};
 ghost use Rattle.std.specs.Option.{option_or};
@@ -12,7 +12,7 @@ use std::alloc::{AllocError, Global};
 use wild_needs::{Named, TableSink, give_table, is_local};
 use wild_types::{Group, Layout, Symbol};
 
-/// Notes a number at a place, where none is noted there.
+/// Stores a number at position `at` if `asked` is set and no number is there.
 pub(crate) fn note(asked: bool, at: usize, number: usize, table: &mut [Option<usize>])
     ensures { (k : ℕ) → k < length table.old → slice_index_or table.new k None
         ≡ option_or (slice_index_or table.old k None) (if asked && at == k then Some number else None) }
@@ -22,14 +22,14 @@ pub(crate) fn note(asked: bool, at: usize, number: usize, table: &mut [Option<us
     }
 }
 
-/// Whether a name is that of a symbol itself.
+/// Whether an entry is a symbol's own, not one for its slot, stub or thunk.
 fn is_itself(named: Named) -> bool
     ensures { (i k : ℕ) (s : Symbol) → is_own_entry k (item named i s) ≡ (result && i == k) }
 {
     matches!(named, Named::Itself)
 }
 
-/// The numbers of the entries so far, and those of the next local one and of the next other.
+/// The indexes of the entries so far, and the indexes of the next local and the next other entry.
 #[derive(Drop)]
 struct Numbers {
     numbers: Vec<Option<usize>>,
@@ -38,14 +38,14 @@ struct Numbers {
 }
 
 impl Numbers {
-    /// The number of the next entry.
+    /// The index of the next entry.
     fn number(&self, local: bool) -> usize
         ensures { result ≡ number_at local self.now.local self.now.other }
     {
         if local { self.local } else { self.other }
     }
 
-    /// Notes a number of a symbol, where none is noted of it.
+    /// Stores the index of a symbol's own entry, unless it has one.
     fn note(&mut self, own: bool, index: usize, number: usize)
         ensures noted { (k : ℕ) → k < length self.old.numbers.items → slice_index_or self.new.numbers.items k None
             ≡ option_or (slice_index_or self.old.numbers.items k None) (if own && index == k then Some number else None) }
@@ -56,7 +56,7 @@ impl Numbers {
         note(own, index, number, &mut self.numbers);
     }
 
-    /// The next entry has the next number. One without is more than memory has room for.
+    /// Advances to the next index. Fails on overflow, since no memory could hold so many entries.
     fn step(&mut self, local: bool) -> Result<(), AllocError>
         ensures numbers { self.new.numbers ≡ self.old.numbers }
         ensures local { IfOk result (λ u. self.new.local ≡ local_behind local self.old.local) }
@@ -88,7 +88,7 @@ impl TableSink for Numbers {
     }
 }
 
-/// Gives the entries of a group.
+/// Passes the entries of a group to the sink.
 #[tactic(auto, using(wild_walk::proofs::RunLemmas::listed_loops))]
 fn give_group<S: TableSink>(layout: &Layout, group: &Group, sink: &mut S) -> Result<(), S::Error>
     ensures { Ran S.goes S.refuses sink.old (flat_map (file_items layout.now) group.now.files) result sink.new }
@@ -99,7 +99,7 @@ fn give_group<S: TableSink>(layout: &Layout, group: &Group, sink: &mut S) -> Res
     Ok(())
 }
 
-/// Gives those of all groups.
+/// Passes the entries of all groups to the sink.
 #[tactic(auto, using(wild_walk::proofs::RunLemmas::listed_loops))]
 fn give_groups<S: TableSink>(layout: &Layout, sink: &mut S) -> Result<(), S::Error>
     ensures { Ran S.goes S.refuses sink.old (flat_map (λ (g : Group). flat_map (file_items layout.now) g.files) layout.now.groups) result sink.new }
@@ -110,14 +110,14 @@ fn give_groups<S: TableSink>(layout: &Layout, sink: &mut S) -> Result<(), S::Err
     Ok(())
 }
 
-/// Gives all entries.
+/// Passes all entries to the sink.
 fn give_all<S: TableSink>(layout: &Layout, sink: &mut S) -> Result<(), S::Error>
     ensures { Ran S.goes S.refuses sink.old (all_items layout.now) result sink.new }
 {
     give_groups(layout, sink)
 }
 
-/// The number behind all local entries, of which the first that is counted has number `front`.
+/// The index after all local entries. The first counted entry has index `front`.
 #[tactic(auto, using(crate::proofs::NumberLemmas::counted))]
 fn behind_locals(alloc: Global, layout: &Layout, front: usize) -> Result<usize, AllocError>
     ensures { IfOk result (λ n. n ≡ front + length (side true (all_items layout.now))) }
@@ -131,7 +131,7 @@ fn behind_locals(alloc: Global, layout: &Layout, front: usize) -> Result<usize, 
     Ok(count.local)
 }
 
-/// The numbers of the own entries of all symbols.
+/// The index of each symbol's own entry.
 #[tactic(auto, using(crate::proofs::NumberLemmas::own_numbers))]
 pub(crate) fn own_numbers(
     alloc: Global,

@@ -1,4 +1,4 @@
-//! The front of a group's shares, for the symbols of one maker.
+//! A limited front part of the tables' unwritten room, lent to one producer of symbols.
 ghost use Rattle.std.specs.Prelude.{◌≡◌, ◌+◌, ◌*◌, ◌≤◌, length, IfOk, IfErr, Ok, Err};
 ghost use Rattle.std.specs.Borrow.{sem};
 ghost use Rattle.wild_records.specs.SymtabEntry.{symtab_entry_size};
@@ -9,7 +9,7 @@ ghost use Rattle.wild_symbols.specs.Lending.{PrefixOrNone};
 use crate::writer::SymbolTableWriter;
 use wild_types::Error;
 
-/// How many bytes of each table are kept behind a prefix.
+/// The number of bytes of each table that are reserved after a prefix.
 #[derive(Clone, Copy)]
 pub struct KeptBehind {
     pub locals: usize,
@@ -19,11 +19,11 @@ pub struct KeptBehind {
     pub strings: usize,
 }
 
-/// A writer with room for so many global symbols and bytes of strings alone, and for no local symbol. What is written
-/// stands behind what the writer had. When the prefix is let go, what lies behind it is the writer's again, which goes
-/// on behind what was written.
+/// A writer whose room is limited to a number of global symbols and of bytes of strings, without local symbols. It appends
+/// to what the writer had. When the prefix is dropped, the writer gets the rest of its room back and continues after what
+/// was written.
 pub struct SymbolTablePrefix<'a> {
-    /// The writer, while it has the prefix alone.
+    /// The writer, limited to the prefix.
     pub writer: &'a mut SymbolTableWriter,
     kept: KeptBehind,
 }
@@ -38,7 +38,7 @@ impl<'a> Drop for SymbolTablePrefix<'a> {
 }
 
 impl SymbolTableWriter {
-    /// Whether there is room for so many global symbols, and bytes of strings, more.
+    /// Checks that this many more global symbols and bytes of strings fit.
     fn check_prefix(&self, symbols: u32, strings: u32) -> Result<(), Error>
         ensures { result ≡ room_for_prefix symbols strings self.now }
     {
@@ -47,7 +47,7 @@ impl SymbolTableWriter {
         self.strtab.check_bytes(strings)
     }
 
-    /// Leaves that room alone, and answers what lies behind.
+    /// Limits the room to these, and returns the number of bytes reserved after them.
     fn take_front(&mut self, symbols: u32, strings: u32) -> KeptBehind
         requires { room_for_prefix symbols strings self.old ≡ Ok tt }
         ensures front { self.new ≡ prefix_of symbols strings self.old }
@@ -62,7 +62,7 @@ impl SymbolTableWriter {
         }
     }
 
-    /// What is kept behind belongs to the writer again.
+    /// Makes the reserved bytes usable again.
     fn join(&mut self, kept: KeptBehind)
         ensures { self.new ≡ joined kept self.old }
     {
@@ -73,13 +73,13 @@ impl SymbolTableWriter {
         self.strtab.join(kept.strings);
     }
 
-    /// Takes a prefix: the writer with room for `symbols` global symbols and for `strings` bytes of strings alone. No
-    /// memory is taken.
+    /// Returns a prefix: the writer with room for `symbols` global symbols and `strings` bytes of strings only. Nothing is
+    /// allocated.
     ///
     /// # Errors
     ///
-    /// `InsufficientAllocation` exactly where so many symbols, or else their longer section indexes where each has one, or else so
-    /// many bytes, do not fit what is left of their share; nothing changes then.
+    /// `InsufficientAllocation` exactly if the symbols do not fit in the rest of their share, or otherwise their extended
+    /// section indexes where every symbol has one, or otherwise the bytes of strings. Then nothing changes.
     pub fn take_prefix_global(
         &mut self,
         symbols: u32,

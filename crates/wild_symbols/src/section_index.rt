@@ -1,4 +1,4 @@
-//! The numbers of sections' symbols in the `.symtab` of a relocatable object (gABI, "Symbol Table": `STT_SECTION`).
+//! The indexes of section symbols in the `.symtab` of a relocatable object (gABI, "Symbol Table": `STT_SECTION`).
 ghost use Rattle.std.specs.Prelude.{◌≡◌, ℕ, ◌+◌, ◌<◌, ◌==◌, IfOk, Some, None, if◌then◌else◌, unwrap_or, length, slice_index_or};
 ghost use Rattle.std.specs.Option.{option_or};
 ghost use Rattle.wild_types.specs.Kinds.{is_partial_link};
@@ -13,14 +13,14 @@ use wild_records::abi::symbol::STT_SECTION;
 use wild_types::{File, InputSection, Layout, Place, Symbol};
 use wild_walk::Sink;
 
-/// The number behind a number. One without is more than memory has room for.
+/// The number plus 1. Fails on overflow, since no memory could hold so many entries.
 fn behind(number: usize) -> Result<usize, AllocError>
     ensures { IfOk result (λ n. n ≡ number + 1) }
 {
     number.checked_add(1).ok_or(AllocError)
 }
 
-/// The numbers of symbols of sections so far, by the sections' header indexes, and the next number.
+/// The symbol index of each section so far, by header index, and the next symbol index.
 #[derive(Drop)]
 struct SectionTable {
     numbers: Vec<Option<usize>>,
@@ -28,7 +28,7 @@ struct SectionTable {
 }
 
 impl SectionTable {
-    /// Notes the next number of a section, where none is noted of it.
+    /// Stores the next symbol index for a section, unless it has one.
     fn note(&mut self, header: usize)
         ensures noted { (k : ℕ) → k < length self.old.numbers.items → slice_index_or self.new.numbers.items k None
             ≡ option_or (slice_index_or self.old.numbers.items k None) (if header == k then Some self.old.next else None) }
@@ -38,7 +38,7 @@ impl SectionTable {
         note(true, header, self.next, &mut self.numbers);
     }
 
-    /// The next symbol has the next number.
+    /// Advances to the next symbol index.
     fn step(&mut self) -> Result<(), AllocError>
         ensures numbers { self.new.numbers ≡ self.old.numbers }
         ensures next { IfOk result (λ u. self.new.next ≡ self.old.next + 1) }
@@ -63,7 +63,7 @@ impl Sink<usize> for SectionTable {
     }
 }
 
-/// The number of the first symbol of the section with a header index, as far as it is found, and the next number.
+/// The index of the first symbol of the section with this header index, if found so far, and the next symbol index.
 #[derive(Drop)]
 struct SectionSearch {
     header: usize,
@@ -72,7 +72,7 @@ struct SectionSearch {
 }
 
 impl SectionSearch {
-    /// What was found, with one symbol more.
+    /// What has been found after one more section symbol.
     fn found_with(&self, header: usize) -> Option<usize>
         ensures { result ≡ (if header == self.now.header then option_or self.now.found (Some self.now.next) else self.now.found) }
     {
@@ -83,7 +83,7 @@ impl SectionSearch {
         }
     }
 
-    /// The next symbol has the next number.
+    /// Advances to the next symbol index.
     fn step(&mut self, found: Option<usize>) -> Result<(), AllocError>
         ensures found { self.new.found ≡ found }
         ensures header { self.new.header ≡ self.old.header }
@@ -110,7 +110,7 @@ impl Sink<usize> for SectionSearch {
     }
 }
 
-/// The numbers of the sections that ask for a symbol, and the number behind these.
+/// The symbol indexes of the output sections with the flag `section_symbol`, and the index after them.
 #[tactic(auto, using(crate::proofs::NumberLemmas::asked_numbers))]
 fn asked_numbers(alloc: Global, layout: &Layout) -> Result<(Vec<Option<usize>>, usize), AllocError>
     ensures numbers { IfOk result (λ r. HasAskedNumbers layout.now r.0.items) }
@@ -125,7 +125,7 @@ fn asked_numbers(alloc: Global, layout: &Layout) -> Result<(Vec<Option<usize>>, 
     Ok((table.numbers, table.next))
 }
 
-/// The numbers of the sections that the object keeps by themselves, and the number behind these.
+/// The symbol indexes of the input sections that the object keeps as sections of their own, and the index after them.
 #[tactic(auto, using(crate::proofs::NumberLemmas::alone_numbers))]
 fn alone_numbers(
     alloc: Global,
@@ -143,7 +143,7 @@ fn alone_numbers(
     Ok((table.numbers, table.next))
 }
 
-/// The numbers of the symbols of sections, by the sections' header indexes.
+/// The index of each section's symbol, by the section's header index.
 #[derive(Drop)]
 pub(crate) struct SectionNumbers<'a> {
     pub(crate) layout: &'a Layout,
@@ -158,7 +158,7 @@ pub(crate) struct SectionNumbers<'a> {
 }
 
 impl<'a> SectionNumbers<'a> {
-    /// Those of a layout.
+    /// Computes the indexes for a layout.
     pub(crate) fn of(alloc: Global, layout: &'a Layout) -> Result<SectionNumbers<'a>, AllocError>
         ensures { IfOk result (λ n. n.layout.now ≡ layout.now) }
     {
@@ -173,7 +173,7 @@ impl<'a> SectionNumbers<'a> {
         })
     }
 
-    /// How many entries stand in front of those of names: that of zeros, and in a relocatable object those of sections.
+    /// The number of entries before the named ones: the null symbol, and in a relocatable object the section symbols.
     #[tactic(auto, unfolding(wild_needs::specs::TableSymbols::section_symbols), using(crate::proofs::NumberLemmas::front_counted))]
     pub(crate) fn front_count(&self) -> usize
         ensures { result ≡ front_count self.now.layout.now }
@@ -185,7 +185,7 @@ impl<'a> SectionNumbers<'a> {
         }
     }
 
-    /// The number of a section that asks for a symbol.
+    /// The symbol index of an output section with the flag `section_symbol`.
     #[tactic(auto, using(crate::proofs::NumberLemmas::asked_looked_up))]
     fn asked_number(&self, header: usize) -> Option<usize>
         ensures { result ≡ number_from header 1 (asked_from 0 self.now.layout.now.sections) }
@@ -196,7 +196,7 @@ impl<'a> SectionNumbers<'a> {
         }
     }
 
-    /// The number of a section that the object keeps by itself, found by a walk over all.
+    /// The symbol index of a section that the object keeps as one of its own, found by a walk over all of them.
     #[tactic(auto, using(crate::proofs::NumberLemmas::sought))]
     fn sought_number(&self, header: usize) -> Result<Option<usize>, AllocError>
         ensures { IfOk result (λ n. n ≡ number_from header self.now.front (kept_alone self.now.layout.now)) }
@@ -210,7 +210,7 @@ impl<'a> SectionNumbers<'a> {
         Ok(search.found)
     }
 
-    /// The same by the table; a header index that no section has is sought.
+    /// The same from the table. Only for a header index that is not in the table a walk is needed.
     #[tactic(auto, using(crate::proofs::NumberLemmas::alone_looked_up))]
     fn alone_number(&self, header: usize) -> Result<Option<usize>, AllocError>
         ensures { IfOk result (λ n. n ≡ number_from header self.now.front (kept_alone self.now.layout.now)) }
@@ -221,7 +221,7 @@ impl<'a> SectionNumbers<'a> {
         }
     }
 
-    /// The number of the symbol of the section that an input section stands in; 0 where there is none.
+    /// The index of the symbol of the output section that contains an input section; 0 if it has no symbol.
     fn section_index(&self, section: &InputSection) -> Result<usize, AllocError>
         ensures { IfOk result (λ n. n ≡ section_index self.now.layout.now section.now) }
     {
@@ -232,7 +232,7 @@ impl<'a> SectionNumbers<'a> {
         Ok(number.unwrap_or(0))
     }
 
-    /// The same; of a section that is left out there is none.
+    /// The same; `None` for a discarded section.
     fn section_number(&self, section: &InputSection) -> Result<Option<usize>, AllocError>
         ensures { IfOk result (λ n. n ≡ section_number self.now.layout.now section.now) }
     {
@@ -242,7 +242,7 @@ impl<'a> SectionNumbers<'a> {
         Ok(Some(self.section_index(section)?))
     }
 
-    /// The number of the section symbol of a symbol, as one of a file.
+    /// For a section symbol of an input file, the index of the symbol of its output section; otherwise `None`.
     pub(crate) fn tell(&self, file: &File, symbol: &Symbol) -> Result<Option<usize>, AllocError>
         ensures { IfOk result (λ n. n ≡ told_of self.now.layout.now file.now symbol.now) }
     {

@@ -1,5 +1,5 @@
-//! The one walk over the sections that a relocatable object has symbols for (gABI, "Symbol Table": `STT_SECTION`). What is done with
-//! each is a sink's.
+//! The walk over the sections that have symbols in a relocatable object (gABI, "Symbol Table": `STT_SECTION`). A sink defines
+//! what is done with each.
 ghost use Rattle.std.specs.Prelude.{◌≡◌, [], ◌∷◌, if◌then◌else◌, option_to_list};
 ghost use Rattle.std.specs.List.{flat_map};
 ghost use Rattle.wild_walk.specs.Runs.{Ran};
@@ -9,7 +9,7 @@ ghost use Rattle.wild_symbols.specs.SectionWalk.{alone_in, alone_in_groups};
 use wild_types::{File, Group, Layout, Section, SectionIndex};
 use wild_walk::Sink;
 
-/// Gives a section, where that is asked for.
+/// Passes a section to the sink if `asked` is set.
 #[tactic(auto, using(wild_walk::proofs::RunLemmas::runs))]
 fn give_asked<S: Sink<usize>>(asked: bool, header: usize, sink: &mut S) -> Result<(), S::Error>
     ensures { Ran S.goes S.refuses sink.old (if asked then header ∷ [] else []) result sink.new }
@@ -17,7 +17,7 @@ fn give_asked<S: Sink<usize>>(asked: bool, header: usize, sink: &mut S) -> Resul
     if asked { sink.take(header) } else { Ok(()) }
 }
 
-/// Gives the sections that ask for a symbol.
+/// Passes the sections with the flag `section_symbol` to the sink.
 #[tactic(auto, using(crate::proofs::WalkLemmas::asked_loops))]
 pub fn give_asked_sections<S: Sink<usize>>(
     sections: &[Section],
@@ -31,7 +31,7 @@ pub fn give_asked_sections<S: Sink<usize>>(
     Ok(())
 }
 
-/// Gives the section that an input section is, where the object keeps it by itself.
+/// Passes the section of an input section to the sink, if the object keeps it as a section of its own.
 #[tactic(auto, using(wild_walk::proofs::RunLemmas::runs))]
 fn give_alone<S: Sink<usize>>(alone: Option<SectionIndex>, sink: &mut S) -> Result<(), S::Error>
     ensures { Ran S.goes S.refuses sink.old (option_to_list alone) result sink.new }
@@ -42,7 +42,7 @@ fn give_alone<S: Sink<usize>>(alone: Option<SectionIndex>, sink: &mut S) -> Resu
     }
 }
 
-/// Gives those of a file.
+/// Passes the sections of a file that the object keeps as sections of their own.
 #[tactic(auto, using(wild_walk::proofs::RunLemmas::listed_loops))]
 fn give_alone_in<S: Sink<usize>>(file: &File, sink: &mut S) -> Result<(), S::Error>
     ensures { Ran S.goes S.refuses sink.old (alone_in file.now) result sink.new }
@@ -53,7 +53,7 @@ fn give_alone_in<S: Sink<usize>>(file: &File, sink: &mut S) -> Result<(), S::Err
     Ok(())
 }
 
-/// Gives those of a group.
+/// Passes those of a group.
 #[tactic(auto, using(wild_walk::proofs::RunLemmas::listed_loops))]
 fn give_alone_among<S: Sink<usize>>(group: &Group, sink: &mut S) -> Result<(), S::Error>
     ensures { Ran S.goes S.refuses sink.old (flat_map alone_in group.now.files) result sink.new }
@@ -64,7 +64,7 @@ fn give_alone_among<S: Sink<usize>>(group: &Group, sink: &mut S) -> Result<(), S
     Ok(())
 }
 
-/// Gives those of all groups.
+/// Passes those of all groups.
 #[tactic(auto, using(wild_walk::proofs::RunLemmas::listed_loops))]
 fn give_alone_in_groups<S: Sink<usize>>(layout: &Layout, sink: &mut S) -> Result<(), S::Error>
     ensures { Ran S.goes S.refuses sink.old (alone_in_groups layout.now) result sink.new }
@@ -75,7 +75,7 @@ fn give_alone_in_groups<S: Sink<usize>>(layout: &Layout, sink: &mut S) -> Result
     Ok(())
 }
 
-/// Gives the sections that the object keeps by themselves, in the order of processing.
+/// Passes the input sections that the object keeps as sections of their own to the sink, in the order of files.
 #[tactic(auto, using(crate::proofs::WalkLemmas::alone_is))]
 pub fn give_kept_alone<S: Sink<usize>>(layout: &Layout, sink: &mut S) -> Result<(), S::Error>
     ensures { Ran S.goes S.refuses sink.old (kept_alone layout.now) result sink.new }
@@ -83,7 +83,7 @@ pub fn give_kept_alone<S: Sink<usize>>(layout: &Layout, sink: &mut S) -> Result<
     give_alone_in_groups(layout, sink)
 }
 
-/// Gives the sections that the object has symbols for, in the order of these.
+/// Passes the sections that have symbols in the object to the sink, in the order of their symbols.
 #[tactic(auto, using(wild_walk::proofs::RunLemmas::runs), unfolding(wild_needs::specs::TableSymbols::section_symbols))]
 pub fn give_section_symbols<S: Sink<usize>>(layout: &Layout, sink: &mut S) -> Result<(), S::Error>
     ensures { Ran S.goes S.refuses sink.old (section_symbols layout.now) result sink.new }

@@ -1,4 +1,4 @@
-//! Strings in the room of their part (gABI, "String Table").
+//! A group's share of a string table (gABI, "String Table").
 ghost use Rattle.std.specs.Prelude.{◌≡◌, ◌+◌, ◌^◌, ◌<◌, ◌≤◌, [], ◌∷◌, ◌++◌, length, take, OnOk, OnErr, IfOk};
 ghost use Rattle.wild_words.specs.Words.{place};
 ghost use Rattle.wild_symbols.specs.Strings.{string, with_string, room_for_string, left_of_strings, room_for_bytes, kept_strings, front_strings, strings_joined};
@@ -8,8 +8,8 @@ use std::marker::Model;
 use wild_types::{Error, excessive, insufficient};
 use wild_words::{put, put_u8};
 
-/// Strings behind each other, each with a zero behind it, from the front of a group's share on. The share begins
-/// at `start` of the output's table, and ends below 2^32.
+/// Consecutive strings, each with a zero at its end, written from the start of a group's share. The share begins at offset
+/// `start` of the output's string table, and ends below 2^32.
 #[derive(Drop)]
 pub struct StrTabWriter {
     part: usize,
@@ -30,7 +30,7 @@ impl Model for StrTabWriter {
     ghost invariant = { λ t. IsStrings t.start t.share.items t.used t.behind };
 }
 
-/// A string, which is given in two pieces, and its zero at an offset.
+/// Writes a string, given in two pieces, and its zero at an offset.
 #[tactic(auto, using(crate::proofs::StringLemmas::front_of_joined))]
 fn put_string(out: &mut [u8], at: usize, front: &[u8], back: &[u8])
     requires { at + (length front.now + length back.now + 1) ≤ length out.old }
@@ -42,7 +42,7 @@ fn put_string(out: &mut [u8], at: usize, front: &[u8], back: &[u8])
 }
 
 impl StrTabWriter {
-    /// No strings yet, in a share of `room` bytes of the part at a place in the layout's list.
+    /// An empty table for a share of `room` bytes. `part` is the index of its part in the layout.
     pub(crate) fn new(
         alloc: Global,
         part: usize,
@@ -63,11 +63,11 @@ impl StrTabWriter {
         })
     }
 
-    /// Writes a string and a zero behind the others, and answers its offset in the output's table.
+    /// Appends a string and a zero, and returns the string's offset in the output's string table.
     ///
     /// # Errors
     ///
-    /// `InsufficientAllocation` exactly where the two do not fit what is left of the share; nothing changes then.
+    /// `InsufficientAllocation` exactly if the two do not fit in the rest of the share; then nothing changes.
     #[tactic(auto, using(crate::proofs::StringLemmas::joined_with_none))]
     pub fn write_str(&mut self, bytes: &[u8]) -> Result<u32, Error>
         ensures answered { result ≡ room_for_string bytes.now self.old }
@@ -77,7 +77,7 @@ impl StrTabWriter {
         self.write_joined(bytes, b"")
     }
 
-    /// The same of a string with a short suffix.
+    /// The same for a string with a short suffix.
     pub(crate) fn write_joined(&mut self, front: &[u8], back: &[u8]) -> Result<u32, Error>
         requires { length back.now ≤ 4 }
         ensures answered { result ≡ room_for_string (front.now ++ back.now) self.old }
@@ -95,11 +95,11 @@ impl StrTabWriter {
         Ok(offset)
     }
 
-    /// Whether the share is full.
+    /// Checks that the share is full.
     ///
     /// # Errors
     ///
-    /// `ExcessiveAllocation` exactly where room is left.
+    /// `ExcessiveAllocation` exactly if unwritten bytes are left.
     pub fn check_exhausted(&self) -> Result<(), Error>
         ensures { result ≡ left_of_strings self.now }
     {
@@ -110,18 +110,18 @@ impl StrTabWriter {
         Ok(())
     }
 
-    /// How many bytes of the share are the strings'.
+    /// The number of bytes of the share that may be used now.
     fn room(&self) -> usize
         ensures { result ≡ self.now.room }
     {
         self.share.len() - self.behind
     }
 
-    /// Whether there is room for so many bytes more.
+    /// Checks that `bytes` more bytes fit.
     ///
     /// # Errors
     ///
-    /// `InsufficientAllocation` exactly where there is not.
+    /// `InsufficientAllocation` exactly if they do not fit.
     pub(crate) fn check_bytes(&self, bytes: u32) -> Result<(), Error>
         ensures { result ≡ room_for_bytes bytes self.now }
     {
@@ -133,7 +133,7 @@ impl StrTabWriter {
         Ok(())
     }
 
-    /// Leaves room for so many bytes more alone, and answers how many lie behind.
+    /// Reserves all of the share after the next `bytes` bytes, and returns the number of bytes reserved.
     pub(crate) fn take_front(&mut self, bytes: u32) -> usize
         requires { length self.old.bytes + bytes ≤ self.old.room }
         ensures front { self.new ≡ front_strings bytes self.old }
@@ -144,14 +144,14 @@ impl StrTabWriter {
         kept
     }
 
-    /// So many bytes of what is kept behind belong to the strings again.
+    /// Makes `kept` of the reserved bytes usable again.
     pub(crate) fn join(&mut self, kept: usize)
         ensures { self.new ≡ strings_joined kept self.old }
     {
         self.behind -= kept.min(self.behind);
     }
 
-    /// The bytes of the share: those of the strings, and then the room that is left.
+    /// The bytes of the share: those of the strings, then the unwritten rest.
     pub fn bytes(&self) -> &[u8]
         ensures written { take (length self.now.bytes) result.now ≡ self.now.bytes }
         ensures room { length result.now ≡ self.now.room + self.now.behind }

@@ -1,4 +1,4 @@
-//! Symbols in the room of their part (gABI, "Symbol Table").
+//! A group's share of a symbol table (gABI, "Symbol Table").
 ghost use Rattle.std.specs.Prelude.{◌≡◌, ℕ, ◌+◌, ◌*◌, ◌<◌, ◌≤◌, [], ◌∷◌, ◌++◌, length, take, IfOk, slice_index_or};
 ghost use Rattle.wild_words.specs.Words.{place};
 ghost use Rattle.wild_words.specs.Record.{spell};
@@ -12,7 +12,7 @@ use wild_records::{SymtabEntry, symtab_entry_is_read};
 use wild_types::{Error, excessive, insufficient};
 use wild_words::put;
 
-/// Symbols behind each other, from the front of a group's share of a part on.
+/// Symbols in a group's share of a part, written from its start.
 #[derive(Drop)]
 pub struct SymbolTable {
     part: usize,
@@ -33,7 +33,7 @@ impl Model for SymbolTable {
 }
 
 impl SymbolTable {
-    /// No symbols yet, in a share of `room` bytes of the part at a place in the layout's list.
+    /// An empty table for a share of `room` bytes. `part` is the index of its part in the layout.
     #[tactic(auto, unfolding(crate::specs::Symbols::symbols_in, crate::specs::Symbols::IsSpelled))]
     pub(crate) fn new(
         alloc: Global,
@@ -52,7 +52,7 @@ impl SymbolTable {
         })
     }
 
-    /// How many bytes the symbols have.
+    /// The number of bytes of all symbols.
     #[tactic(auto, using(crate::proofs::SymbolLemmas::length_symbols_in))]
     fn used(&self) -> usize
         ensures used { result ≡ symbols_used self.now }
@@ -61,18 +61,18 @@ impl SymbolTable {
         SymtabEntry::SIZE * self.count
     }
 
-    /// How many bytes of the share are the symbols'.
+    /// The number of bytes of the share that may be used now.
     fn room(&self) -> usize
         ensures { result ≡ self.now.room }
     {
         self.share.len() - self.behind
     }
 
-    /// Whether there is room for one symbol more.
+    /// Checks that one more symbol fits.
     ///
     /// # Errors
     ///
-    /// `InsufficientAllocation` exactly where there is none.
+    /// `InsufficientAllocation` exactly if it does not fit.
     pub(crate) fn check_room(&self) -> Result<(), Error>
         ensures { result ≡ room_for_entry self.now }
     {
@@ -89,7 +89,7 @@ impl SymbolTable {
         Ok(())
     }
 
-    /// Adds a symbol behind the others.
+    /// Appends a symbol that fits.
     #[tactic(auto, using(crate::proofs::SymbolLemmas::length_symbols_in))]
     pub(crate) fn push(&mut self, entry: SymtabEntry)
         requires { symbols_used self.old + symtab_entry_size ≤ self.old.room }
@@ -101,11 +101,11 @@ impl SymbolTable {
         self.count += 1;
     }
 
-    /// Whether the share is full.
+    /// Checks that the share is full.
     ///
     /// # Errors
     ///
-    /// `ExcessiveAllocation` exactly where room is left.
+    /// `ExcessiveAllocation` exactly if unwritten bytes are left.
     pub fn check_exhausted(&self) -> Result<(), Error>
         ensures { result ≡ left_of_symbols self.now }
     {
@@ -117,11 +117,11 @@ impl SymbolTable {
         Ok(())
     }
 
-    /// Whether there is room for so many symbols more.
+    /// Checks that `count` more symbols fit.
     ///
     /// # Errors
     ///
-    /// `InsufficientAllocation` exactly where there is not.
+    /// `InsufficientAllocation` exactly if they do not fit.
     pub(crate) fn check_entries(&self, count: u32) -> Result<(), Error>
         ensures { result ≡ room_for_entries count self.now }
     {
@@ -133,7 +133,7 @@ impl SymbolTable {
         Ok(())
     }
 
-    /// Leaves room for so many symbols more alone, and answers how many bytes lie behind.
+    /// Reserves all of the share after the next `count` symbols, and returns the number of bytes reserved.
     #[tactic(auto, using(crate::proofs::SymbolLemmas::length_symbols_in))]
     pub(crate) fn take_front(&mut self, count: u32) -> usize
         requires { symbols_used self.old + symtab_entry_size * count ≤ self.old.room }
@@ -146,7 +146,7 @@ impl SymbolTable {
         kept
     }
 
-    /// Leaves room for no symbol, and answers how many bytes lie behind.
+    /// Reserves all unwritten bytes of the share, and returns their number.
     pub(crate) fn close(&mut self) -> usize
         ensures front { self.new ≡ front_symbols 0 self.old }
         ensures kept { result ≡ kept_symbols 0 self.old }
@@ -155,14 +155,14 @@ impl SymbolTable {
         self.take_front(0)
     }
 
-    /// So many bytes of what is kept behind belong to the symbols again.
+    /// Makes `kept` of the reserved bytes usable again.
     pub(crate) fn join(&mut self, kept: usize)
         ensures { self.new ≡ symbols_joined kept self.old }
     {
         self.behind -= kept.min(self.behind);
     }
 
-    /// The bytes of the share: those of the symbols, and then the room that is left. Symbol k is read at 24 k.
+    /// The bytes of the share: those of the symbols, then the unwritten rest. Symbol k is read at offset 24 k.
     #[tactic(auto, using(crate::proofs::SymbolLemmas::symbols_stand, crate::proofs::SymbolLemmas::symbol_in))]
     pub fn bytes(&self) -> &[u8]
         ensures written { take (symbols_used self.now) result.now ≡ symbol_bytes self.now.symbols }
@@ -173,7 +173,7 @@ impl SymbolTable {
     }
 }
 
-/// A symbol at an offset.
+/// Writes a symbol at an offset.
 fn put_entry(out: &mut [u8], at: usize, entry: SymtabEntry)
     requires { at + symtab_entry_size ≤ length out.old }
     ensures { out.new ≡ place at (spell (symtab_entry_fields entry)) out.old }
@@ -183,7 +183,7 @@ fn put_entry(out: &mut [u8], at: usize, entry: SymtabEntry)
     put(out, at, &bytes);
 }
 
-/// A symbol behind the `count` symbols.
+/// Writes a symbol after the first `count` symbols.
 #[tactic(auto, using(crate::proofs::SymbolLemmas::symbols_in_more, crate::proofs::SymbolLemmas::spelled_more))]
 fn add_entry(out: &mut [u8], count: usize, entry: SymtabEntry)
     requires { symtab_entry_size * count + symtab_entry_size ≤ length out.old }

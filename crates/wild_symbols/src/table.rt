@@ -1,4 +1,4 @@
-//! What the entries of `.symtab` say of symbols (gABI, "Symbol Table").
+//! The fields of the entries of `.symtab` (gABI, "Symbol Table").
 ghost use Rattle.std.specs.Prelude.{◌≡◌, ℕ, ◌%◌, ◌^◌, true, Some, slice_get, option_copied};
 ghost use Rattle.wild_records.specs.SymbolSections.{split_index};
 ghost use Rattle.wild_types.specs.declared.layout.Layout.{Layout};
@@ -25,15 +25,15 @@ use wild_records::abi::symbol::{STT_FUNC, STT_SECTION};
 use wild_slot::{SlotWord, SymbolSlots};
 use wild_types::{Fault, File, FileRole, InputSection, Layout, Missing, Place, Symbol, THUNK_SIZE};
 
-/// What an entry of `.symtab` says of a symbol besides its name.
+/// The fields of an entry of `.symtab` without `st_name`.
 #[derive(Clone, Copy)]
 pub struct TableFields {
     pub fields: SymbolFields,
-    /// The header index of its section, where `st_shndx` has no room for it, modulo 2^32; else 0.
+    /// The extended section index: the header index modulo 2^32 if it does not fit in `st_shndx`, otherwise 0.
     pub long: u32,
 }
 
-/// `st_info`: a symbol that was made local has that binding.
+/// `st_info`, with binding `STB_LOCAL` for a symbol that was made local.
 fn table_info(symbol: &Symbol) -> u8
     ensures { result ≡ table_info symbol.now }
 {
@@ -44,7 +44,7 @@ fn table_info(symbol: &Symbol) -> u8
     }
 }
 
-/// What is said of a symbol of a file of that role, wherever it lies: of a library's no visibility.
+/// Type, binding, visibility and size of a symbol of a file with this role. A library's symbol has no visibility.
 fn table_attributes(role: FileRole, symbol: &Symbol) -> SymbolAttributes
     ensures { result ≡ table_attributes role symbol.now }
 {
@@ -64,14 +64,14 @@ fn with_function(attributes: SymbolAttributes) -> SymbolAttributes
     }
 }
 
-/// What is said where `st_shndx` has room.
+/// Fields without an extended section index.
 fn short(fields: SymbolFields) -> TableFields
     ensures { result ≡ short fields }
 {
     TableFields { fields, long: 0 }
 }
 
-/// The longer section index of a header index, modulo 2^32; 0 where `st_shndx` has room for it.
+/// The extended section index of a header index, modulo 2^32; 0 if `st_shndx` has room for it.
 fn long_index(section: usize) -> u32
     ensures { result ≡ (split_index section).1 % 2 ^ 32 }
 {
@@ -82,7 +82,7 @@ fn long_index(section: usize) -> u32
     }
 }
 
-/// What is said of a symbol in a section, at a value.
+/// The fields of a symbol with this value in a section. Fails without a section.
 fn in_table_section(
     index: usize,
     section: Option<usize>,
@@ -107,7 +107,7 @@ fn in_table_section(
     }
 }
 
-/// `st_value` of an address: of thread-local data counted from their beginning.
+/// `st_value` of an address: for a thread-local symbol its offset from the start of the TLS segment.
 fn counted_from(layout: &Layout, symbol: &Symbol, address: u64) -> u64
     ensures { result ≡ counted_from layout.now symbol.now address }
 {
@@ -118,14 +118,14 @@ fn counted_from(layout: &Layout, symbol: &Symbol, address: u64) -> u64
     }
 }
 
-/// The section of what stands in the headers, in front of all sections, is the first of them.
+/// The section of a symbol that the linker defines. One in the headers, before all sections, gets section 1.
 fn first_or(section: usize) -> usize
     ensures { result ≡ first_or section }
 {
     if section == 0 { 1 } else { section }
 }
 
-/// Whether the first slot of a symbol is one of the block of packed words.
+/// Whether the first slot of a symbol is in `got_relr`.
 fn begins_block(layout: &Layout, symbol: &Symbol) -> bool
     ensures { result ≡ begins_block (slots_of layout.now symbol.now).words }
 {
@@ -145,7 +145,7 @@ fn slot_of(symbol: &Symbol) -> Option<u64>
     }
 }
 
-/// Of a slot and a stub nothing more is told.
+/// The attributes of the entry of a slot or a stub, all 0.
 fn no_attributes() -> SymbolAttributes
     ensures { result ≡ no_attributes }
 {
@@ -156,7 +156,7 @@ fn no_attributes() -> SymbolAttributes
     }
 }
 
-/// Where a symbol at an offset of an input section stands in the output section of a relocatable object.
+/// The offset in its output section, in a relocatable object, of a symbol at `value` of an input section.
 fn offset_within(section: &InputSection, value: u64, raw: Option<u64>) -> Option<u64>
     ensures { (l : Layout) (i : ℕ) → raw ≡ raw_value l i → result ≡ offset_within l i value section.now }
 {
@@ -169,7 +169,7 @@ fn offset_within(section: &InputSection, value: u64, raw: Option<u64>) -> Option
     }
 }
 
-/// A symbol that a table has, and what is known of it.
+/// A symbol with an entry in the table, and what the entry depends on.
 #[derive(Drop)]
 struct Subject<'a> {
     layout: &'a Layout,
@@ -185,14 +185,14 @@ struct Subject<'a> {
 }
 
 impl Subject<'_> {
-    /// What is said of it wherever it lies.
+    /// Its type, binding, visibility and size.
     fn attributes(&self) -> SymbolAttributes
         ensures { result ≡ table_attributes self.now.role self.now.symbol.now }
     {
         table_attributes(self.role, self.symbol)
     }
 
-    /// What is said of it where nothing defines it: in a relocatable object no size.
+    /// The same if it is undefined: in a relocatable object the size is then 0.
     fn undefined_attributes(&self) -> SymbolAttributes
         ensures { result ≡ undefined_attributes self.now.layout.now self.now.role self.now.symbol.now }
     {
@@ -207,7 +207,7 @@ impl Subject<'_> {
         }
     }
 
-    /// Where it stands in the output section of a relocatable object.
+    /// Its offset in its output section, in a relocatable object.
     fn offset(&self) -> Option<u64>
         ensures { option_copied self.now.within ≡ symbol_section self.now.layout.now self.now.index → result ≡ offset_by self.now.layout.now self.now.index self.now.symbol.now.value (symbol_section self.now.layout.now self.now.index) }
     {
@@ -217,7 +217,7 @@ impl Subject<'_> {
         }
     }
 
-    /// Its value.
+    /// Its offset in a relocatable object, otherwise its address.
     fn value(&self) -> Option<u64>
         ensures { result ≡ table_value self.now.layout.now self.now.index self.now.symbol.now }
     {
@@ -228,7 +228,7 @@ impl Subject<'_> {
         }
     }
 
-    /// What is said of it at a value, in a section.
+    /// Its fields with this value in a section. Fails without a value.
     fn at(&self, value: Option<u64>, section: Option<usize>) -> Result<TableFields, Fault>
         ensures { result ≡ at_address self.now.layout.now self.now.index self.now.symbol.now section value (table_attributes self.now.role self.now.symbol.now) }
     {
@@ -246,7 +246,7 @@ impl Subject<'_> {
         }
     }
 
-    /// What is said of it in its section, or as its stub.
+    /// Its fields in its section, or those of its PLT stub if it is an ifunc at a fixed load address.
     fn placed(&self, section: Option<usize>) -> Result<TableFields, Fault>
         ensures { result ≡ table_placed self.now.layout.now self.now.index self.now.role self.now.symbol.now section }
     {
@@ -263,7 +263,7 @@ impl Subject<'_> {
         }
     }
 
-    /// What is said of it by its place; `section` is that of its input section.
+    /// Its fields if this output defines it, or if it is undefined. `section` is the output section of its input section.
     fn by_place(&self, section: usize) -> Result<TableFields, Fault>
         ensures { result ≡ table_at self.now.layout.now self.now.index self.now.role self.now.symbol.now section self.now.symbol.now.place }
     {
@@ -280,7 +280,7 @@ impl Subject<'_> {
         }
     }
 
-    /// What is said of a library's function whose stub is its address in every module.
+    /// Its fields if it is a library's function with a canonical PLT entry.
     fn canonical(&self) -> Result<TableFields, Fault>
         ensures { result ≡ table_canonical self.now.index self.now.role self.now.symbol.now self.now.symbol.now.place (plt_of self.now.symbol.now) }
     {
@@ -298,7 +298,7 @@ impl Subject<'_> {
         }
     }
 
-    /// What is said of it, whose input section is in the output section with that header index.
+    /// Its fields. `section` is the header index of the output section of its input section.
     fn fields(&self, section: usize) -> Result<TableFields, Fault>
         ensures { result ≡ table_by self.now.layout.now self.now.index self.now.role self.now.symbol.now section }
     {
@@ -312,7 +312,7 @@ impl Subject<'_> {
     }
 }
 
-/// The section of the part in which the first slot of a symbol stands.
+/// The section of the part that contains the first slot of a symbol.
 fn slot_section(layout: &Layout, sections: &NamedSections, symbol: &Symbol) -> Option<usize>
     requires { sections.now ≡ named_sections layout.now }
     ensures { result ≡ part_section (part_with (slot_role layout.now symbol.now) layout.now.parts) }
@@ -324,7 +324,7 @@ fn slot_section(layout: &Layout, sections: &NamedSections, symbol: &Symbol) -> O
     }
 }
 
-/// What is said of the stub of a symbol, or else of its slot.
+/// The fields of the entry of a symbol's PLT stub, or otherwise of its slot.
 pub(crate) fn slot_fields(
     layout: &Layout,
     sections: &NamedSections,
@@ -342,7 +342,7 @@ pub(crate) fn slot_fields(
     in_table_section(index, section, address.unwrap_or(0), no_attributes())
 }
 
-/// What is said of each thunk wherever it lies: it is a local function.
+/// The attributes of the entry of a thunk: a local function.
 fn thunk_attributes() -> SymbolAttributes
     ensures { result ≡ thunk_attributes }
 {
@@ -353,7 +353,7 @@ fn thunk_attributes() -> SymbolAttributes
     }
 }
 
-/// The section of the part in which thunks stand.
+/// The section of the part that contains the thunks.
 fn thunk_section(layout: &Layout) -> Option<usize>
     ensures { result ≡ part_section (slice_get layout.now.parts layout.now.primary_part) }
 {
@@ -363,14 +363,14 @@ fn thunk_section(layout: &Layout) -> Option<usize>
     }
 }
 
-/// What is said of a thunk at an address that goes on to the symbol with that number.
+/// The fields of the entry of a thunk at this address, which jumps to the symbol with this index.
 fn thunk_fields(layout: &Layout, index: usize, address: u64) -> Result<TableFields, Fault>
     ensures { result ≡ thunk_fields layout.now index address }
 {
     in_table_section(index, thunk_section(layout), address, thunk_attributes())
 }
 
-/// What the symbol of a section says: it is local, and stands at the section's beginning.
+/// The fields of a section symbol: local, with the value 0, since it is at the start of its section.
 pub fn section_fields(section: usize) -> TableFields
     ensures { result ≡ section_fields section }
 {
@@ -389,14 +389,14 @@ pub fn section_fields(section: usize) -> TableFields
     }
 }
 
-/// What the entry of a symbol says, or of the name of its slot, its stub or a thunk to it. The symbol has that number, stands in the
-/// output section with that header index (0: in none), and has the address `raw`; in a relocatable object it stands in the input
-/// section `within`.
+/// The fields of the entry of a symbol, or of the entry that names its slot, its stub or a thunk to it. `index` is the
+/// symbol's number in the layout, `section` the header index of its output section (0 if it has none), and `raw` its
+/// address. In a relocatable object `within` is its input section.
 ///
 /// # Errors
 ///
-/// `MissingResolution` exactly where the symbol has no address (`Address`), stands in no section of the output (`Section`), or
-/// is told as a stub that it has not (`Stub`).
+/// `MissingResolution` exactly if the symbol has no address (`Address`), or no output section (`Section`), or needs a
+/// canonical PLT entry and has no stub (`Stub`).
 pub fn table_fields(
     layout: &Layout,
     file: &File,
@@ -432,7 +432,7 @@ pub fn table_fields(
     }
 }
 
-/// What is said of a symbol that lacks something, and of the null symbol.
+/// The fields of the null symbol, which also replace those of a symbol with a fault.
 pub fn null_table_fields() -> TableFields
     ensures { result ≡ no_table_fields }
 {

@@ -30,34 +30,34 @@ use wild_records::{SymbolSection, SymtabEntry};
 use wild_types::{At, Error, Layout, Role, SectionIndex, Symbol, part_of, share_of};
 use wild_walk::Sink;
 
-/// What a symbol says of itself, wherever it lies.
+/// The fields of a symbol that do not depend on where it is placed.
 #[derive(Clone, Copy)]
 pub struct SymbolAttributes {
-    /// `st_info`, binding and type.
+    /// `st_info`: binding and type.
     pub info: u8,
-    /// `st_other`, visibility.
+    /// `st_other`: visibility.
     pub other: u8,
     /// `st_size`.
     pub size: u64,
 }
 
-/// A group's symbols and their names, each table filled from the front of the group's share on. It takes no more
-/// memory once it is made.
+/// A group's symbols and their names. Each table is written from the start of the group's share. All memory is allocated by
+/// `new` or `new_dynamic`.
 #[derive(Drop)]
 pub struct SymbolTableWriter {
-    /// The local symbols, which stand before the global ones. A dynamic table has none.
+    /// The local symbols, which come before the global ones. A dynamic table has none.
     pub locals: SymbolTable,
     /// The global symbols.
     pub globals: SymbolTable,
-    /// The longer section indexes of the local symbols.
+    /// The extended section indexes of the local symbols.
     pub local_indexes: IndexTable,
-    /// Those of the global ones.
+    /// The extended section indexes of the global symbols.
     pub global_indexes: IndexTable,
     /// The names.
     pub strtab: StrTabWriter,
 }
 
-/// Where the group's strings begin in the strings of the dynamic table; 0 where there is no such group.
+/// The offset of the group's strings in `.dynstr`; 0 without such a group.
 pub fn dynstr_start(layout: &Layout, group: usize) -> u64
     ensures { result ≡ dynstr_start layout.now group }
 {
@@ -67,7 +67,7 @@ pub fn dynstr_start(layout: &Layout, group: usize) -> u64
     }
 }
 
-/// Where the group's strings begin in the strings of `.symtab`; 0 where there is no such group.
+/// The offset of the group's strings in `.strtab`; 0 without such a group.
 pub fn strtab_start(layout: &Layout, group: usize) -> u64
     ensures { result ≡ strtab_start layout.now group }
 {
@@ -77,7 +77,7 @@ pub fn strtab_start(layout: &Layout, group: usize) -> u64
     }
 }
 
-/// The longer index of a section, where `st_shndx` has no room for that; else 0.
+/// The extended section index, if `st_shndx` has no room for the header index; otherwise 0.
 fn long_of(section: SymbolSection) -> u32
     ensures { result ≡ long_of section }
 {
@@ -87,7 +87,7 @@ fn long_of(section: SymbolSection) -> u32
     }
 }
 
-/// What is said of a symbol in a section, at a value.
+/// The fields of a symbol with this value in a section.
 fn told(section: SymbolSection, value: u64, attributes: SymbolAttributes) -> TableFields
     ensures { result ≡ told section value attributes }
 {
@@ -101,7 +101,7 @@ fn told(section: SymbolSection, value: u64, attributes: SymbolAttributes) -> Tab
     }
 }
 
-/// What `st_shndx` has for a section.
+/// `st_shndx` for a section.
 fn section_number(section: SymbolSection) -> u16
     ensures { result ≡ section_number section }
 {
@@ -111,7 +111,7 @@ fn section_number(section: SymbolSection) -> u16
     }
 }
 
-/// The entry of a symbol, by the offset of its name.
+/// The entry of a symbol whose name is at offset `name` of the string table.
 fn placed(name: u32, fields: SymbolFields) -> SymtabEntry
     ensures { result ≡ placed name fields }
 {
@@ -125,14 +125,14 @@ fn placed(name: u32, fields: SymbolFields) -> SymtabEntry
     }
 }
 
-/// Whether a table has the symbol as a local one: by its binding, or since it was made one.
+/// Whether a symbol is local in the table: by its binding, or because it was made local.
 fn is_local(symbol: &Symbol) -> bool
     ensures { result ≡ is_local symbol.now }
 {
     symbol.info / 16 == STB_LOCAL || symbol.flags.is_downgraded_to_local()
 }
 
-/// What the layout gives for a symbol, which is a local one where it was made one.
+/// The layout's attributes of a symbol, with binding `STB_LOCAL` if it was made local.
 fn copied_attributes(symbol: &Symbol) -> SymbolAttributes
     ensures { result ≡ copied_attributes symbol.now }
 {
@@ -148,7 +148,7 @@ fn copied_attributes(symbol: &Symbol) -> SymbolAttributes
     }
 }
 
-/// No symbols yet, in the group's share of the part of a role.
+/// An empty symbol table with the size of the group's share of the part with this role.
 fn symbols_of(
     alloc: Global,
     layout: &Layout,
@@ -161,7 +161,7 @@ fn symbols_of(
     SymbolTable::new(alloc, part_of(layout, role), group, room)
 }
 
-/// No longer indexes yet, in the group's share of the part of a role.
+/// An empty table of extended section indexes with the size of the group's share of the part with this role.
 fn indexes_of(
     alloc: Global,
     layout: &Layout,
@@ -180,7 +180,7 @@ fn indexes_of(
     )
 }
 
-/// No room for longer indexes.
+/// A table of extended section indexes without any room.
 fn no_indexes(
     alloc: Global,
     layout: &Layout,
@@ -192,7 +192,7 @@ fn no_indexes(
     IndexTable::new(alloc, part_of(layout, role), group, 0, false)
 }
 
-/// The symbol of a section is written as a local one without a name.
+/// Writes the symbol of each section as a local symbol without a name.
 impl Sink<usize> for SymbolTableWriter {
     ghost use Rattle.wild_symbols.specs.SectionCalls.{SectionWritten, SectionRefused};
 
@@ -209,8 +209,8 @@ impl Sink<usize> for SymbolTableWriter {
 }
 
 impl SymbolTableWriter {
-    /// A dynamic symbol table: no symbols yet, with the room of the group's shares of `dynsym` and `dynstr`, and none for longer
-    /// section indexes. Memory is taken for these alone, here and never again.
+    /// An empty `.dynsym` with the sizes of the group's shares of `dynsym` and `dynstr`, and without room for extended section
+    /// indexes. Nothing else is allocated, here or later.
     pub fn new_dynamic(alloc: Global, layout: &Layout, group: usize) -> Result<Self, AllocError>
         requires strings { dynstr_start layout.now group + share_of layout.now group Dynstr < 2 ^ 32 }
         ensures { IfOk result (λ w. w ≡ no_dynamic_symbols layout.now group) }
@@ -227,9 +227,8 @@ impl SymbolTableWriter {
         })
     }
 
-    /// A table of all symbols: no symbols yet, with the room of the group's shares of `symtab_local`, `symtab_global`, `strtab`, and,
-    /// where these are there, of `symtab_shndx_local` and `symtab_shndx_global`. Memory is taken for these alone, here and never
-    /// again.
+    /// An empty `.symtab` with the sizes of the group's shares of `symtab_local`, `symtab_global` and `strtab`, and of
+    /// `symtab_shndx_local` and `symtab_shndx_global` if the layout has these. Nothing else is allocated, here or later.
     pub fn new(alloc: Global, layout: &Layout, group: usize) -> Result<Self, AllocError>
         requires strings { strtab_start layout.now group + share_of layout.now group Strtab < 2 ^ 32 }
         ensures { IfOk result (λ w. w ≡ no_symbols layout.now group) }
@@ -245,7 +244,7 @@ impl SymbolTableWriter {
         })
     }
 
-    /// Whether there is room for one symbol more, and for its longer index.
+    /// Checks that one more symbol and its extended section index fit.
     fn check_room(&self, is_local: bool, long: u32) -> Result<(), Error>
         ensures { result ≡ room_in_lists is_local long self.now }
     {
@@ -258,7 +257,7 @@ impl SymbolTableWriter {
         }
     }
 
-    /// Adds a symbol behind the others of its list, and its longer index.
+    /// Appends a symbol and its extended section index to their lists.
     fn push(&mut self, is_local: bool, entry: SymtabEntry, long: u32)
         requires symbol { symbols_used (list_of is_local self.old) + symtab_entry_size ≤ (list_of is_local self.old).room }
         requires index { length (indexes_of is_local self.old).bytes + index_room (indexes_of is_local self.old).each long ≤ (indexes_of is_local self.old).room }
@@ -273,8 +272,7 @@ impl SymbolTableWriter {
         }
     }
 
-    /// Writes a symbol of which that is said behind the others of its list, and its name with a short suffix behind the other
-    /// strings.
+    /// Appends a symbol with these fields, and its name with a short suffix.
     fn write_named(
         &mut self,
         is_local: bool,
@@ -293,13 +291,13 @@ impl SymbolTableWriter {
         Ok(())
     }
 
-    /// Writes a symbol of which that is said behind the others of its list, its longer section index, where each symbol has one or
-    /// its section needs it, behind the others of that list, and its name behind the other strings.
+    /// Appends a symbol with these fields to its list, and its name to the strings. Its extended section index is appended if
+    /// every symbol has one or its section needs it.
     ///
     /// # Errors
     ///
-    /// `InsufficientAllocation` exactly where the symbol, or else its longer section index, or else its name, does not fit what is
-    /// left of its share; nothing changes then.
+    /// `InsufficientAllocation` exactly if the symbol does not fit in the rest of its share, or otherwise its extended section
+    /// index, or otherwise its name. Then nothing changes.
     #[tactic(auto, using(crate::proofs::StringLemmas::joined_with_none))]
     pub fn write_entry(
         &mut self,
@@ -315,13 +313,13 @@ impl SymbolTableWriter {
         self.write_named(is_local, name, b"", told)
     }
 
-    /// Writes a symbol without a name behind the others of its list, and its longer section index, where each symbol has one or its
-    /// section needs it, behind the others of that list. Its name is told as the empty string, with which the strings of all begin.
+    /// Appends a symbol without a name. Its extended section index is appended if every symbol has one or its section needs
+    /// it. `st_name` is 0, the offset of the empty string at the start of the string table.
     ///
     /// # Errors
     ///
-    /// `InsufficientAllocation` exactly where the symbol, or else its longer section index, does not fit what is left of its share;
-    /// nothing changes then.
+    /// `InsufficientAllocation` exactly if the symbol does not fit in the rest of its share, or otherwise its extended section
+    /// index. Then nothing changes.
     pub fn write_unnamed(&mut self, is_local: bool, told: TableFields) -> Result<(), Error>
         ensures answered { result ≡ room_for_fields is_local None told.long self.old }
         ensures written { OnOk result (self.new ≡ with_fields is_local None told self.old) }
@@ -333,12 +331,12 @@ impl SymbolTableWriter {
         Ok(())
     }
 
-    /// Writes the symbols of the sections of a relocatable object as local ones without names, in their order. No memory is taken.
+    /// Writes the section symbols of a relocatable object in order, as local symbols without names. Nothing is allocated.
     ///
     /// # Errors
     ///
-    /// `InsufficientAllocation` exactly where a symbol, or else its longer section index, does not fit what is left of its share; only
-    /// what stands in front is written then.
+    /// `InsufficientAllocation` exactly if a symbol does not fit in the rest of its share, or otherwise its extended section
+    /// index. Only the symbols before it are then written.
     #[tactic(auto, using(crate::proofs::SectionRunLemmas::sections_written))]
     pub fn write_section_symbols(&mut self, layout: &Layout) -> Result<(), Error>
         ensures answered { result ≡ all_offered (section_calls layout.now) self.old }
@@ -347,7 +345,7 @@ impl SymbolTableWriter {
         give_section_symbols(layout, self)
     }
 
-    /// Writes the name of a symbol's stub, or else of its slot, as a local symbol.
+    /// Writes a local symbol that names a symbol's PLT stub, or otherwise its slot.
     fn write_slot_name(
         &mut self,
         layout: &Layout,
@@ -370,13 +368,14 @@ impl SymbolTableWriter {
         }
     }
 
-    /// Writes the names of the slot and of the stub of the symbol with that index as local symbols, where the layout's options and the
-    /// symbol ask for them: `NAME$got` and `NAME$plt`, with the address for their value, in the section of its part.
+    /// Writes local symbols that name the slot and the stub of the symbol with this index, if the options and the symbol
+    /// request them. `NAME$got` and `NAME$plt` have the address as their value, and the section of its part.
     ///
     /// # Errors
     ///
-    /// `MissingResolution` exactly where the part has no section, and `InsufficientAllocation` exactly where a symbol, or else its
-    /// longer section index, or else its name, does not fit what is left of its share; only what stands in front is written then.
+    /// `MissingResolution` exactly if the part has no section. `InsufficientAllocation` exactly if a symbol does not fit in
+    /// the rest of its share, or otherwise its extended section index, or otherwise its name. Only the symbols before it are
+    /// then written.
     pub fn write_got_plt_syms(
         &mut self,
         layout: &Layout,
@@ -397,13 +396,13 @@ impl SymbolTableWriter {
         Ok(())
     }
 
-    /// Writes a symbol behind the others of its list, its name behind the other strings, and, where each symbol has a longer section
-    /// index or `st_shndx` has no room for its section, that index behind the others of its list.
+    /// Appends a symbol to its list, and its name to the strings. Its extended section index is appended if every symbol has
+    /// one or `st_shndx` has no room for its section.
     ///
     /// # Errors
     ///
-    /// `InsufficientAllocation` exactly where the symbol, or else its longer section index, or else its name, does not fit what is
-    /// left of its share; nothing changes then.
+    /// `InsufficientAllocation` exactly if the symbol does not fit in the rest of its share, or otherwise its extended section
+    /// index, or otherwise its name. Then nothing changes.
     pub fn define_symbol(
         &mut self,
         is_local: bool,
@@ -420,12 +419,12 @@ impl SymbolTableWriter {
         self.write_entry(is_local, name, told(section, value, attributes))
     }
 
-    /// Writes a symbol that no section has, of value 0, and its name.
+    /// Appends an undefined symbol (`SHN_UNDEF`, value 0) and its name.
     ///
     /// # Errors
     ///
-    /// `InsufficientAllocation` exactly where the symbol, or else its longer section index, or else its name, does not fit what is
-    /// left of its share; nothing changes then.
+    /// `InsufficientAllocation` exactly if the symbol does not fit in the rest of its share, or otherwise its extended section
+    /// index, or otherwise its name. Then nothing changes.
     pub fn undefined_symbol(
         &mut self,
         is_local: bool,
@@ -440,13 +439,13 @@ impl SymbolTableWriter {
         self.define_symbol(is_local, name, SymbolSection::Raw(SHN_UNDEF), 0, attributes)
     }
 
-    /// Writes a symbol of the layout under a name, in the section with that number in `st_shndx`, at a value. It is a local
-    /// one by its binding, or where it was made one.
+    /// Appends a symbol of the layout under a name, with this `st_shndx` and value. It is local by its binding, or because it
+    /// was made local.
     ///
     /// # Errors
     ///
-    /// `InsufficientAllocation` exactly where the symbol, or else its longer section index, or else its name, does not fit what is
-    /// left of its share; nothing changes then.
+    /// `InsufficientAllocation` exactly if the symbol does not fit in the rest of its share, or otherwise its extended section
+    /// index, or otherwise its name. Then nothing changes.
     pub fn copy_symbol_shndx(
         &mut self,
         symbol: &Symbol,
@@ -469,13 +468,13 @@ impl SymbolTableWriter {
         )
     }
 
-    /// Writes a symbol of the layout under a name, in the section with that header index, at a value. It is a local one by
-    /// its binding, or where it was made one.
+    /// Appends a symbol of the layout under a name, with this value, in the section with this header index. It is local by its
+    /// binding, or because it was made local.
     ///
     /// # Errors
     ///
-    /// `InsufficientAllocation` exactly where the symbol, or else its longer section index, or else its name, does not fit what is
-    /// left of its share; nothing changes then.
+    /// `InsufficientAllocation` exactly if the symbol does not fit in the rest of its share, or otherwise its extended section
+    /// index, or otherwise its name. Then nothing changes.
     pub fn copy_symbol(
         &mut self,
         symbol: &Symbol,
@@ -494,13 +493,13 @@ impl SymbolTableWriter {
         self.define_symbol(is_local(symbol), name, section, value, attributes)
     }
 
-    /// Writes an absolute symbol of the layout, with its own value, under a name. It is a local one by its binding, or
-    /// where it was made one.
+    /// Appends an absolute symbol of the layout under a name, with its own value. It is local by its binding, or because it
+    /// was made local.
     ///
     /// # Errors
     ///
-    /// `InsufficientAllocation` exactly where the symbol, or else its longer section index, or else its name, does not fit what is
-    /// left of its share; nothing changes then.
+    /// `InsufficientAllocation` exactly if the symbol does not fit in the rest of its share, or otherwise its extended section
+    /// index, or otherwise its name. Then nothing changes.
     pub fn copy_absolute_symbol(&mut self, symbol: &Symbol, name: &[u8]) -> Result<(), Error>
         ensures answered { result ≡ room_for_symbol (is_local symbol.now) name.now (Raw shn_abs) self.old }
         ensures written { OnOk result (self.new ≡ with_copied name.now (Raw shn_abs) symbol.now.value symbol.now self.old) }
@@ -510,11 +509,11 @@ impl SymbolTableWriter {
         self.copy_symbol_shndx(symbol, name, SHN_ABS, symbol.value)
     }
 
-    /// Whether every table is full.
+    /// Checks that every table is full.
     ///
     /// # Errors
     ///
-    /// `ExcessiveAllocation` for the first table with room left, in the order of the roles of parts.
+    /// `ExcessiveAllocation` for the first table with unwritten bytes, in the order of the roles of parts.
     pub fn check_exhausted(&self) -> Result<(), Error>
         ensures { result ≡ left_over self.now }
     {
@@ -525,8 +524,8 @@ impl SymbolTableWriter {
         self.strtab.check_exhausted()
     }
 
-    /// The bytes of the group's share of the global symbols: those of the symbols, and then the room that is left.
-    /// Symbol k is read at 24 k.
+    /// The bytes of the group's share of the global symbols: those of the symbols, then the unwritten rest. Symbol k is read at
+    /// offset 24 k.
     pub fn symbols(&self) -> &[u8]
         ensures written { take (symbols_used self.now.globals) result.now ≡ symbol_bytes self.now.globals.symbols }
         ensures read { (k : ℕ) (d : Entry) → k < length self.now.globals.symbols → symtab_entry_at result.now (symtab_entry_size * k) ≡ slice_index_or self.now.globals.symbols k d }
@@ -535,8 +534,8 @@ impl SymbolTableWriter {
         self.globals.bytes()
     }
 
-    /// The bytes of the group's share of the local symbols: those of the symbols, and then the room that is left.
-    /// Symbol k is read at 24 k.
+    /// The bytes of the group's share of the local symbols: those of the symbols, then the unwritten rest. Symbol k is read at
+    /// offset 24 k.
     pub fn local_symbols(&self) -> &[u8]
         ensures written { take (symbols_used self.now.locals) result.now ≡ symbol_bytes self.now.locals.symbols }
         ensures read { (k : ℕ) (d : Entry) → k < length self.now.locals.symbols → symtab_entry_at result.now (symtab_entry_size * k) ≡ slice_index_or self.now.locals.symbols k d }
@@ -545,7 +544,7 @@ impl SymbolTableWriter {
         self.locals.bytes()
     }
 
-    /// The bytes of the group's share of the strings: those of the strings, and then the room that is left.
+    /// The bytes of the group's share of the strings: those of the strings, then the unwritten rest.
     pub fn strings(&self) -> &[u8]
         ensures written { take (length self.now.strtab.bytes) result.now ≡ self.now.strtab.bytes }
         ensures room { length result.now ≡ self.now.strtab.room + self.now.strtab.behind }

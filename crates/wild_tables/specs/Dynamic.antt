@@ -1,14 +1,14 @@
--- The dynamic section as a table, and what a loader finds in it (gABI, "Dynamic Section").
---   dynamic_bytes l room      the entries of the last file in a room of bytes, and zeros behind them
---   dynamic_records l room    these entries, and entries of zeros up to the room's end
---   IsNeeded d                the entry names a library
---   NeededAreOfLibraries      entries of groups' libraries do, and have the ranges of their fields
---   LengthsOfRecords          entries have 16 bytes each
---   LengthsOfDynamic          the bytes fill the room
---   RecordsStand              a reader finds these entries there, behind those of libraries
---   RecordsFit                they have the ranges of their fields
---   BehindNullIsNotRead       nothing behind DT_NULL is read
---   EntriesAreFound           the value of a tag is its entry's, also behind entries of libraries
+-- The bytes of .dynamic, and what a loader finds in it (gABI, "Dynamic Section").
+--   dynamic_bytes l room      the entries of the last file, and zeros up to the length room
+--   dynamic_records l room    these entries, and entries of zeros up to the length room
+--   IsNeeded d                the entry is a DT_NEEDED
+--   NeededAreOfLibraries      the entries of groups' libraries are DT_NEEDED, and fit in their fields
+--   LengthsOfRecords          an entry has 16 bytes
+--   LengthsOfDynamic          the bytes fill their share
+--   RecordsStand              a reader finds these entries, after those of libraries
+--   RecordsFit                they fit in their fields
+--   BehindNullIsNotRead       nothing after DT_NULL is read
+--   EntriesAreFound           the value of a tag is that of its entry, also after entries of libraries
 --   TablesAreNamed            the tables that a loader finds by their tags
 use Rattle.std.specs.Prelude.{◌≡◌, ◌≢◌, ℕ, ◌+◌, ◌-◌, ◌*◌, ◌/◌, ◌^◌, ◌<◌, ◌≤◌, true, List, [], ◌∷◌, ◌++◌, length, replicate, flat_map, All}
 use Rattle.wild_words.specs.Record.{spell}
@@ -30,45 +30,45 @@ use Rattle.wild_loader.specs.Tables.{tagged}
 abbrev pub entries_bytes : List DynamicEntry → List ℕ
 entries_bytes ds = flat_map (λ d. spell (dynamic_entry_fields d)) ds
 
--- the offset in the string table behind strings, each with its zero
+-- the offset in .dynstr after strings, each with a zero at its end
 abbrev pub behind_strings : ℕ → List NamedString → ℕ
 behind_strings at [] = at
 behind_strings at (s ∷ ss) = behind_strings (behind_text at s.text) ss
 
--- the entries in a room of bytes, and zeros behind them
+-- the bytes of the entries, and zeros up to the length room
 abbrev pub dynamic_bytes : Layout → ℕ → List ℕ
 dynamic_bytes l room = entries_bytes (dynamic_entries l) ++ replicate (room - dynamic_entry_size * dynamic_count l) 0
 
--- an entry of zeros, as DT_NULL
+-- an entry of zeros, which is a DT_NULL
 abbrev pub null_entry : DynamicEntry
 null_entry = record { tag = 0; value = 0 }
 
--- the entries, and entries of zeros up to the room's end; a rest that is no whole entry is not read
+-- the entries, and entries of zeros up to the length room; trailing bytes that are no whole entry are not read
 abbrev pub dynamic_records : Layout → ℕ → List DynamicEntry
 dynamic_records l room = dynamic_entries l ++ replicate (room / dynamic_entry_size - dynamic_count l) null_entry
 
 -- ---- entries of libraries
 
--- the entry names a library (gABI, "Shared Object Dependencies")
+-- the entry is a DT_NEEDED (gABI, "Shared Object Dependencies")
 abbrev pub IsNeeded : DynamicEntry → Type 0
 IsNeeded d = d.tag ≡ dt_needed
 
--- the entries of a group's libraries name libraries; where their strings begin below 2^64 they have the ranges of their fields
+-- the entries of groups' libraries are DT_NEEDED; they fit in their fields if the groups' strings begin below 2^64
 pub record NeededAreOfLibraries : Type 0 where
   pub names : (l : Layout) (gs : List Group) → All IsNeeded (flat_map (needed_entries l) gs)
   pub fit : (l : Layout) (gs : List Group) → All (λ (g : Group). g.dynstr_start < 2 ^ 64) gs → All DynamicEntryFits (flat_map (needed_entries l) gs)
 
--- ---- what stands there
+-- ---- lengths, and the records in the bytes
 
--- entries have 16 bytes each
+-- an entry has 16 bytes
 abbrev pub LengthsOfRecords : Type 0
 LengthsOfRecords = (ds : List DynamicEntry) → length (entries_bytes ds) ≡ dynamic_entry_size * length ds
 
--- the bytes fill the room
+-- the bytes fill their share
 abbrev pub LengthsOfDynamic : Type 0
 LengthsOfDynamic = (l : Layout) (room : ℕ) → dynamic_entry_size * dynamic_count l ≤ room → length (dynamic_bytes l room) ≡ room
 
--- behind entries of libraries: a reader finds as many entries as there is room for whole ones, and their bytes from the front on
+-- after entries of libraries: a reader finds as many entries as the bytes have whole ones, and their bytes from the start
 pub record RecordsAt (l : Layout) (front : List DynamicEntry) (room : ℕ) : Type 0 where
   pub count : (dynamic_entry_size * length front + room) / dynamic_entry_size ≡ length (front ++ dynamic_records l room)
   pub stand : Stands (entries_bytes front ++ dynamic_bytes l room) 0 (entries_bytes (front ++ dynamic_records l room))
@@ -76,22 +76,22 @@ pub record RecordsAt (l : Layout) (front : List DynamicEntry) (room : ℕ) : Typ
 abbrev pub RecordsStand : Type 0
 RecordsStand = (l : Layout) (front : List DynamicEntry) (room : ℕ) → dynamic_entry_size * dynamic_count l ≤ room → RecordsAt l front room
 
--- they have the ranges of their fields where the entries of the layout have them
+-- they fit in their fields if the entries of the layout do
 abbrev pub RecordsFit : Type 0
 RecordsFit = (l : Layout) (room : ℕ) → All DynamicEntryFits (dynamic_entries l) → All DynamicEntryFits (dynamic_records l room)
 
--- nothing behind DT_NULL is read
+-- nothing after DT_NULL is read
 abbrev pub BehindNullIsNotRead : Type 0
 BehindNullIsNotRead = (l : Layout) (rest : List DynamicEntry) → needs_dynamic l.kind ≡ true → before_null (dynamic_entries l ++ rest) ≡ before_null (dynamic_entries l)
 
 -- ---- what a reader finds
 
--- the value of a tag, as a reader finds it, is its entry's: none where that is left out
+-- the value of a tag, as a reader finds it, is that of its entry; none if the layout has no value for it
 abbrev pub EntriesAreFound : Type 0
 EntriesAreFound = (l : Layout) (front rest : List DynamicEntry) (tag : DynamicTag) → All IsNeeded front → needs_dynamic l.kind ≡ true → tag ≢ tags.Null
     → tagged (dynamic_number tag) (before_null (front ++ (dynamic_entries l ++ rest))) ≡ dynamic_entry l tag
 
--- the tables that a loader finds by their tags: entries with addends, packed relocations, and the entries of stubs
+-- the tables that a loader finds by their tags: .rela.dyn, .relr.dyn and .rela.plt
 pub record NamesTables (l : Layout) (ds : List DynamicEntry) : Type 0 where
   pub entries : tagged dt_rela (before_null ds) ≡ dynamic_entry l tags.Rela
   pub entries_size : tagged dt_relasz (before_null ds) ≡ dynamic_entry l tags.RelaSize

@@ -1,6 +1,6 @@
--- Words of 8 bytes, one behind the other, and the bytes of stubs.
---   GotWords   what callers see of a table of words: the words, and how many bytes their part has
---   Stubs      the same of stubs: their bytes
+-- Consecutive words of 8 bytes, and the bytes of stubs.
+--   GotWords   what callers see of a table of GOT words: the words, and the size of its share in bytes
+--   Stubs      the same for stubs: their bytes, and the size of their share
 use Rattle.std.specs.Prelude.{ℕ, ◌*◌, ◌≤◌, List, length, take}
 use Rattle.wild_relr.specs.Written.{words_in, IsSpelled}
 
@@ -11,7 +11,7 @@ pub record GotWords : Type 0 where
 abbrev pub words_of_part : List ℕ → ℕ → GotWords
 words_of_part bytes n = record { words = words_in bytes n; room = length bytes }
 
--- the words lie in the part
+-- n words fit in the share, and are written there
 pub record IsWordTable (bytes : List ℕ) (n : ℕ) : Type 0 where
   pub fits : 8 * n ≤ length bytes
   pub spelled : IsSpelled bytes n

@@ -1,9 +1,9 @@
--- How much of their rooms the tables of a group use.
---   rooms t            what each table has and uses, in the order of roles
---   room_for_all l t   each table has its room, or InsufficientAllocation of the first that has not
---   left_over l t      no table has room left, or ExcessiveAllocation of the first that has
---   Fit t              each table fits its part
---   slot_answer, copy_answer   what is answered for a slot, and for a copied symbol
+-- Sizes and uses of the tables of a group.
+--   rooms t            size and use of each table, in the order of roles
+--   room_for_all l t   each table fits in its share, or InsufficientAllocation for the first that does not
+--   left_over l t      each share is full, or ExcessiveAllocation for the first that is not
+--   Fit t              each table fits in its share
+--   slot_answer, copy_answer   the result for a slot, and for a COPY entry
 use Rattle.std.specs.Prelude.{ℕ, ◌-◌, ◌*◌, ◌^◌, ◌≤◌, nat_lt, min, if◌then◌else◌, List, [], ◌∷◌, length, Option, Some, None, Result, Ok, Err}
 use Rattle.wild_records.specs.declared.relocations.Rela.{Rela}
 use Rattle.wild_records.specs.Relocations.{rela_size, relr_size}
@@ -24,7 +24,7 @@ use Rattle.wild_tables.specs.declared.refused.Refused.TheVariants as refused
 use Rattle.wild_tables.specs.declared.room.Room.{Room}
 use Rattle.wild_tables.specs.Tables.{Tables, packed_used}
 
--- a table's room: what it has, and what of it is used
+-- size and use of a table
 abbrev pub words_room : Role → GotWords → Room
 words_room r t = record { role = r; used = 8 * length t.words; given = t.room }
 
@@ -49,49 +49,49 @@ rooms t =
     ∷ packed_room t.packed
     ∷ []
 
--- the first that has too little room
+-- the first share that is too small
 abbrev pub first_short : Layout → ℕ → List Room → Result (Unit {0}) Error
 first_short l group [] = Ok tt
 first_short l group (r ∷ rs) = if nat_lt r.given r.used then Err (insufficient (part_of l r.role) group r.given r.used) else first_short l group rs
 
--- the first that has room left
+-- the first share that is too large
 abbrev pub first_left : Layout → ℕ → List Room → Result (Unit {0}) Error
 first_left l group [] = Ok tt
 first_left l group (r ∷ rs) = if nat_lt r.used r.given then Err (excessive (part_of l r.role) group r.given r.used) else first_left l group rs
 
--- each table has its room; else by how much the first has not
+-- each table fits in its share; otherwise the fault has both sizes of the first that does not
 abbrev pub room_for_all : Layout → Tables → Result (Unit {0}) Error
 room_for_all l t = first_short l t.group (rooms t)
 
--- no table has room left; else by how much the first has, in the order of roles
+-- each share is full; otherwise the fault has both sizes of the first that is not, in the order of roles
 abbrev pub left_over : Layout → Tables → Result (Unit {0}) Error
 left_over l t = first_left l t.group (rooms t)
 
--- a number of bytes that is too large for one is 2^64 - 1
+-- the number of used bytes, at most 2^64 - 1
 abbrev pub capped : Room → Room
 capped r = record r { used = min (2 ^ 64 - 1) r.used }
 
--- the two tables of what stands once have their room
+-- the two tables with the reserved words and the module pair fit in their shares
 abbrev pub room_for_header : Layout → Tables → Result (Unit {0}) Error
 room_for_header l t = first_short l t.group (capped (words_room role.Got t.got) ∷ entries_room role.RelaDynGeneral t.general ∷ [])
 
--- these two fit their parts
+-- got and rela_dyn_general fit in their shares
 pub record HeaderFits (t : Tables) : Type 0 where
   pub got : 8 * length t.got.words ≤ t.got.room
   pub general : rela_size * length t.general.entries ≤ t.general.room
 
--- the general entries have their room
+-- the entries of rela_dyn_general fit in their share
 abbrev pub room_for_general : Layout → Tables → Result (Unit {0}) Error
 room_for_general l t = first_short l t.group (entries_room role.RelaDynGeneral t.general ∷ [])
 
--- the words have their room, in the part that the tables were made for
+-- the RELR words fit in their share; the fault has the part that the tables were created with
 abbrev pub room_for_block : Tables → Result (Unit {0}) Error
 room_for_block t =
     if nat_lt t.packed.room (packed_used t)
     then Err (record { fault = faults.InsufficientAllocation t.packed_part t.group t.packed.room (packed_used t); at = nowhere })
     else Ok tt
 
--- each table fits its part
+-- each table fits in its share
 pub record Fit (t : Tables) : Type 0 where
   pub got : 8 * length t.got.words ≤ t.got.room
   pub block : 8 * length t.block.words ≤ t.block.room
@@ -101,13 +101,13 @@ pub record Fit (t : Tables) : Type 0 where
   pub general : rela_size * length t.general.entries ≤ t.general.room
   pub packed : packed_used t ≤ t.packed.room
 
--- what is answered for a slot: the room that lacks, else what failed
+-- the result for a slot: the fault of a share that is too small, otherwise the slot's own fault
 abbrev pub slot_answer : Result (Unit {0}) Error → Option SlotFault → Result (Unit {0}) Refused
 slot_answer (Err e) fault = Err (refused.Room e)
 slot_answer (Ok u) (Some f) = Err (refused.Fault f)
 slot_answer (Ok u) None = Ok tt
 
--- what is answered for a copied symbol: what it lacks, else the room that lacks
+-- the result for a COPY entry: the fault of the symbol, otherwise that of a share that is too small
 abbrev pub copy_answer : Result Rela Fault → Result (Unit {0}) Error → Result (Unit {0}) Error
 copy_answer (Err f) room = Err (record { fault = f; at = nowhere })
 copy_answer (Ok e) room = room

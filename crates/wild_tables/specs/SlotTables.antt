@@ -1,11 +1,11 @@
--- The tables of a group with more in them.
---   with_placed l at ws t   with words from a place on, each in its part with its entry in its own
---   with_slot l r stub t    with the slots of a resolution, and its stub: its bytes, or its distance where that is too far
---   with_header l t         with what stands once
---   with_block base n t     with the places of the block, packed
---   with_general e t        with an entry of `rela_dyn_general`
---   copied_by l i           the entry by which a loader copies the bytes of symbol i; or what the symbol lacks
---   with_copy l i t         with a copied symbol
+-- The tables of a group with something appended.
+--   with_placed l at ws t   the words of a slot at address at, and their entries, each in its part
+--   with_slot l r stub t    the slots of a resolution, and its stub, given by its bytes or by a distance that is out of range
+--   with_header l t         the reserved words of the GOT and the module pair
+--   with_block base n t     the RELR words of n slots in `got_relr`
+--   with_general e t        an entry of `rela_dyn_general`
+--   copied_by l i           the COPY entry of symbol i, or the fault of a symbol without resolution or index
+--   with_copy l i t         the COPY entry of symbol i
 use Rattle.std.specs.Prelude.{ℕ, ℤ, if◌then◌else◌, List, [], ◌∷◌, Option, Some, None, option_and_then, unwrap_or, Result, Ok, Err, slice_get}
 use Rattle.wild_records.specs.declared.relocations.Rela.{Rela}
 use Rattle.wild_reloc.specs.declared.dynamic.DynamicRelocationKind.{DynamicRelocationKind}
@@ -28,7 +28,7 @@ use Rattle.wild_needs.specs.SlotShares.{storage_words, header_words}
 use Rattle.wild_slot.specs.SlotParts.{type_of, entry_at, slot_words, slot_entries, flat_places}
 use Rattle.wild_tables.specs.Tables.{Tables, more_words, more_stubs, more_entries, with_words}
 
--- places by words of their own
+-- each place recorded by its own address word
 abbrev pub after_flats : State → List ℕ → State
 after_flats s [] = s
 after_flats s (p ∷ ps) = after_flats (after_flat s p) ps
@@ -36,7 +36,7 @@ after_flats s (p ∷ ps) = after_flats (after_flat s p) ps
 abbrev pub more_places : List ℕ → Words → Words
 more_places ps t = record { state = after_flats t.state ps; room = t.room }
 
--- words from a place on, each in its part with its entry in its own
+-- the words of a slot at address at, and their entries, each in its part
 abbrev pub with_placed : Layout → ℕ → List SlotWord → Tables → Tables
 with_placed l at ws t = record t {
   got = more_words (slot_words words.Got l.options.relr at ws) t.got;
@@ -47,7 +47,7 @@ with_placed l at ws t = record t {
   packed = more_places (flat_places l.options.relr at ws) t.packed;
 }
 
--- the bytes of the stub, or by how much it is too far from its slot
+-- the stub's distance from its slot if that is out of range; bytes_of has the stub's bytes otherwise
 abbrev pub distance_of : Result (List ℕ) ℕ → Option ℕ
 distance_of (Ok bytes) = None
 distance_of (Err distance) = Some distance
@@ -56,14 +56,14 @@ abbrev pub bytes_of : Result (List ℕ) ℕ → List ℕ
 bytes_of (Ok bytes) = bytes
 bytes_of (Err distance) = []
 
--- what is written for a resolution of a layout
+-- the slots of a resolution in a layout
 abbrev pub content_of : Layout → Resolution → Result (List ℕ) ℕ → SlotContent
 content_of l r stub = slot (setting_of l) (distance_of stub) r
 
 abbrev pub stub_of : SlotContent → Result (List ℕ) ℕ → List ℕ
 stub_of c stub = if c.has_stub then bytes_of stub else []
 
--- words from a place on, and a stub
+-- the words of a slot at address at, and a stub
 abbrev pub with_content : Layout → ℕ → List SlotWord → List ℕ → Tables → Tables
 with_content l at ws stub t = record (with_placed l at ws t) { stubs = more_stubs stub t.stubs }
 
@@ -71,33 +71,33 @@ with_content l at ws stub t = record (with_placed l at ws t) { stubs = more_stub
 abbrev pub with_slot : Layout → Resolution → Result (List ℕ) ℕ → Tables → Tables
 with_slot l r stub t = with_content l (unwrap_or r.got_address 0) (content_of l r stub).words (stub_of (content_of l r stub) stub) t
 
--- ---- what stands once
+-- ---- the start of the GOT, and single entries
 
--- the reserved words at the start of the table, which are 0 in the file, and the pair of the output's own thread-local data
--- with its entry
+-- the reserved words at the start of the GOT, which are 0 in the file, and the module pair of the output's own TLS segment with its
+-- entry
 abbrev pub with_header : Layout → Tables → Tables
 with_header l t = record t {
   got = more_words (header_words l) t.got;
   general = more_entries (slot_entries entries.General l.machine l.options.relr (unwrap_or l.tlsld 0) (storage_words l)) t.general;
 }
 
--- the places of n slots from base on, packed by a block of words
+-- the places of n consecutive slots from base, in RELR by one address word and its bitmaps
 abbrev pub with_block : ℕ → ℕ → Tables → Tables
 with_block base n t = with_words (after_block t.packed.state base n) t
 
--- an entry of `rela_dyn_general` more
+-- an entry appended to `rela_dyn_general`
 abbrev pub with_general : Rela → Tables → Tables
 with_general e t = record t { general = more_entries (e ∷ []) t.general }
 
--- the entry by which a loader fills a place by a symbol (gABI, "Relocation")
+-- the RELA entry with which a loader fills a place from a symbol (gABI, "Relocation")
 abbrev pub symbol_entry : Layout → ℕ → ℤ → ℕ → DynamicRelocationKind → Rela
 symbol_entry l at addend symbol kind = record { offset = at; number = type_of l.machine kind; symbol = symbol; addend = addend }
 
--- the entry by which a loader copies the symbol's bytes to its address in this output
+-- the COPY entry, with which a loader copies the symbol's bytes to its address in this output
 abbrev pub copy_entry : Layout → Resolution → ℕ → Rela
 copy_entry l r d = entry_at l.machine r.raw_value (record { kind = Copy; symbol = d; addend = 0 })
 
--- what was decided of the symbol that defines symbol i
+-- the resolution of the symbol that defines symbol i
 abbrev pub resolution_of : Layout → ℕ → Option Resolution
 resolution_of l i = option_and_then (λ (s : Symbol). s.resolution) (slice_get l.symbols (canonical l i))
 
@@ -109,7 +109,7 @@ abbrev pub copied_as : Layout → ℕ → Option Resolution → Result Rela Faul
 copied_as l i None = Err (faults.MissingResolution missing.Address i)
 copied_as l i (Some r) = copied_at l i r r.dynamic_symbol_index
 
--- the entry by which a loader copies the bytes of symbol i; or what the symbol lacks: an address, an index
+-- the COPY entry of symbol i, or the fault of a symbol without a resolution or without a dynamic symbol index
 abbrev pub copied_by : Layout → ℕ → Result Rela Fault
 copied_by l i = copied_as l i (resolution_of l i)
 
@@ -117,6 +117,6 @@ abbrev pub with_copied : Result Rela Fault → Tables → Tables
 with_copied (Err f) t = t
 with_copied (Ok e) t = with_general e t
 
--- a copied symbol
+-- the COPY entry of symbol i appended; nothing for a symbol with a fault
 abbrev pub with_copy : Layout → ℕ → Tables → Tables
 with_copy l i t = with_copied (copied_by l i) t

@@ -1,8 +1,8 @@
--- The tables of a group: words of slots, stubs, and dynamic entries.
+-- The tables of a group: GOT words, stubs, RELA entries and RELR words.
 --   Tables                         what callers see of them
---   with_address l place value t   the tables with one address more
---   with_flat l place value t      the same, by a word of its own
---   room_for l place t             the table of a place has its room, or InsufficientAllocation
+--   with_address l place value t   with an address at a place recorded, in RELR or by a RELA entry
+--   with_flat l place value t      the same, in RELR by its own address word
+--   room_for l place t             the table of a place fits in its share, or InsufficientAllocation
 use Rattle.std.specs.Prelude.{ℕ, ◌*◌, nat_lt, if◌then◌else◌, List, [], ◌∷◌, ◌++◌, length, Result, Ok, Err}
 use Rattle.wild_records.specs.declared.relocations.Rela.{Rela}
 use Rattle.wild_records.specs.Relocations.{rela_size, relr_size}
@@ -21,7 +21,7 @@ use Rattle.wild_tables.specs.Words.{Words}
 use Rattle.wild_tables.specs.GotWords.{GotWords, Stubs}
 use Rattle.wild_slot.specs.SlotParts.{type_of, address_entry}
 
--- a group's tables, in the order of their roles, and the place of the part of the last one
+-- a group's tables in the order of their roles, and the index of the part of the last one
 pub record Tables : Type 0 where
   pub group : ℕ
   pub got : GotWords
@@ -33,11 +33,11 @@ pub record Tables : Type 0 where
   pub packed : Words
   pub packed_part : ℕ
 
--- how many bytes the entries have
+-- the number of bytes of the entries of rela_dyn_relative
 abbrev pub relative_used : Tables → ℕ
 relative_used t = rela_size * length t.relative.entries
 
--- how many bytes the words have
+-- the number of bytes of the RELR words
 abbrev pub packed_used : Tables → ℕ
 packed_used t = relr_size * length t.packed.state.words
 
@@ -47,7 +47,7 @@ no_words l group r = record { words = []; room = share_of l group r }
 abbrev pub no_list : Layout → ℕ → Role → Entries
 no_list l group r = record { entries = []; room = share_of l group r }
 
--- no entry, no stub and no word, in the group's shares
+-- empty tables with the sizes of the group's shares
 abbrev pub no_entries : Layout → ℕ → Tables
 no_entries l group = record {
   group = group;
@@ -61,13 +61,13 @@ no_entries l group = record {
   packed_part = part_of l role.RelrDyn;
 }
 
--- ---- addresses of a movable output
+-- ---- addresses in outputs with relative relocations
 
 -- the type that adds the base (x86-64 psABI and aaelf64, "Relocation Types": R_X86_64_RELATIVE, R_AARCH64_RELATIVE)
 abbrev pub relative_type : Machine → ℕ
 relative_type m = type_of m Relative
 
--- the entry by which a loader stores base plus value at the place
+-- the RELATIVE entry, with which a loader stores base plus value at the place
 abbrev pub relative_entry : Layout → ℕ → ℕ → Rela
 relative_entry l place value = address_entry l.machine place value
 
@@ -80,42 +80,42 @@ more_stubs bytes t = record { bytes = t.bytes ++ bytes; room = t.room }
 abbrev pub more_entries : List Rela → Entries → Entries
 more_entries es t = record { entries = t.entries ++ es; room = t.room }
 
--- one entry more
+-- a RELATIVE entry appended
 abbrev pub with_entry : Layout → ℕ → ℕ → Tables → Tables
 with_entry l place value t = record t { relative = more_entries (relative_entry l place value ∷ []) t.relative }
 
--- other words
+-- with other RELR words
 abbrev pub with_words : State → Tables → Tables
 with_words s t = record t { packed = record { state = s; room = t.packed.room } }
 
--- one address more: a place that is packed, or an entry
+-- with an address at a place recorded: in RELR if the layout packs the place, otherwise by a RELA entry
 abbrev pub with_address : Layout → ℕ → ℕ → Tables → Tables
 with_address l place value t = if packs l place then with_words (after t.packed.state place) t else with_entry l place value t
 
--- the same, by a word of its own
+-- the same, in RELR by its own address word
 abbrev pub with_flat : Layout → ℕ → ℕ → Tables → Tables
 with_flat l place value t = if packs l place then with_words (after_flat t.packed.state place) t else with_entry l place value t
 
--- what stands at the place: the value where the place is packed, since a loader adds the base to it; else 0
+-- the file's content of the place: the value in RELR, since a loader adds the base to it; 0 with a RELA entry
 abbrev pub site_word : Layout → ℕ → ℕ → ℕ
 site_word l place value = if packs l place then value else 0
 
--- ---- their room
+-- ---- sizes
 
--- the entries have their room; else by how much
+-- the entries of rela_dyn_relative fit in their share; otherwise the fault has both sizes
 abbrev pub room_for_entries : Layout → Tables → Result (Unit {0}) Error
 room_for_entries l t =
     if nat_lt t.relative.room (relative_used t)
     then Err (insufficient (part_of l role.RelaDynRelative) t.group t.relative.room (relative_used t))
     else Ok tt
 
--- the words have their room; else by how much
+-- the RELR words fit in their share; otherwise the fault has both sizes
 abbrev pub room_for_words : Layout → Tables → Result (Unit {0}) Error
 room_for_words l t =
     if nat_lt t.packed.room (packed_used t)
     then Err (insufficient (part_of l role.RelrDyn) t.group t.packed.room (packed_used t))
     else Ok tt
 
--- the table that the address at a place goes to has its room
+-- the table in which the address at a place is recorded fits in its share
 abbrev pub room_for : Layout → ℕ → Tables → Result (Unit {0}) Error
 room_for l place t = if packs l place then room_for_words l t else room_for_entries l t

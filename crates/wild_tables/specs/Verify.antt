@@ -1,7 +1,7 @@
 -- Whether sizes of parts are those that a resolution needs.
---   open_setting kind options         what slots ask of an output, where each address is one of the thread-local data
---   needed_sizes kind options r       the bytes of a resolution's slots in the parts, in the order of roles
---   first_difference i given needed   the sizes are what is needed, or the first that is not
+--   open_setting kind options         the output's settings that slots depend on, with a TLS segment that contains every address
+--   needed_sizes kind options r       the bytes that a resolution's slots need of each part, in the order of roles
+--   first_difference i given needed   the sizes are those needed, or the fault of the first that is not
 use Rattle.std.specs.Prelude.{ℕ, ◌+◌, ◌-◌, ◌*◌, ◌^◌, nat_lt, if◌then◌else◌, List, [], ◌∷◌, length, None, unwrap_or, Result, Ok, Err}
 use Rattle.wild_records.specs.Relocations.{rela_size, relr_size}
 use Rattle.wild_types.specs.declared.kind.Machine.TheVariants.{X86_64}
@@ -19,14 +19,14 @@ use Rattle.wild_slot.specs.declared.slot_parts.EntryPart.TheVariants as entries
 use Rattle.wild_slot.specs.Slots.{SlotContent, slot}
 use Rattle.wild_slot.specs.SlotParts.{slot_words, slot_entries, flat_places}
 
--- sizes do not hang on where the thread-local data are, as long as the symbol is in them
+-- sizes do not depend on the bounds of the TLS segment, as long as the symbol lies in it
 abbrev pub open_setting : OutputKind → Options → Setting
 open_setting kind options = record { kind = kind; relr = options.relr; tls = record { start = 0; end = 2 ^ 64 - 1; align = 1 }; thread_pointer = 0 }
 
 abbrev pub words_size : WordPart → Options → ℕ → List SlotWord → ℕ
 words_size part options at ws = 8 * length (slot_words part options.relr at ws)
 
--- how many entries there are does not hang on the machine
+-- the number of entries does not depend on the machine, so any machine will do
 abbrev pub entries_size : EntryPart → Options → ℕ → List SlotWord → ℕ
 entries_size part options at ws = rela_size * length (slot_entries part X86_64 options.relr at ws)
 
@@ -42,11 +42,11 @@ content_sizes options at c =
     ∷ relr_size * length (flat_places options.relr at c.words)
     ∷ 0 ∷ 0 ∷ 0 ∷ 0 ∷ 0 ∷ 0 ∷ 0 ∷ 0 ∷ 0 ∷ 0 ∷ 0 ∷ 0 ∷ 0 ∷ 0 ∷ 0 ∷ 0 ∷ 0 ∷ 0 ∷ []
 
--- of the slots up to a fault
+-- the bytes that the slots before the first fault need
 abbrev pub needed_sizes : OutputKind → Options → Resolution → List ℕ
 needed_sizes kind options r = content_sizes options (unwrap_or r.got_address 0) (slot (open_setting kind options) None r)
 
--- of the part in that place
+-- the fault has the index i of the role
 abbrev pub first_difference : ℕ → List ℕ → List ℕ → Result (Unit {0}) Error
 first_difference i [] ns = Ok tt
 first_difference i (g ∷ gs) [] = Ok tt

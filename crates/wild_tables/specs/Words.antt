@@ -1,11 +1,11 @@
--- Words of packed relative relocations in their part.
---   Words   what callers see of a table: its words with their run, and how many bytes its part has
+-- RELR words in a group's share of a part.
+--   Words   what callers see of a table: its words with the open run, and the size of its share in bytes
 use Rattle.std.specs.Prelude.{ℕ, List, length}
 use Rattle.wild_relr.specs.Packing.{State, Follows}
 use Rattle.wild_relr.specs.declared.writer.RelrWriter.{RelrWriter}
 use Rattle.wild_relr.specs.Written.{state, Lies}
 
--- the words of a table with their run, and how many bytes its part has
+-- the words of a table with the open run, and the size of its share in bytes
 pub record Words : Type 0 where
   pub state : State
   pub room : ℕ
@@ -13,7 +13,7 @@ pub record Words : Type 0 where
 abbrev pub words_of_table : List ℕ → RelrWriter → Words
 words_of_table bytes w = record { state = state bytes w; room = length bytes }
 
--- the words lie in the part, and the run stands as they say
+-- the words fit in the share, and the state of the open run agrees with them
 pub record IsTable (bytes : List ℕ) (w : RelrWriter) : Type 0 where
   pub lies : Lies bytes w
   pub follows : Follows (state bytes w)

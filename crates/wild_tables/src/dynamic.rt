@@ -1,4 +1,4 @@
-//! The dynamic section of the last file (gABI, "Dynamic Section").
+//! The entries of `.dynamic` that the last file writes (gABI, "Dynamic Section").
 ghost use Rattle.std.specs.Prelude.{◌≡◌, ◌+◌, ◌*◌, ◌≤◌, ◌++◌, [], ◌∷◌, length, take, replicate};
 ghost use Rattle.wild_records.specs.Dynamic.{dynamic_entry_size};
 ghost use Rattle.wild_needs.specs.Dynamic.{entry_of, tag_entries, dynamic_count};
@@ -11,14 +11,14 @@ use wild_records::abi::dynamic::{DT_AUXILIARY, DT_RPATH, DT_RUNPATH, DT_SONAME};
 use wild_types::Layout;
 use wild_words::{Bytes, put};
 
-/// Zeros over all bytes.
+/// Fills all bytes with zeros.
 pub fn write_unused(out: &mut [u8])
     ensures { out.new ≡ replicate (length out.old) 0 }
 {
     out.fill(0);
 }
 
-/// An entry at an offset; answers the offset behind it.
+/// Writes an entry at an offset, and returns the offset after it.
 #[tactic(auto, using(crate::proofs::DynamicLemmas::entry_put, crate::proofs::DynamicLemmas::entry_room))]
 fn write_entry(out: &mut [u8], at: usize, entry: DynamicEntry) -> usize
     requires { at + dynamic_entry_size ≤ length out.old }
@@ -32,7 +32,7 @@ fn write_entry(out: &mut [u8], at: usize, entry: DynamicEntry) -> usize
     at + DynamicEntry::SIZE
 }
 
-/// The entry of a tag, where it has a value, at an offset; answers the offset behind it.
+/// Writes the entry of a tag at an offset, if the layout has a value for it, and returns the offset after it.
 fn write_tag(layout: &Layout, tag: DynamicTag, out: &mut [u8], at: usize) -> usize
     requires { at + dynamic_entry_size * length (entry_of layout.now tag) ≤ length out.old }
     ensures at { result ≡ at + dynamic_entry_size * length (entry_of layout.now tag) }
@@ -52,7 +52,7 @@ fn write_tag(layout: &Layout, tag: DynamicTag, out: &mut [u8], at: usize) -> usi
     }
 }
 
-/// The entries with values of their own at an offset; answers the offset behind them.
+/// Writes the entries whose values are not offsets of strings, and returns the offset after them.
 #[tactic(auto, using(crate::proofs::DynamicLemmas::tag_more, crate::proofs::DynamicLemmas::tag_count), unfolding(wild_needs::specs::Dynamic::tag_entries, wild_needs::specs::Dynamic::all_tags))]
 fn write_tags(layout: &Layout, out: &mut [u8], at: usize) -> usize
     requires { at + dynamic_entry_size * length (tag_entries layout.now) ≤ length out.old }
@@ -69,14 +69,14 @@ fn write_tags(layout: &Layout, out: &mut [u8], at: usize) -> usize
     at
 }
 
-/// Where the next entry stands, and where the string that it names stands in the string table.
+/// The offset of the next entry, and the offset of its string in `.dynstr`.
 #[derive(Clone, Copy)]
 struct Cursor {
     at: usize,
     offset: u64,
 }
 
-/// The entry of a string; answers where the next ones stand.
+/// Writes the entry of a string, and returns the offsets of the next ones.
 fn write_string(out: &mut [u8], cursor: Cursor, number: u64, text: &[u8]) -> Cursor
     requires { cursor.at + dynamic_entry_size ≤ length out.old }
     ensures at { result.at ≡ cursor.at + dynamic_entry_size }
@@ -94,7 +94,7 @@ fn write_string(out: &mut [u8], cursor: Cursor, number: u64, text: &[u8]) -> Cur
     }
 }
 
-/// The entry of a string that is there.
+/// Writes the entry of a string if there is one.
 #[tactic(auto, using(crate::proofs::DynamicLemmas::option_none, crate::proofs::DynamicLemmas::option_some))]
 fn write_option(out: &mut [u8], cursor: Cursor, number: u64, text: &Option<Bytes>) -> Cursor
     requires { cursor.at + dynamic_entry_size * length (named number text.now) ≤ length out.old }
@@ -109,7 +109,7 @@ fn write_option(out: &mut [u8], cursor: Cursor, number: u64, text: &Option<Bytes
     }
 }
 
-/// The entries of the auxiliary strings.
+/// Writes the `DT_AUXILIARY` entries.
 #[tactic(auto, using(crate::proofs::DynamicLemmas::string_more, crate::proofs::DynamicLemmas::strings_end))]
 fn write_auxiliary(out: &mut [u8], cursor: Cursor, texts: &[Bytes]) -> Cursor
     requires { cursor.at + dynamic_entry_size * length texts.now ≤ length out.old }
@@ -125,7 +125,7 @@ fn write_auxiliary(out: &mut [u8], cursor: Cursor, texts: &[Bytes]) -> Cursor
     cursor
 }
 
-/// The entries that name strings, from the front on; answers the offset behind them.
+/// Writes the entries that refer to strings, at the start of `out`, and returns the offset after them.
 #[tactic(auto, using(crate::proofs::DynamicLemmas::option_bytes, crate::proofs::DynamicLemmas::option_count, crate::proofs::DynamicLemmas::no_strings), unfolding(wild_needs::specs::DynamicStrings::named_strings))]
 fn write_strings(layout: &Layout, out: &mut [u8]) -> usize
     requires { dynamic_entry_size * length (named_strings layout.now) ≤ length out.old }
@@ -151,7 +151,7 @@ fn write_strings(layout: &Layout, out: &mut [u8]) -> usize
     write_auxiliary(out, cursor, options.auxiliary.as_slice()).at
 }
 
-/// Writes the entries of the last file into their room, and zeros behind them.
+/// Writes the entries of the last file, and fills the rest of `out` with zeros.
 #[tactic(auto, using(wild_needs::proofs::DynamicLemmas::length_dynamic_entries, crate::proofs::DynamicLemmas::whole_entries))]
 pub fn write_dynamic(layout: &Layout, out: &mut [u8])
     requires { dynamic_entry_size * dynamic_count layout.now ≤ length out.old }
@@ -162,8 +162,8 @@ pub fn write_dynamic(layout: &Layout, out: &mut [u8])
     write_unused(&mut out[at..]);
 }
 
-/// The entries of libraries name libraries. Behind them the bytes of the last file's entries fill their room, a reader
-/// finds these entries there and nothing behind `DT_NULL`, and by each tag the value of its entry.
+/// The entries of libraries are `DT_NEEDED` entries. After them come the last file's entries and zeros, which fill their
+/// share exactly. A reader finds these entries there, ignores all after `DT_NULL`, and finds by each tag its entry's value.
 pub fn dynamic_sections_are_read()
     ensures needed { NeededAreOfLibraries }
     ensures records { LengthsOfRecords }

@@ -5,7 +5,7 @@ ghost use Rattle.wild_tables.specs.SlotLaws.{EachWordStands, WordsStandInOrder, 
 use wild_records::rela_is_read;
 use wild_relr::{pieces_are_recorded, words_are_read};
 
-/// Entries have 24 bytes each, and each is read where it stands.
+/// A RELA entry has 24 bytes, and entry k is read at offset 24 k.
 pub fn entries_are_read()
     ensures lengths { LengthsOfEntries }
     ensures read { EntriesAreRead }
@@ -13,12 +13,12 @@ pub fn entries_are_read()
     rela_is_read();
 }
 
-/// A loader decodes the places that words stand for.
+/// A loader decodes RELR words to the places that `wild_relr` says.
 pub fn loaders_agree()
     ensures { LoadersAgree }
 {}
 
-/// A loader finds each place that was recorded, and no other.
+/// A loader finds each place that was recorded in RELR words, and no other.
 pub fn places_are_loaded()
     ensures { PlacesAreLoaded }
 {
@@ -26,7 +26,8 @@ pub fn places_are_loaded()
     loaders_agree();
 }
 
-/// Each word of a slot stands in its part, and each that a loader fills has one entry or RELR word, which names its place.
+/// Each word of a slot is in exactly one of `got` and `got_relr`. Each word that a loader fills has exactly one RELA entry or
+/// RELR word with its place.
 pub fn slots_are_filled()
     ensures stand { EachWordStands }
     ensures read { WordsStandInOrder }

@@ -1,4 +1,4 @@
-//! The tables of a group's dynamic entries: relative entries, with addends or packed.
+//! A group's tables for the loader: GOT words, PLT stubs, RELA entries, RELR words, and `.dynamic`.
 #![tactic(auto)]
 
 mod dynamic;

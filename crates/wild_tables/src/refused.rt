@@ -1,13 +1,13 @@
-//! Why the slots of a symbol were not written.
+//! Why the slots of a symbol could not be written.
 use wild_slot::SlotFault;
 use wild_types::Error;
 
-/// Why the slots of a symbol were not written.
+/// Why the slots of a symbol could not be written.
 #[derive(Clone, Copy, Debug, PartialEq, Eq)]
 pub enum Refused {
-    /// A part has too little room.
+    /// The group's share of a part is too small.
     Room(Error),
-    /// A slot cannot be written.
+    /// A slot has no valid content.
     Fault(SlotFault),
 }
 

@@ -1,4 +1,4 @@
-//! Entries with addends in the room of their part (gABI, "Relocation").
+//! A group's share of a RELA section (gABI, "Relocation").
 ghost use Rattle.std.specs.Prelude.{◌≡◌, ◌+◌, ◌*◌, ◌^◌, ◌<◌, ◌≤◌, [], ◌∷◌, ◌++◌, length, take, OnOk, OnErr, IfOk};
 ghost use Rattle.wild_words.specs.Words.{place};
 ghost use Rattle.wild_words.specs.Record.{spell};
@@ -11,7 +11,7 @@ use wild_records::{Rela, rela_is_read};
 use wild_relr::Full;
 use wild_words::put;
 
-/// Entries behind each other, from the front of a part on.
+/// RELA entries in a group's share of a part, written from its start.
 #[derive(Drop)]
 pub struct RelaTable {
     part: Vec<u8>,
@@ -29,7 +29,7 @@ impl Model for RelaTable {
 }
 
 impl RelaTable {
-    /// No entries yet, in a part of `room` bytes.
+    /// An empty table for a share of `room` bytes. Fails only if out of memory.
     #[tactic(auto, unfolding(crate::specs::Entries::entries_in, crate::specs::Entries::IsSpelled))]
     pub fn new(alloc: Global, room: usize) -> Result<Self, AllocError>
         ensures { IfOk result (λ t. (t.entries ≡ []) × (t.room ≡ room)) }
@@ -40,7 +40,7 @@ impl RelaTable {
         })
     }
 
-    /// Adds an entry behind the others. Refused exactly where it does not fit, and nothing changes then.
+    /// Appends an entry. Fails exactly if it does not fit; then nothing changes.
     #[tactic(auto, using(crate::proofs::EntryLemmas::length_entries_in))]
     pub fn write(&mut self, entry: Rela) -> Result<(), Full>
         ensures ok { OnOk result (self.new.entries ≡ self.old.entries ++ entry ∷ []) }
@@ -56,7 +56,7 @@ impl RelaTable {
         Ok(())
     }
 
-    /// Adds an entry behind the others.
+    /// Appends an entry that fits.
     #[tactic(auto, using(crate::proofs::EntryLemmas::length_entries_in))]
     pub fn push(&mut self, entry: Rela)
         requires { rela_size * (length self.old.entries + 1) ≤ self.old.room }
@@ -68,7 +68,7 @@ impl RelaTable {
         self.count += 1;
     }
 
-    /// How many bytes the part has.
+    /// The size of the share in bytes.
     pub fn room(&self) -> usize
         ensures room { result ≡ self.now.room }
         ensures small { result < 2 ^ 63 }
@@ -76,7 +76,7 @@ impl RelaTable {
         self.part.as_slice().len()
     }
 
-    /// How many bytes the entries have.
+    /// The number of bytes of all entries.
     #[tactic(auto, using(crate::proofs::EntryLemmas::length_entries_in))]
     pub fn used(&self) -> usize
         ensures used { result ≡ rela_size * length self.now.entries }
@@ -85,7 +85,7 @@ impl RelaTable {
         Rela::SIZE * self.count
     }
 
-    /// The bytes of the part: those of the entries, and then the room that is left.
+    /// The bytes of the share: those of the entries, then the unwritten rest.
     #[tactic(auto, using(crate::proofs::EntryLemmas::entries_stand))]
     pub fn bytes(&self) -> &[u8]
         ensures written { take (rela_size * length self.now.entries) result.now ≡ rela_bytes self.now.entries }
@@ -95,7 +95,7 @@ impl RelaTable {
     }
 }
 
-/// An entry at an offset.
+/// Writes an entry at an offset.
 fn put_entry(out: &mut [u8], at: usize, entry: Rela)
     requires { at + rela_size ≤ length out.old }
     ensures { out.new ≡ place at (spell (rela_fields entry)) out.old }
@@ -105,7 +105,7 @@ fn put_entry(out: &mut [u8], at: usize, entry: Rela)
     put(out, at, &bytes);
 }
 
-/// An entry behind the `count` entries.
+/// Writes an entry after the first `count` entries.
 #[tactic(auto, using(crate::proofs::EntryLemmas::entries_in_more, crate::proofs::EntryLemmas::spelled_more))]
 fn add_entry(out: &mut [u8], count: usize, entry: Rela)
     requires { rela_size * count + rela_size ≤ length out.old }

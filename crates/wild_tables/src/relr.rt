@@ -1,4 +1,4 @@
-//! Words of packed relative relocations in the room of their part (gABI, "Relative Relocation Table").
+//! A group's share of a RELR section (gABI, "Relative Relocation Table").
 ghost use Rattle.std.specs.Prelude.{◌≡◌, ◌≢◌, ◌+◌, ◌*◌, ◌%◌, ◌^◌, ◌<◌, ◌≤◌, ◌++◌, length, take, Contains, OnOk, OnErr, IfOk};
 ghost use Rattle.wild_records.specs.Relocations.{relr_size};
 ghost use Rattle.wild_relr.specs.Places.{places};
@@ -11,7 +11,7 @@ use std::marker::Model;
 use wild_records::Relr;
 use wild_relr::{Full, RelrWriter, each_place_is_recorded};
 
-/// Words from the front of a part on.
+/// RELR words in a group's share of a part, written from its start.
 #[derive(Drop)]
 pub struct RelrTable {
     part: Vec<u8>,
@@ -29,7 +29,7 @@ impl Model for RelrTable {
 }
 
 impl RelrTable {
-    /// No words yet, in a part of `room` bytes.
+    /// An empty table for a share of `room` bytes. Fails only if out of memory.
     pub fn new(alloc: Global, room: usize) -> Result<Self, AllocError>
         ensures { IfOk result (λ t. (t.state ≡ nothing) × (t.room ≡ room)) }
     {
@@ -39,7 +39,7 @@ impl RelrTable {
         })
     }
 
-    /// Records an even place. Refused exactly where the words with it do not fit, and nothing changes then.
+    /// Records an even place. Fails exactly if the words including it do not fit; then nothing changes.
     pub fn write(&mut self, place: u64) -> Result<(), Full>
         requires { place % 2 ≡ 0 }
         ensures ok { OnOk result (self.new.state ≡ after self.old.state place) }
@@ -54,14 +54,14 @@ impl RelrTable {
         self.put(place)
     }
 
-    /// The run stands as the words say.
+    /// The state of the open run agrees with the words.
     fn follow(&self)
         ensures { Follows self.now.state }
     {
         let _writer = &self.writer;
     }
 
-    /// An even place in the words.
+    /// Records an even place: a bit in the last bitmap, a new bitmap, or an address word.
     fn put(&mut self, place: u64) -> Result<(), Full>
         requires { place % 2 ≡ 0 }
         ensures ok { OnOk result (self.new.state ≡ after self.old.state place) }
@@ -73,8 +73,8 @@ impl RelrTable {
         self.writer.write(self.part.as_mut_slice(), place)
     }
 
-    /// Records an even place by a word of its own, and ends the run. Refused exactly where the words with it do
-    /// not fit, and nothing changes then.
+    /// Records an even place by its own address word, and ends the run. Fails exactly if the words including it do not fit;
+    /// then nothing changes.
     pub fn write_flat(&mut self, place: u64) -> Result<(), Full>
         requires { place % 2 ≡ 0 }
         ensures ok { OnOk result (self.new.state ≡ after_flat self.old.state place) }
@@ -88,7 +88,7 @@ impl RelrTable {
         self.put_flat(place)
     }
 
-    /// An even place in a word of its own.
+    /// Records an even place by its own address word.
     fn put_flat(&mut self, place: u64) -> Result<(), Full>
         requires { place % 2 ≡ 0 }
         ensures ok { OnOk result (self.new.state ≡ after_flat self.old.state place) }
@@ -100,7 +100,7 @@ impl RelrTable {
         self.writer.write_flat(self.part.as_mut_slice(), place)
     }
 
-    /// Records an even place by a word of its own, and ends the run.
+    /// Records an even place by its own address word, which fits, and ends the run.
     pub fn push_flat(&mut self, place: u64)
         requires even { place % 2 ≡ 0 }
         requires fits { relr_size * (length self.old.state.words + 1) ≤ self.old.room }
@@ -113,8 +113,8 @@ impl RelrTable {
         }
     }
 
-    /// Records the `n` places from `base` on, 8 bytes apart, by a block of words, and ends the run. Refused exactly
-    /// where the words with it do not fit, and nothing changes then.
+    /// Records `n` places, 8 bytes after each other from `base`, by one address word and its bitmaps, and ends the run. Fails
+    /// exactly if the words including them do not fit; then nothing changes.
     pub fn write_block(&mut self, base: u64, n: u64) -> Result<(), Full>
         requires { base % 2 ≡ 0 }
         ensures ok { OnOk result (self.new.state ≡ after_block self.old.state base n) }
@@ -127,7 +127,7 @@ impl RelrTable {
         self.writer.write_block(self.part.as_mut_slice(), base, n)
     }
 
-    /// Ends the run, and changes no word.
+    /// Ends the run; no word changes.
     pub fn reset_run(&mut self)
         ensures state { self.new.state ≡ reset self.old.state }
         ensures room { self.new.room ≡ self.old.room }
@@ -135,7 +135,7 @@ impl RelrTable {
         self.writer.reset_run();
     }
 
-    /// How many bytes the part has.
+    /// The size of the share in bytes.
     pub fn room(&self) -> usize
         ensures room { result ≡ self.now.room }
         ensures small { result < 2 ^ 63 }
@@ -143,7 +143,7 @@ impl RelrTable {
         self.part.as_slice().len()
     }
 
-    /// How many bytes the words have.
+    /// The number of bytes of all words.
     pub fn used(&self) -> usize
         ensures used { result ≡ relr_size * length self.now.state.words }
         ensures fits { result ≤ self.now.room }
@@ -151,7 +151,7 @@ impl RelrTable {
         self.writer.len() * Relr::SIZE
     }
 
-    /// The bytes of the part: those of the words, and then the room that is left.
+    /// The bytes of the share: those of the words, then the unwritten rest.
     #[tactic(auto, using(crate::proofs::TableLemmas::words_stand))]
     pub fn bytes(&self) -> &[u8]
         ensures written { take (relr_size * length self.now.state.words) result.now ≡ word_bytes self.now.state.words }

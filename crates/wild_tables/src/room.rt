@@ -1,4 +1,4 @@
-//! How much of their rooms tables use.
+//! Sizes and uses of a group's shares of parts, and the faults of shares that are too small or too large.
 ghost use Rattle.std.specs.Prelude.{◌≡◌, ℕ, ◌≤◌, List, length};
 ghost use Rattle.wild_records.specs.declared.relocations.Rela.{Rela};
 ghost use Rattle.wild_tables.specs.Tables.{more_words, more_stubs, more_entries};
@@ -13,7 +13,7 @@ use wild_records::{Rela, Relr};
 use wild_slot::WORD_SIZE;
 use wild_types::{Error, Layout, Role, excessive, insufficient, part_of};
 
-/// How many bytes a group's share of a part has, and how many of them are used or needed.
+/// The size of a group's share of a part, and how many bytes are used or needed.
 #[derive(Clone, Copy)]
 pub struct Room {
     pub role: Role,
@@ -21,7 +21,7 @@ pub struct Room {
     pub given: usize,
 }
 
-/// `InsufficientAllocation` for the first room that is too small.
+/// `InsufficientAllocation` for the first share that is too small.
 pub(crate) fn first_short(layout: &Layout, group: usize, rooms: &[Room]) -> Result<(), Error>
     ensures { result ≡ first_short layout.now group rooms.now }
 {
@@ -38,7 +38,7 @@ pub(crate) fn first_short(layout: &Layout, group: usize, rooms: &[Room]) -> Resu
     Ok(())
 }
 
-/// `ExcessiveAllocation` for the first room that is too large.
+/// `ExcessiveAllocation` for the first share that is too large.
 pub(crate) fn first_left(layout: &Layout, group: usize, rooms: &[Room]) -> Result<(), Error>
     ensures { result ≡ first_left layout.now group rooms.now }
 {
@@ -55,7 +55,7 @@ pub(crate) fn first_left(layout: &Layout, group: usize, rooms: &[Room]) -> Resul
     Ok(())
 }
 
-/// The room of a table of words.
+/// Size and use of a table of GOT words.
 pub(crate) fn words_room(role: Role, table: &WordTable) -> Room
     ensures { result ≡ words_room role table.now }
 {
@@ -66,7 +66,7 @@ pub(crate) fn words_room(role: Role, table: &WordTable) -> Room
     }
 }
 
-/// The room of a table of entries.
+/// Size and use of a RELA table.
 pub(crate) fn entries_room(role: Role, table: &RelaTable) -> Room
     ensures { result ≡ entries_room role table.now }
 {
@@ -77,7 +77,7 @@ pub(crate) fn entries_room(role: Role, table: &RelaTable) -> Room
     }
 }
 
-/// The room of a table of words with more of them.
+/// Size and use of a table of GOT words with `more` words added.
 pub(crate) fn words_room_with(role: Role, table: &WordTable, more: usize) -> Room
     requires { more ≤ 5 }
     ensures { (ws : List ℕ) → length ws ≡ more → result ≡ words_room role (more_words ws table.now) }
@@ -90,7 +90,7 @@ pub(crate) fn words_room_with(role: Role, table: &WordTable, more: usize) -> Roo
     }
 }
 
-/// The room of the stubs with bytes more.
+/// Size and use of the stubs with `more` bytes added.
 pub(crate) fn stubs_room_with(table: &StubTable, more: usize) -> Room
     requires { more ≤ 16 }
     ensures { (bytes : List ℕ) → length bytes ≡ more → result ≡ stubs_room (more_stubs bytes table.now) }
@@ -103,7 +103,7 @@ pub(crate) fn stubs_room_with(table: &StubTable, more: usize) -> Room
     }
 }
 
-/// The room of a table of entries with more of them.
+/// Size and use of a RELA table with `more` entries added.
 pub(crate) fn entries_room_with(role: Role, table: &RelaTable, more: usize) -> Room
     requires { more ≤ 5 }
     ensures { (es : List Rela) → length es ≡ more → result ≡ entries_room role (more_entries es table.now) }
@@ -116,7 +116,7 @@ pub(crate) fn entries_room_with(role: Role, table: &RelaTable, more: usize) -> R
     }
 }
 
-/// The room of the packed words with more of them.
+/// Size and use of the RELR table with `more` words added.
 #[tactic(auto, using(crate::proofs::SlotLemmas::length_after_flats))]
 pub(crate) fn packed_room_with(table: &RelrTable, more: usize) -> Room
     requires { more ≤ 5 }

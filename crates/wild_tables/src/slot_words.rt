@@ -1,4 +1,4 @@
-//! Words of slots, with their entries and packed places, in the tables of their parts.
+//! Adds the words of slots, their RELA entries and their RELR words to the tables.
 ghost use Rattle.std.specs.Prelude.{◌≡◌, ◌+◌, ◌*◌, ◌≤◌, ◌++◌, length, replicate};
 ghost use Rattle.wild_slot.specs.SlotParts.{slot_words, slot_entries, flat_places};
 ghost use Rattle.wild_tables.specs.SlotTables.{after_flats};
@@ -9,7 +9,7 @@ use crate::word::WordTable;
 use wild_slot::{EntryPart, SlotWord, WordPart, entry_of, flat_place, next_word, word_of};
 use wild_types::Machine;
 
-/// Adds zeros.
+/// Appends `n` words of 0.
 pub(crate) fn add_zeros(table: &mut WordTable, n: usize)
     requires { 8 * (length table.old.words + n) ≤ table.old.room }
     ensures words { table.new.words ≡ table.old.words ++ replicate n 0 }
@@ -20,7 +20,7 @@ pub(crate) fn add_zeros(table: &mut WordTable, n: usize)
     }
 }
 
-/// Adds the words of a part.
+/// Appends those of a slot's words that belong to this part.
 pub(crate) fn add_words(
     table: &mut WordTable,
     part: WordPart,
@@ -41,7 +41,7 @@ pub(crate) fn add_words(
     }
 }
 
-/// Adds the entries of a part.
+/// Appends those of a slot's RELA entries that belong to this part.
 pub(crate) fn add_entries(
     table: &mut RelaTable,
     part: EntryPart,
@@ -63,7 +63,7 @@ pub(crate) fn add_entries(
     }
 }
 
-/// Records the places of addresses that have a RELR word of their own.
+/// Records the places of a slot's words that have their own RELR word.
 pub(crate) fn add_flat(table: &mut RelrTable, relr: bool, place: u64, words: &[SlotWord])
     requires { 8 * (length table.old.state.words + length (flat_places relr place words.now)) ≤ table.old.room }
     ensures state { table.new.state ≡ after_flats table.old.state (flat_places relr place words.now) }

@@ -1,11 +1,11 @@
-//! Stubs in the room of their part.
+//! A group's share of the PLT.
 ghost use Rattle.std.specs.Prelude.{◌≡◌, ◌+◌, ◌^◌, ◌<◌, ◌≤◌, [], ◌++◌, length, take, IfOk};
 
 use std::alloc::{AllocError, Global};
 use std::marker::Model;
 use wild_words::put;
 
-/// The bytes of stubs behind each other, from the front of a part on.
+/// Stubs in a group's share of a part, written consecutively from its start.
 #[derive(Drop)]
 pub struct StubTable {
     part: Vec<u8>,
@@ -24,7 +24,7 @@ impl Model for StubTable {
 }
 
 impl StubTable {
-    /// No stubs yet, in a part of `room` bytes.
+    /// An empty table for a share of `room` bytes. Fails only if out of memory.
     pub fn new(alloc: Global, room: usize) -> Result<Self, AllocError>
         ensures { IfOk result (λ t. (t.bytes ≡ []) × (t.room ≡ room)) }
     {
@@ -34,7 +34,7 @@ impl StubTable {
         })
     }
 
-    /// Adds the bytes of a stub behind the others.
+    /// Appends the bytes of a stub.
     pub fn push(&mut self, stub: &[u8])
         requires { length self.old.bytes + length stub.now ≤ self.old.room }
         ensures bytes { self.new.bytes ≡ self.old.bytes ++ stub.now }
@@ -45,7 +45,7 @@ impl StubTable {
         self.used += stub.len();
     }
 
-    /// How many bytes the part has.
+    /// The size of the share in bytes.
     pub fn room(&self) -> usize
         ensures room { result ≡ self.now.room }
         ensures small { result < 2 ^ 63 }
@@ -53,7 +53,7 @@ impl StubTable {
         self.part.as_slice().len()
     }
 
-    /// How many bytes the stubs have.
+    /// The number of bytes of all stubs.
     pub fn used(&self) -> usize
         ensures used { result ≡ length self.now.bytes }
         ensures fits { result ≤ self.now.room }
@@ -61,7 +61,7 @@ impl StubTable {
         self.used
     }
 
-    /// The bytes of the part: those of the stubs, and then the room that is left.
+    /// The bytes of the share: those of the stubs, then the unwritten rest.
     pub fn bytes(&self) -> &[u8]
         ensures written { take (length self.now.bytes) result.now ≡ self.now.bytes }
         ensures room { length result.now ≡ self.now.room }
@@ -70,7 +70,7 @@ impl StubTable {
     }
 }
 
-/// A stub behind the `used` bytes.
+/// Writes a stub after the first `used` bytes.
 #[tactic(auto, using(crate::proofs::WordTableLemmas::stub_put))]
 fn add_stub(out: &mut [u8], used: usize, stub: &[u8])
     requires { used + length stub.now ≤ length out.old }

@@ -1,4 +1,4 @@
-//! Whether sizes of parts are those that a resolution needs.
+//! Checks that sizes of parts are those that a resolution needs.
 ghost use Rattle.std.specs.Prelude.{◌≡◌, ◌*◌, ◌≤◌, length};
 ghost use Rattle.wild_records.specs.Relocations.{rela_size};
 ghost use Rattle.wild_tables.specs.Verify.{open_setting, words_size, entries_size, content_sizes, needed_sizes, first_difference};
@@ -10,10 +10,10 @@ use wild_slot::{
 };
 use wild_types::{Error, Machine, Options, OutputKind, Resolution, Tls, excessive, insufficient};
 
-/// How many roles a part can have.
+/// The number of roles that a part can have.
 pub const ROLES: usize = 30;
 
-/// What slots ask of an output, where each address is one of the thread-local data.
+/// The output's settings that slots depend on, with a TLS segment that contains every address.
 fn open_setting(kind: OutputKind, options: &Options) -> Setting
     ensures { result ≡ open_setting kind options.now }
 {
@@ -29,7 +29,7 @@ fn open_setting(kind: OutputKind, options: &Options) -> Setting
     }
 }
 
-/// The bytes of words in a part.
+/// The bytes of the words that belong to a part.
 fn words_size(part: WordPart, options: &Options, place: u64, words: &[SlotWord]) -> u64
     requires { length words.now ≤ 5 }
     ensures { result ≡ words_size part options.now place words.now }
@@ -37,7 +37,7 @@ fn words_size(part: WordPart, options: &Options, place: u64, words: &[SlotWord])
     (WORD_SIZE * count_words(part, options.relr, place, words)) as u64
 }
 
-/// The bytes of entries in a part.
+/// The bytes of the RELA entries that belong to a part.
 fn entries_size(part: EntryPart, options: &Options, place: u64, words: &[SlotWord]) -> u64
     requires { length words.now ≤ 5 }
     ensures { result ≡ entries_size part options.now place words.now }
@@ -46,7 +46,7 @@ fn entries_size(part: EntryPart, options: &Options, place: u64, words: &[SlotWor
     (Rela::SIZE * count) as u64
 }
 
-/// The bytes of slots in the parts, in the order of roles.
+/// The bytes that slots need of each part, in the order of roles.
 #[tactic(auto, unfolding(crate::specs::Verify::content_sizes))]
 fn content_sizes(options: &Options, place: u64, slot: &SymbolSlots) -> [u64; ROLES]
     ensures { result ≡ content_sizes options.now place slot.now }
@@ -65,7 +65,7 @@ fn content_sizes(options: &Options, place: u64, slot: &SymbolSlots) -> [u64; ROL
     ]
 }
 
-/// The bytes of a resolution's slots in the parts, in the order of roles.
+/// The bytes that a resolution's slots need of each part, in the order of roles.
 fn needed_sizes(kind: OutputKind, options: &Options, resolution: &Resolution) -> [u64; ROLES]
     ensures { result ≡ needed_sizes kind options.now resolution.now }
 {
@@ -73,7 +73,7 @@ fn needed_sizes(kind: OutputKind, options: &Options, resolution: &Resolution) ->
     content_sizes(options, resolution.got_address.unwrap_or(0), &slot)
 }
 
-/// The first size that is not what is needed.
+/// The fault of the first size that differs from what is needed.
 fn first_difference(given: &[u64], needed: &[u64]) -> Result<(), Error>
     requires { length given.now ≡ length needed.now }
     ensures { result ≡ first_difference 0 given.now needed.now }
@@ -90,14 +90,14 @@ fn first_difference(given: &[u64], needed: &[u64]) -> Result<(), Error>
     Ok(())
 }
 
-/// Whether the sizes of the parts, one for each role in their order, are those that the slots of a resolution need: its
-/// words, its stub, its entries, and RELR words of addresses that do not stand in the block. A thread-local symbol is taken
-/// to be in the data, and the stub to be near its slot.
+/// Checks that the sizes of the parts, one for each role in order, are those that the slots of a resolution need. These are
+/// its words, its stub, its RELA entries, and the RELR words of addresses outside `got_relr`. A thread-local symbol is
+/// assumed to lie in the TLS segment, and the stub to be in range of its slot.
 ///
 /// # Errors
 ///
-/// `InsufficientAllocation` or `ExcessiveAllocation` for the first role whose size is another; the part is the role's place,
-/// the group is 0.
+/// `InsufficientAllocation` or `ExcessiveAllocation` for the first role whose size differs. Its part is the index of the
+/// role, and its group is 0.
 pub fn verify_resolution_allocation(
     kind: OutputKind,
     sizes: &[u64; ROLES],

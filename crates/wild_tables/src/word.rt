@@ -1,4 +1,4 @@
-//! Words of 8 bytes in the room of their part.
+//! A group's share of the GOT.
 ghost use Rattle.std.specs.Prelude.{◌≡◌, ◌+◌, ◌*◌, ◌^◌, ◌<◌, ◌≤◌, [], ◌∷◌, ◌++◌, length, take, IfOk};
 ghost use Rattle.wild_relr.specs.Written.{word_bytes, words_in, IsSpelled};
 
@@ -7,7 +7,7 @@ use std::marker::Model;
 use wild_slot::WORD_SIZE;
 use wild_words::put_u64;
 
-/// Words behind each other, from the front of a part on.
+/// Words of 8 bytes in a group's share of a part, written from its start.
 #[derive(Drop)]
 pub struct WordTable {
     part: Vec<u8>,
@@ -25,7 +25,7 @@ impl Model for WordTable {
 }
 
 impl WordTable {
-    /// No words yet, in a part of `room` bytes.
+    /// An empty table for a share of `room` bytes. Fails only if out of memory.
     #[tactic(auto, unfolding(wild_relr::specs::Written::words_in, wild_relr::specs::Written::IsSpelled))]
     pub fn new(alloc: Global, room: usize) -> Result<Self, AllocError>
         ensures { IfOk result (λ t. (t.words ≡ []) × (t.room ≡ room)) }
@@ -36,7 +36,7 @@ impl WordTable {
         })
     }
 
-    /// Adds a word behind the others.
+    /// Appends a word that fits.
     #[tactic(auto, using(wild_relr::proofs::WriterLemmas::length_words_in))]
     pub fn push(&mut self, word: u64)
         requires { 8 * (length self.old.words + 1) ≤ self.old.room }
@@ -48,7 +48,7 @@ impl WordTable {
         self.count += 1;
     }
 
-    /// How many bytes the part has.
+    /// The size of the share in bytes.
     pub fn room(&self) -> usize
         ensures room { result ≡ self.now.room }
         ensures small { result < 2 ^ 63 }
@@ -56,7 +56,7 @@ impl WordTable {
         self.part.as_slice().len()
     }
 
-    /// How many bytes the words have.
+    /// The number of bytes of all words.
     #[tactic(auto, using(wild_relr::proofs::WriterLemmas::length_words_in))]
     pub fn used(&self) -> usize
         ensures used { result ≡ 8 * length self.now.words }
@@ -65,7 +65,7 @@ impl WordTable {
         WORD_SIZE * self.count
     }
 
-    /// The bytes of the part: those of the words, and then the room that is left.
+    /// The bytes of the share: those of the words, then the unwritten rest.
     #[tactic(auto, using(crate::proofs::WordTableLemmas::words_stand))]
     pub fn bytes(&self) -> &[u8]
         ensures written { take (8 * length self.now.words) result.now ≡ word_bytes self.now.words }
@@ -75,7 +75,7 @@ impl WordTable {
     }
 }
 
-/// A word behind the `count` words.
+/// Writes a word after the first `count` words.
 #[tactic(auto, using(wild_relr::proofs::WriterLemmas::words_in_more, wild_relr::proofs::SpellLemmas::spelled_more))]
 fn add_word(out: &mut [u8], count: usize, word: u64)
     requires { 8 * count + 8 ≤ length out.old }

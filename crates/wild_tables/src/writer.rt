@@ -27,12 +27,12 @@ use wild_slot::address_entry;
 use wild_types::{Error, Layout, Role, insufficient, part_of, share_of};
 use wild_words::put_u64;
 
-/// How many tables there are.
+/// The number of tables.
 const TABLES: usize = 7;
 
-/// A group's tables, filled from the front on: words of `got` and `got_relr`, stubs of `plt_got`, entries of `rela_plt`,
-/// `rela_dyn_relative` and `rela_dyn_general`, and words of `relr_dyn`. Each has the room of the group's share of its
-/// part, and takes no more memory.
+/// A group's tables: words of `got` and `got_relr`, stubs of `plt_got`, RELA entries of `rela_plt`, `rela_dyn_relative` and
+/// `rela_dyn_general`, and RELR words of `relr_dyn`. Each table has the size of the group's share of its part, and is
+/// written from its start. All memory is allocated by `new`.
 #[derive(Drop)]
 pub struct TableWriter {
     group: usize,
@@ -54,7 +54,7 @@ impl Model for TableWriter {
     ghost view = { λ t. record { group = t.group; got = t.got; block = t.block; stubs = t.stubs; plt = t.plt; relative = t.relative; general = t.general; packed = t.packed; packed_part = t.packed_part } };
 }
 
-/// The entry by which a loader stores base plus value at the place.
+/// The `RELATIVE` entry with which a loader stores base plus value at a place.
 pub fn relative_entry(layout: &Layout, place: u64, value: u64) -> Rela
     ensures { result ≡ relative_entry layout.now place value }
 {
@@ -62,7 +62,7 @@ pub fn relative_entry(layout: &Layout, place: u64, value: u64) -> Rela
 }
 
 impl TableWriter {
-    /// No entries yet, with the room of the group's shares. Memory is taken for these alone, here and never again.
+    /// Empty tables with the sizes of the group's shares. Nothing else is allocated, here or later.
     pub fn new(alloc: Global, layout: &Layout, group: usize) -> Result<TableWriter, AllocError>
         requires { group < length layout.now.groups }
         ensures { IfOk result (λ t. t ≡ no_entries layout.now group) }
@@ -81,7 +81,7 @@ impl TableWriter {
         })
     }
 
-    /// One entry more.
+    /// Appends a `RELATIVE` entry.
     fn list(&mut self, layout: &Layout, place: u64, value: u64) -> Result<(), Error>
         ensures answered { result ≡ room_for_entries layout.now (with_entry layout.now place value self.old) }
         ensures written { OnOk result (self.new ≡ with_entry layout.now place value self.old) }
@@ -102,7 +102,7 @@ impl TableWriter {
         }
     }
 
-    /// The fault of the words' part, which has no room for one more.
+    /// The fault of `relr_dyn` if one more word does not fit.
     fn no_room_for_word(&self, layout: &Layout) -> Error
         ensures is { result ≡ insufficient (part_of layout.now RelrDyn) self.now.group self.now.packed.room (packed_used self.now + relr_size) }
         ensures fits { packed_used self.now ≤ self.now.packed.room }
@@ -117,7 +117,7 @@ impl TableWriter {
         )
     }
 
-    /// One place more that is packed.
+    /// Records a place in RELR.
     #[tactic(auto, using(crate::proofs::TableLemmas::after_short))]
     fn pack(&mut self, layout: &Layout, place: u64) -> Result<(), Error>
         requires { place % 2 ≡ 0 }
@@ -132,7 +132,7 @@ impl TableWriter {
         }
     }
 
-    /// One place more that is packed, by a word of its own.
+    /// Records a place in RELR by its own address word.
     fn pack_flat(&mut self, layout: &Layout, place: u64) -> Result<(), Error>
         requires { place % 2 ≡ 0 }
         ensures answered { result ≡ room_for_words layout.now (with_words (after_flat self.old.packed.state place) self.old) }
@@ -146,13 +146,12 @@ impl TableWriter {
         }
     }
 
-    /// Records the address `value` that stands at `place` of a movable output, and writes what the file has there
-    /// into `site`: the value where the place is packed, since a loader adds the base to it, else 0 beside an entry.
+    /// Records the address `value` at `place` of an output with relative relocations, and writes the file's content of the
+    /// place into `site`. In RELR the file has the value, since a loader adds the base to it. With a RELA entry it has 0.
     ///
     /// # Errors
     ///
-    /// `InsufficientAllocation` exactly where the table that the address goes to has no room for it; nothing
-    /// changes then.
+    /// `InsufficientAllocation` exactly if the table of this place has no room for it; then nothing changes.
     pub fn write_address_relocation(
         &mut self,
         layout: &Layout,
@@ -178,13 +177,12 @@ impl TableWriter {
         Ok(())
     }
 
-    /// Records the address `value` that stands at `place` of a movable output: by a word of its own where the place
-    /// is packed, which ends the run, else by an entry.
+    /// Records the address `value` at `place` of an output with relative relocations: in RELR by its own address word, which
+    /// ends the run, otherwise by a RELA entry.
     ///
     /// # Errors
     ///
-    /// `InsufficientAllocation` exactly where the table that the address goes to has no room for it; nothing
-    /// changes then.
+    /// `InsufficientAllocation` exactly if the table of this place has no room for it; then nothing changes.
     pub fn write_relr_entry_flat(
         &mut self,
         layout: &Layout,
@@ -203,14 +201,14 @@ impl TableWriter {
         }
     }
 
-    /// Ends the run of packed places, as at the start of each input section. No word changes.
+    /// Ends the run of RELR places, as at the start of each input section. No word changes.
     pub fn reset_relr_run(&mut self)
         ensures { self.new ≡ with_words (reset self.old.packed.state) self.old }
     {
         self.packed.reset_run();
     }
 
-    /// The tables' rooms.
+    /// Sizes and uses of the tables.
     fn rooms(&self) -> [Room; TABLES]
         ensures { result ≡ rooms self.now }
     {
@@ -233,18 +231,18 @@ impl TableWriter {
         ]
     }
 
-    /// Whether every table is full.
+    /// Checks that every table is full.
     ///
     /// # Errors
     ///
-    /// `ExcessiveAllocation` for the first table with room left, in the order of the roles of parts.
+    /// `ExcessiveAllocation` for the first table with unwritten bytes, in the order of the roles of parts.
     pub fn validate_empty(&self, layout: &Layout) -> Result<(), Error>
         ensures { result ≡ left_over layout.now self.now }
     {
         first_left(layout, self.group, &self.rooms())
     }
 
-    /// The bytes of the group's share of `got`: those of the words, and then the room that is left.
+    /// The bytes of the group's share of `got`: those of the words, then the unwritten rest.
     pub fn got_words(&self) -> &[u8]
         ensures written { take (8 * length self.now.got.words) result.now ≡ word_bytes self.now.got.words }
         ensures room { length result.now ≡ self.now.got.room }
@@ -284,7 +282,7 @@ impl TableWriter {
         self.general.bytes()
     }
 
-    /// The bytes of the group's share of `rela_dyn_relative`: those of the entries, and then the room that is left.
+    /// The bytes of the group's share of `rela_dyn_relative`: those of the entries, then the unwritten rest.
     pub fn relative_entries(&self) -> &[u8]
         ensures written { take (relative_used self.now) result.now ≡ rela_bytes self.now.relative.entries }
         ensures room { length result.now ≡ self.now.relative.room }
@@ -292,7 +290,7 @@ impl TableWriter {
         self.relative.bytes()
     }
 
-    /// The bytes of the group's share of `relr_dyn`: those of the words, and then the room that is left.
+    /// The bytes of the group's share of `relr_dyn`: those of the words, then the unwritten rest.
     pub fn relr_words(&self) -> &[u8]
         ensures written { take (packed_used self.now) result.now ≡ word_bytes self.now.packed.state.words }
         ensures room { length result.now ≡ self.now.packed.room }
@@ -301,7 +299,7 @@ impl TableWriter {
     }
 }
 
-/// A word of 8 bytes, whole.
+/// Writes a word of 8 bytes over the whole of `site`.
 fn put_site(site: &mut [u8], value: u64)
     requires { length site.old ≡ 8 }
     ensures { site.new ≡ word 8 value }

@@ -1,11 +1,11 @@
--- What a reader of the tables finds in those that are written here.
---   LengthsOfVersions, LengthsOfDefinitions, LengthsOfNeeds   how many bytes they have
---   LengthsOfSymbolVersions, LengthsOfFileDefinitions, LengthsOfGroupNeeds   so many have the tables of files and groups
---   VersionsAreBesideSymbols   a group has a version for each entry of its dynamic symbol table
---   VersionsAreRead            the version of symbol k is read at 2 k
---   DefinitionsAreRead         a reader finds just the versions that the output defines, in their order
---   NeedsAreRead               a reader finds just the libraries, and the versions that are needed of each
---   DefinitionsAreNamed        the names of versions that the output defines stand where their records tell
+-- What a reader finds in the tables that are written here.
+--   LengthsOfVersions, LengthsOfDefinitions, LengthsOfNeeds   the lengths of the tables
+--   LengthsOfSymbolVersions, LengthsOfFileDefinitions, LengthsOfGroupNeeds   the lengths of what files and groups contribute
+--   VersionsAreBesideSymbols   a group has a version for each of its entries in .dynsym
+--   VersionsAreRead            the version of symbol k is read at offset 2 k
+--   DefinitionsAreRead         a reader finds exactly the versions that the output defines, in order
+--   NeedsAreRead               a reader finds exactly the libraries, and the versions that are needed of each
+--   DefinitionsAreNamed        the name offsets of the versions that the output defines point to their names
 --   NeedsAreNamed              so do those of libraries, and of the versions that are needed of each
 use Rattle.std.specs.Prelude.{◌≡◌, ℕ, ◌+◌, ◌*◌, ◌^◌, ◌<◌, ◌≤◌, ◌==◌, true, false, if◌then◌else◌, List, [], ◌∷◌, length, map, Option, Some, None, All, slice_index_or}
 use Rattle.std.specs.List.{flat_map}
@@ -36,20 +36,20 @@ use Rattle.wild_versions.specs.Reading.{Defined, Needed, Library, definitions_fr
 
 -- ---- lengths
 
--- versions of symbols have 2 bytes each
+-- the version of a symbol has 2 bytes
 abbrev pub LengthsOfVersions : Type 0
 LengthsOfVersions = (vs : List ℕ) → length (version_bytes vs) ≡ versym_size * length vs
 
--- versions that are defined have 28 bytes each, or 36 with a parent
+-- a version that is defined has 28 bytes, or 36 with a parent
 abbrev pub LengthsOfDefinitions : Type 0
 LengthsOfDefinitions = (names : List ℕ) (soname : Option (List ℕ)) (ds : List VersionDefinition) → length (definition_table names soname ds) ≡ definitions_size ds
 
--- a library has 16 bytes, and each version that is needed of it 16
+-- the record of a library has 16 bytes, and so has that of each version that is needed of it
 abbrev pub LengthsOfNeeds : Type 0
 LengthsOfNeeds = (file : ℕ) (names : List ℕ) (n : VersionNeeds) → length (need_bytes file names n) ≡ need_size n
 
--- the versions of a file's symbols, those that the output defines, and those that are needed of a group's libraries are as long as
--- their room
+-- the versions of a file's symbols, the versions that the output defines, and those that are needed of a group's libraries have the
+-- lengths that wild_needs computes
 abbrev pub LengthsOfSymbolVersions : Type 0
 LengthsOfSymbolVersions = (l : Layout) (f : File) → length (version_bytes (symbol_versions l f)) ≡ versym_size * version_count l f
 
@@ -61,22 +61,22 @@ LengthsOfGroupNeeds = (l : Layout) (g : Group) → length (group_needs l g) ≡ 
 
 -- ---- symbols
 
--- a group has a version for each entry of its dynamic symbol table
+-- a group has a version for each of its entries in .dynsym
 abbrev pub VersionsAreBesideSymbols : Type 0
 VersionsAreBesideSymbols = (l : Layout) (g : Group) → length (group_symbols l g) ≡ length (group_versions l g)
 
--- where versions stand, that of symbol k is read at 2 k
+-- the version of symbol k is read 2 k bytes after the start of the table
 abbrev pub VersionsAreRead : Type 0
 VersionsAreRead = (whole vs : List ℕ) (at k d : ℕ) → All (λ v. v < 2 ^ 16) vs → Stands whole at (version_bytes vs) → k < length vs → (versym_at whole (at + versym_size * k)).version ≡ slice_index_or vs k d
 
 -- ---- definitions
 
--- a parent's name behind the own
+-- the offsets of a version's names: its own, then its parent's
 abbrev pub name_offsets : List ℕ → ℕ → Option ℕ → List ℕ
 name_offsets names i None = name_at names i ∷ []
 name_offsets names i (Some p) = name_at names i ∷ name_at names p ∷ []
 
--- version i, as a reader is to find it
+-- version i, as a reader must find it
 abbrev pub defined_as : List ℕ → Option (List ℕ) → ℕ → VersionDefinition → Defined
 defined_as names soname i d = record {
   flags = if i == 0 then ver_flg_base else 0;
@@ -85,46 +85,46 @@ defined_as names soname i d = record {
   names = name_offsets names i d.parent;
 }
 
--- versions from place i on
+-- versions, the first of which has index i in the list
 abbrev pub all_defined : List ℕ → Option (List ℕ) → ℕ → List VersionDefinition → List Defined
 all_defined names soname i [] = []
 all_defined names soname i (d ∷ ds) = defined_as names soname i d ∷ all_defined names soname (i + 1) ds
 
--- a reader that may take n versions finds just those that are defined, where the table stands; the last ends it
+-- a reader with a limit of n versions finds exactly those that are defined; the last record ends the walk, not the limit
 abbrev pub DefinitionsAreRead : Type 0
 DefinitionsAreRead = (whole names : List ℕ) (soname : Option (List ℕ)) (ds : List VersionDefinition) (at n : ℕ) → All (λ x. x < 2 ^ 32) names → length ds < 2 ^ 16 → 1 ≤ length ds → length ds ≤ n
     → Stands whole at (definition_table names soname ds) → definitions_from whole n at ≡ all_defined names soname 0 ds
 
 -- ---- needs
 
--- a library's needs, with the offsets of its name and of those of its versions
+-- what is needed of a library, the offset of its name, and the offsets of its versions' names
 pub record Need : Type 0 where
   pub file : ℕ
   pub names : List ℕ
   pub needs : VersionNeeds
 
--- numbers that have their fields
+-- its numbers fit in their fields
 pub record NeedFits (n : Need) : Type 0 where
   pub file : n.file < 2 ^ 32
   pub names : All (λ x. x < 2 ^ 32) n.names
   pub indexes : All (λ (v : NeededVersion). v.index < 2 ^ 16) n.needs.versions
   pub few : length n.needs.versions < 2 ^ 16
 
--- their bytes
+-- the bytes of all libraries' needs
 abbrev pub needs_bytes : List Need → List ℕ
 needs_bytes ns = flat_map (λ (n : Need). need_bytes n.file n.names n.needs) ns
 
--- the last library is told as such, and no other is
+-- the last library is marked as the last, and no other is
 abbrev pub EndsOnce : List Need → Type 0
 EndsOnce [] = Unit {0}
 EndsOnce (n ∷ []) = n.needs.last ≡ true
 EndsOnce (n ∷ m ∷ ns) = (n.needs.last ≡ false) × EndsOnce (m ∷ ns)
 
--- version i of a library, as a reader is to find it
+-- version i of a library, as a reader must find it
 abbrev pub needed_as : List ℕ → ℕ → NeededVersion → Needed
 needed_as names i v = record { hash = sysv_hash v.name; flags = 0; index = v.index; name = name_at names i }
 
--- versions from place i on
+-- versions of a library, the first of which has index i in the list
 abbrev pub all_needed : List ℕ → ℕ → List NeededVersion → List Needed
 all_needed names i [] = []
 all_needed names i (v ∷ vs) = needed_as names i v ∷ all_needed names (i + 1) vs
@@ -132,24 +132,24 @@ all_needed names i (v ∷ vs) = needed_as names i v ∷ all_needed names (i + 1)
 abbrev pub library_of : Need → Library
 library_of n = record { file = n.file; versions = all_needed n.names 0 n.needs.versions }
 
--- a reader that may take n libraries finds just these, each with its versions, where the table stands; the last ends it
+-- a reader with a limit of n libraries finds exactly these, each with its versions; the last record ends the walk, not the limit
 abbrev pub NeedsAreRead : Type 0
 NeedsAreRead = (whole : List ℕ) (ns : List Need) (at n : ℕ) → All NeedFits ns → EndsOnce ns → 1 ≤ length ns → length ns ≤ n
     → Stands whole at (needs_bytes ns) → needs_from whole n at ≡ map library_of ns
 
 -- ---- names
 
--- the strings of a file stand in the string table from an offset on, and the table has fewer than 2^32 bytes
+-- the strings of a file are in the string table from offset at on, and the table has fewer than 2^32 bytes
 pub record HasStrings (l : Layout) (f : File) (strings : List ℕ) (at : ℕ) : Type 0 where
   pub small : length strings < 2 ^ 32
   pub stand : Stands strings at (string_bytes (file_strings l f))
 
--- the name of version k, which is the output's own for the first where it has one, stands where its record tells
+-- the name offset of version k points to its name, which for version 0 is the soname if there is one
 abbrev pub DefinitionsAreNamed : Type 0
 DefinitionsAreNamed = (l : Layout) (f : File) (strings : List ℕ) → needs_dynsym l.kind ≡ true → is_epilogue f.role ≡ true → HasStrings l f strings (string_start l)
     → (k : ℕ) (d : VersionDefinition) → k < length l.verdefs → Stands strings (name_at (definition_offsets l f) k) (string (known_as l.options.soname k (slice_index_or l.verdefs k d).name))
 
--- the bytes of a library's needs, whose name and whose versions' names stand where they tell
+-- the bytes of a library's needs: the name offsets of the library and of its versions point to their names
 pub record NeedIsNamed (l : Layout) (f : File) (n : VersionNeeds) (strings : List ℕ) (at : ℕ) : Type 0 where
   pub bytes : need_of l at f ≡ need_bytes (library_offset l at f) (need_offsets l at f n) n
   pub library : Stands strings (library_offset l at f) (string f.lib_name)

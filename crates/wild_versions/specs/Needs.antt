@@ -1,7 +1,7 @@
 -- The versions that are needed of libraries (LSB, "Version Requirements").
---   verneed_of file n         the record of a library
+--   verneed_of file n           the record of a library
 --   vernaux_of names i last v   the record of version i that is needed of it
---   need_bytes file names n   the bytes of both
+--   need_bytes file names n     the bytes of both
 use Rattle.std.specs.Prelude.{ℕ, Bool, List, ◌++◌, length}
 use Rattle.wild_words.specs.Record.{spell}
 use Rattle.wild_records.specs.Abi.Version.{ver_need_current}
@@ -14,7 +14,7 @@ use Rattle.wild_types.specs.declared.file.VersionNeeds.{VersionNeeds}
 use Rattle.wild_needs.specs.Versions.{need_size}
 use Rattle.wild_versions.specs.Chain.{chain, next_of, name_at}
 
--- a library, whose name stands at an offset of the string table
+-- the record of a library; file is the offset of its name in .dynstr
 abbrev pub verneed_of : ℕ → VersionNeeds → Verneed
 verneed_of file n = record {
   version = ver_need_current;
@@ -24,7 +24,7 @@ verneed_of file n = record {
   next = next_of n.last (need_size n);
 }
 
--- version i that is needed
+-- the record of version i that is needed
 abbrev pub vernaux_of : List ℕ → ℕ → Bool → NeededVersion → Vernaux
 vernaux_of names i last v = record {
   hash = sysv_hash v.name;
@@ -38,6 +38,6 @@ vernaux_of names i last v = record {
 abbrev pub needed_bytes : List ℕ → ℕ → Bool → NeededVersion → List ℕ
 needed_bytes names i last v = spell (vernaux_fields (vernaux_of names i last v))
 
--- the bytes of a library and of its versions, whose names stand at offsets of the string table
+-- the bytes of a library and of its versions; file and names are the offsets of their names in .dynstr
 abbrev pub need_bytes : ℕ → List ℕ → VersionNeeds → List ℕ
 need_bytes file names n = spell (verneed_fields (verneed_of file n)) ++ chain (needed_bytes names) 0 n.versions

@@ -1,9 +1,9 @@
 -- What a reader of the tables finds (LSB, "Symbol Versioning").
---   names_from whole n at         n names of a version, from an offset on
---   definitions_from whole n at   at most n versions that are defined, from an offset on
+--   names_from whole n at         n names of a version, the first record at offset at
+--   definitions_from whole n at   at most n versions that are defined, the first record at offset at
 --   needed_from whole n at        n versions that are needed of a library
 --   needs_from whole n at         at most n libraries
--- The reader goes from a record to the next one by what the record tells, and ends where that is 0.
+-- The reader adds the distance in each record to find the next one, and ends where that distance is 0.
 use Rattle.std.specs.Prelude.{ℕ, zero, suc, ◌+◌, ◌==◌, if◌then◌else◌, List, [], ◌∷◌}
 use Rattle.wild_records.specs.Verdefs.{verdef_at, verdaux_at}
 use Rattle.wild_records.specs.Verneeds.{verneed_at, vernaux_at}
@@ -12,14 +12,14 @@ use Rattle.wild_records.specs.declared.verneeds.Vernaux.{Vernaux}
 
 -- ---- definitions
 
--- a version that is defined: what it is, its index, the hash of its name, and where its names stand in the string table
+-- a version that is defined: its flags, its index, the hash of its name, and the offsets of its names in the string table
 pub record Defined : Type 0 where
   pub flags : ℕ
   pub index : ℕ
   pub hash : ℕ
   pub names : List ℕ
 
--- a name, and those behind it
+-- a name and the following ones
 unfoldable pub names_from : List ℕ → ℕ → ℕ → List ℕ
 names_from whole zero at = []
 names_from whole (suc n) at =
@@ -31,7 +31,7 @@ defined d names = record { flags = d.flags; index = d.index; hash = d.hash; name
 abbrev pub defined_at : List ℕ → ℕ → Defined
 defined_at whole at = defined (verdef_at whole at) (names_from whole (verdef_at whole at).count (at + (verdef_at whole at).aux))
 
--- a version, and those behind it
+-- a version and the following ones
 unfoldable pub definitions_from : List ℕ → ℕ → ℕ → List Defined
 definitions_from whole zero at = []
 definitions_from whole (suc n) at =
@@ -39,14 +39,14 @@ definitions_from whole (suc n) at =
 
 -- ---- needs
 
--- a version that is needed: the hash of its name, its flags, its index, and where its name stands in the string table
+-- a version that is needed: the hash of its name, its flags, its index, and the offset of its name in the string table
 pub record Needed : Type 0 where
   pub hash : ℕ
   pub flags : ℕ
   pub index : ℕ
   pub name : ℕ
 
--- a library: where its name stands, and the versions that are needed of it
+-- a library: the offset of its name, and the versions that are needed of it
 pub record Library : Type 0 where
   pub file : ℕ
   pub versions : List Needed
@@ -54,7 +54,7 @@ pub record Library : Type 0 where
 abbrev pub needed : Vernaux → Needed
 needed v = record { hash = v.hash; flags = v.flags; index = v.index; name = v.name }
 
--- a version, and those behind it
+-- a version and the following ones
 unfoldable pub needed_from : List ℕ → ℕ → ℕ → List Needed
 needed_from whole zero at = []
 needed_from whole (suc n) at =
@@ -63,7 +63,7 @@ needed_from whole (suc n) at =
 abbrev pub library_at : List ℕ → ℕ → Library
 library_at whole at = record { file = (verneed_at whole at).file; versions = needed_from whole (verneed_at whole at).count (at + (verneed_at whole at).aux) }
 
--- a library, and those behind it
+-- a library and the following ones
 unfoldable pub needs_from : List ℕ → ℕ → ℕ → List Library
 needs_from whole zero at = []
 needs_from whole (suc n) at =

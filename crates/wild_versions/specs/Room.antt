@@ -1,9 +1,9 @@
--- Bytes behind each other, from the front of a room on.
---   Filled            what callers see of it: the bytes so far, and how many bytes the room has
---   with_bytes bs t   bytes behind those that are there
+-- A buffer of fixed size that is filled from its front.
+--   Filled            what callers see of it: the written bytes, and the size of the buffer
+--   with_bytes bs t   the buffer with bytes appended
 use Rattle.std.specs.Prelude.{◌≡◌, ℕ, ◌≤◌, List, ◌++◌, length, take}
 
--- the bytes so far, and how many bytes the room has
+-- the written bytes, and the size of the buffer
 pub record Filled : Type 0 where
   pub bytes : List ℕ
   pub room : ℕ
@@ -11,14 +11,14 @@ pub record Filled : Type 0 where
 abbrev pub filled_in : List ℕ → ℕ → Filled
 filled_in room used = record { bytes = take used room; room = length room }
 
--- the bytes lie in the room
+-- the written bytes lie in the buffer
 abbrev pub IsFilled : List ℕ → ℕ → Type 0
 IsFilled room used = used ≤ length room
 
--- bytes behind those that are there
+-- the buffer with bytes appended
 abbrev pub with_bytes : List ℕ → Filled → Filled
 with_bytes bs t = record t { bytes = t.bytes ++ bs }
 
--- no room is left
+-- the buffer has no unwritten bytes
 abbrev pub IsFull : Filled → Type 0
 IsFull t = length t.bytes ≡ t.room

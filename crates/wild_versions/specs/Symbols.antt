@@ -1,8 +1,8 @@
--- The versions of dynamic symbols (LSB, "Symbol Version Table"): a number for each entry of the dynamic symbol table.
---   version_of role s     of a symbol that an entry of a file of that role names
---   file_versions l f     of the entries of a file
---   group_versions l g    of the entries of a group
---   version_bytes vs      their bytes
+-- The versions of dynamic symbols (LSB, "Symbol Version Table"): a number for each entry of .dynsym.
+--   version_of role s     the version of a symbol in an entry of a file with that role
+--   file_versions l f     the versions of the entries of a file
+--   group_versions l g    the versions of the entries of a group
+--   version_bytes vs      the bytes of versions
 use Rattle.std.specs.Prelude.{ℕ, if◌then◌else◌, List, [], ◌∷◌, ◌++◌, map}
 use Rattle.std.specs.List.{flat_map}
 use Rattle.wild_words.specs.Record.{spell}
@@ -26,19 +26,19 @@ spelled v = spell (versym_fields (record { version = v }))
 abbrev pub version_bytes : List ℕ → List ℕ
 version_bytes vs = flat_map spelled vs
 
--- a library's symbol has the version that is needed of the library; of an object's no version is asked
+-- a library's symbol has the version that is needed of the library; an object's has VER_NDX_GLOBAL
 abbrev pub version_of : FileRole → Symbol → ℕ
 version_of role s = if is_library role then s.version else ver_ndx_global
 
--- a symbol that other modules see has the version of the list
+-- an exported symbol has the version of the list of dynamic symbols
 abbrev pub listed_version : DynamicSymbol → ℕ
 listed_version d = d.version
 
--- symbol 0 has none
+-- symbol 0 has version VER_NDX_LOCAL; it belongs to the first file
 abbrev pub null_versions : File → List ℕ
 null_versions f = if is_prelude f.role then ver_ndx_local ∷ [] else []
 
--- the versions of the entries of a file: the last file has those that other modules see
+-- the versions of the entries of a file; the exported symbols belong to the last file
 abbrev pub entry_versions : Layout → File → List ℕ
 entry_versions l f = if is_epilogue f.role then map listed_version l.dynsyms else map (version_of f.role) (undefined_symbols l.symbols f)
 

@@ -1,8 +1,8 @@
--- Bytes in the room of a group's share of a part.
---   empty_table l group r   nothing yet, in the group's share of the part of a role
---   filled_with bs t        bytes behind those that are there
---   room_for n t            there is room for n bytes more, or InsufficientAllocation
---   left_of t               no room is left, or ExcessiveAllocation
+-- A group's share of a part, filled from its front.
+--   empty_table l group r   an empty table with the size of the group's share of the part with a role
+--   filled_with bs t        the table with bytes appended
+--   room_for n t            n more bytes fit, or InsufficientAllocation
+--   left_of t               the table is full, or ExcessiveAllocation
 use Rattle.std.specs.Prelude.{ℕ, ◌+◌, nat_lt, if◌then◌else◌, List, [], length, Result, Ok, Err}
 use Rattle.wild_types.specs.declared.fault.Error.{Error}
 use Rattle.wild_types.specs.declared.fault.Fault.TheVariants as faults
@@ -13,22 +13,22 @@ use Rattle.wild_types.specs.Shares.{part_of, share_of}
 use Rattle.wild_versions.specs.declared.table.VersionTable.{VersionTable}
 use Rattle.wild_versions.specs.Room.{with_bytes}
 
--- nothing yet, in the group's share of the part of a role
+-- an empty table with the size of the group's share of the part with a role
 abbrev pub empty_table : Layout → ℕ → Role → VersionTable
 empty_table l group r = record { part = part_of l r; group = group; filled = record { bytes = []; room = share_of l group r } }
 
--- bytes behind those that are there
+-- the table with bytes appended
 abbrev pub filled_with : List ℕ → VersionTable → VersionTable
 filled_with bs t = record t { filled = with_bytes bs t.filled }
 
--- there is room for n bytes more; else how many bytes the share would need
+-- n more bytes fit; otherwise the fault has the number of bytes that the share would need
 abbrev pub room_for : ℕ → VersionTable → Result (Unit {0}) Error
 room_for n t =
     if nat_lt t.filled.room (length t.filled.bytes + n)
     then Err (record { fault = faults.InsufficientAllocation t.part t.group t.filled.room (length t.filled.bytes + n); at = nowhere })
     else Ok tt
 
--- no room is left
+-- the table is full
 abbrev pub left_of : VersionTable → Result (Unit {0}) Error
 left_of t =
     if nat_lt (length t.filled.bytes) t.filled.room

@@ -15,21 +15,21 @@ use wild_records::{Verdaux, Verdef, sysv_hash};
 use wild_types::VersionDefinition;
 use wild_words::Bytes;
 
-/// How far the next record is; the last tells 0.
+/// `vd_next`, `vda_next` and their like: the distance to the next record, 0 for the last.
 pub(crate) fn next_of(last: bool, size: u32) -> u32
     ensures { result ≡ next_of last size }
 {
     if last { 0 } else { size }
 }
 
-/// The offset of string k; 0 where there is none.
+/// The offset of string k; 0 if the list has no string k.
 pub(crate) fn name_at(names: &[u32], k: usize) -> u32
     ensures { result ≡ name_at names.now k }
 {
     if k < names.len() { names[k] } else { 0 }
 }
 
-/// How many names the record of a version tells.
+/// `vd_cnt`: the number of names of a version.
 fn names_of(parent: Option<usize>) -> u16
     ensures { result ≡ names_of parent }
 {
@@ -39,7 +39,7 @@ fn names_of(parent: Option<usize>) -> u16
     }
 }
 
-/// The hash of version i: the first is the output's own name where it has one.
+/// `vd_hash` of version i: the hash of its name. Version 0 has the soname as its name, if there is one.
 fn hash_of(soname: &Option<Bytes>, i: usize, name: &Bytes) -> u32
     ensures { result ≡ sysv_hash (known_as soname.now i name.now) }
 {
@@ -65,7 +65,7 @@ fn verdef_of(soname: &Option<Bytes>, i: usize, last: bool, definition: &VersionD
     }
 }
 
-/// Adds the record of a version.
+/// Appends the record of a version.
 fn push_verdef(table: &mut FilledRoom, entry: Verdef)
     requires { length table.old.bytes + verdef_size ≤ table.old.room }
     ensures added { table.new ≡ with_bytes (spell (verdef_fields entry)) table.old }
@@ -76,7 +76,7 @@ fn push_verdef(table: &mut FilledRoom, entry: Verdef)
     table.push(&bytes);
 }
 
-/// Adds the record of a name.
+/// Appends the record of a name.
 fn push_verdaux(table: &mut FilledRoom, entry: Verdaux)
     requires { length table.old.bytes + verdaux_size ≤ table.old.room }
     ensures added { table.new ≡ with_bytes (spell (verdaux_fields entry)) table.old }
@@ -87,7 +87,7 @@ fn push_verdaux(table: &mut FilledRoom, entry: Verdaux)
     table.push(&bytes);
 }
 
-/// Adds the names of version i: its own, and its parent's.
+/// Appends the records of the names of version i: its own, then its parent's.
 #[tactic(auto, using(crate::proofs::ChainLemmas::name_steps))]
 fn push_names(table: &mut FilledRoom, names: &[u32], i: usize, definition: &VersionDefinition)
     requires { length table.old.bytes + definition_size definition.now ≤ table.old.room + verdef_size }
@@ -106,7 +106,7 @@ fn push_names(table: &mut FilledRoom, names: &[u32], i: usize, definition: &Vers
     }
 }
 
-/// Adds version i with its names.
+/// Appends version i with its names.
 #[tactic(auto, using(crate::proofs::ChainLemmas::behind))]
 fn push_definition(
     table: &mut FilledRoom,
@@ -125,7 +125,7 @@ fn push_definition(
     push_names(table, names, i, definition);
 }
 
-/// Adds versions, each with its names.
+/// Appends all versions, each with its names.
 #[tactic(auto, using(crate::proofs::ChainLemmas::definition_steps))]
 pub(crate) fn push_definitions(
     table: &mut FilledRoom,

@@ -1,4 +1,4 @@
-//! The tables of versions as files and groups have them.
+//! What each file and each group contributes to the tables of versions.
 ghost use Rattle.std.specs.Prelude.{◌≡◌, ◌^◌, ◌<◌, ◌++◌, All, length, map, IfOk, OnOk};
 ghost use Rattle.std.specs.List.{filter};
 ghost use Rattle.wild_types.specs.declared.file.File.{File};
@@ -20,7 +20,7 @@ use wild_records::Versym;
 use wild_records::abi::version::VER_NDX_LOCAL;
 use wild_types::{DynamicSymbol, File, FileRole, Group, Layout, Symbol, VersionNeeds};
 
-/// Adds the version of a symbol.
+/// Appends the version of a symbol.
 fn add_version(version: u16, filled: &mut FilledRoom) -> Result<(), AllocError>
     requires { IsFull filled.old }
     ensures full { OnOk result (IsFull filled.new) }
@@ -31,7 +31,7 @@ fn add_version(version: u16, filled: &mut FilledRoom) -> Result<(), AllocError>
     Ok(())
 }
 
-/// Adds the versions of the symbols that other modules see.
+/// Appends the versions of the exported symbols.
 #[tactic(auto, using(crate::proofs::NameLemmas::version_steps))]
 fn add_listed(symbols: &[DynamicSymbol], filled: &mut FilledRoom) -> Result<(), AllocError>
     requires { IsFull filled.old }
@@ -44,7 +44,7 @@ fn add_listed(symbols: &[DynamicSymbol], filled: &mut FilledRoom) -> Result<(), 
     Ok(())
 }
 
-/// Adds the versions of the symbols that other modules define, of some of a file of that role.
+/// Appends the versions of the undefined entries among some symbols of a file with that role.
 #[tactic(auto, using(crate::proofs::NameLemmas::version_steps))]
 fn add_undefined(
     role: FileRole,
@@ -63,7 +63,7 @@ fn add_undefined(
     Ok(())
 }
 
-/// Adds the version of symbol 0, where the file is the first one.
+/// Appends the version of symbol 0 if the file is the first.
 #[tactic(auto, using(crate::proofs::NameLemmas::version_steps))]
 fn add_null(file: &File, filled: &mut FilledRoom) -> Result<(), AllocError>
     requires { IsFull filled.old }
@@ -76,7 +76,7 @@ fn add_null(file: &File, filled: &mut FilledRoom) -> Result<(), AllocError>
     Ok(())
 }
 
-/// Adds the versions of the entries of a file, but for symbol 0.
+/// Appends the versions of the entries of a file, without symbol 0.
 fn add_entries(layout: &Layout, file: &File, filled: &mut FilledRoom) -> Result<(), AllocError>
     requires { IsFull filled.old }
     ensures full { OnOk result (IsFull filled.new) }
@@ -89,7 +89,7 @@ fn add_entries(layout: &Layout, file: &File, filled: &mut FilledRoom) -> Result<
     }
 }
 
-/// The versions of a file's entries in the dynamic symbol table, where the option asks for versions.
+/// The versions of a file's entries in `.dynsym`; empty if the option for versions is not set.
 #[tactic(auto, using(crate::proofs::NameLemmas::versions_joined))]
 pub fn file_versions(alloc: Global, layout: &Layout, file: &File) -> Result<Vec<u8>, AllocError>
     ensures { IfOk result (λ bytes. bytes.items ≡ version_bytes (symbol_versions layout.now file.now)) }
@@ -102,7 +102,7 @@ pub fn file_versions(alloc: Global, layout: &Layout, file: &File) -> Result<Vec<
     Ok(filled.into_bytes())
 }
 
-/// The versions that the output defines, which the last file has, where the output has dynamic symbols.
+/// The versions that the output defines. They belong to the last file, and only if the output has a `.dynsym`.
 #[tactic(auto, unfolding(crate::specs::Names::file_definitions), using(crate::proofs::NameLemmas::sizes))]
 pub fn file_definitions(alloc: Global, layout: &Layout, file: &File) -> Result<Vec<u8>, AllocError>
     requires few { length layout.now.verdefs < 2 ^ 16 }
@@ -119,7 +119,7 @@ pub fn file_definitions(alloc: Global, layout: &Layout, file: &File) -> Result<V
     Ok(filled.into_bytes())
 }
 
-/// Adds the record of a library, and the versions that are needed of it.
+/// Appends the record of a library and those of the versions that are needed of it.
 fn add_library(
     file: u32,
     names: &[u32],
@@ -136,7 +136,7 @@ fn add_library(
     Ok(())
 }
 
-/// Adds the versions that are needed of a file, whose strings begin at an offset.
+/// Appends the versions that are needed of a file, whose strings begin at offset `at` of `.dynstr`.
 fn add_need(
     alloc: Global,
     layout: &Layout,
@@ -158,7 +158,7 @@ fn add_need(
     Ok(())
 }
 
-/// The versions that are needed of a group's libraries, where the output has dynamic symbols.
+/// The versions that are needed of a group's libraries; empty if the output has no `.dynsym`.
 #[tactic(auto, unfolding(crate::specs::Names::group_needs), using(crate::proofs::NameLemmas::need_steps))]
 pub fn group_needs(alloc: Global, layout: &Layout, group: &Group) -> Result<Vec<u8>, AllocError>
     requires few { All (λ (f : File). length_of (needs_of f) < 2 ^ 16) group.now.files }

@@ -1,12 +1,12 @@
-//! What a reader finds in the tables.
+//! What a reader finds in the tables of versions.
 ghost use Rattle.wild_versions.specs.Laws.{LengthsOfSymbolVersions, LengthsOfFileDefinitions, LengthsOfGroupNeeds, DefinitionsAreNamed, NeedsAreNamed, LengthsOfVersions, LengthsOfDefinitions, LengthsOfNeeds, VersionsAreBesideSymbols, VersionsAreRead, DefinitionsAreRead, NeedsAreRead};
 
 use wild_records::{
     verdaux_is_read, verdef_is_read, vernaux_is_read, verneed_is_read, versym_is_read,
 };
 
-/// Versions of symbols have 2 bytes each, and that of symbol k is read at 2 k. A group has one for each entry of its dynamic
-/// symbol table.
+/// The version of a symbol has 2 bytes, and that of symbol k is read at offset 2 k. A group has one for each of its entries
+/// in `.dynsym`.
 pub fn symbol_versions_are_read()
     ensures lengths { LengthsOfVersions }
     ensures beside { VersionsAreBesideSymbols }
@@ -15,8 +15,8 @@ pub fn symbol_versions_are_read()
     versym_is_read();
 }
 
-/// Versions that are defined have 28 bytes each, or 36 with a parent. A reader who goes from each to the next finds just
-/// these, with their indexes, the hashes of their names and where their names stand.
+/// A version that is defined has 28 bytes, or 36 with a parent. A reader who follows the offsets from record to record
+/// finds exactly these versions, with their indexes, hashes and name offsets.
 pub fn definitions_are_read()
     ensures lengths { LengthsOfDefinitions }
     ensures read { DefinitionsAreRead }
@@ -25,8 +25,8 @@ pub fn definitions_are_read()
     verdaux_is_read();
 }
 
-/// A library has 16 bytes, and each version that is needed of it 16. A reader who goes from each to the next finds just
-/// these libraries, and of each the versions that are needed, in their order.
+/// The record of a library has 16 bytes, and so has that of each version that is needed of it. A reader who follows the
+/// offsets from record to record finds exactly these libraries and their versions, in order.
 pub fn needs_are_read()
     ensures lengths { LengthsOfNeeds }
     ensures read { NeedsAreRead }
@@ -35,14 +35,15 @@ pub fn needs_are_read()
     vernaux_is_read();
 }
 
-/// The tables of files and groups are as long as their room.
+/// What each file and group contributes has exactly the length that `wild_needs` computes.
 pub fn version_tables_have_their_lengths()
     ensures symbols { LengthsOfSymbolVersions }
     ensures definitions { LengthsOfFileDefinitions }
     ensures needs { LengthsOfGroupNeeds }
 {}
 
-/// Where the strings of a file stand in the string table, the names of its versions stand where their records tell.
+/// If the strings of a file are in `.dynstr` where the layout places them, the name offsets in the records of its
+/// versions point to the names.
 pub fn versions_are_named()
     ensures definitions { DefinitionsAreNamed }
     ensures needs { NeedsAreNamed }

@@ -1,4 +1,5 @@
-//! The versions of dynamic symbols, those that the output defines, and those that it needs of libraries.
+//! The versions of dynamic symbols: `.gnu.version`, the versions that the output defines, and those that it needs of
+//! libraries.
 #![tactic(auto)]
 
 mod definitions;

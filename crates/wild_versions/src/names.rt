@@ -1,4 +1,4 @@
-//! Where the names of versions stand in the dynamic string table.
+//! The offsets of version names in `.dynstr`.
 ghost use Rattle.std.specs.Prelude.{◌≡◌, ◌∷◌, [], ◌++◌, true, IfOk, OnOk};
 ghost use Rattle.wild_needs.specs.DynamicStrings.{behind_text};
 ghost use Rattle.wild_types.specs.FileRoles.{is_epilogue};
@@ -10,21 +10,21 @@ use wild_needs::{entry_room, lead_room, string_start};
 use wild_types::{File, Layout, NeededVersion, VersionDefinition};
 use wild_words::Bytes;
 
-/// An offset as a record tells it.
+/// An offset of `.dynstr` as a record has it, in 32 bits.
 pub(crate) fn told(at: u64) -> u32
     ensures { result ≡ told at }
 {
     (at % 0x1_0000_0000) as u32
 }
 
-/// The offset behind a string and its zero, at most 2^64 - 1.
+/// The offset after a string and the zero that ends it, at most 2^64 - 1.
 pub(crate) fn behind_text(at: u64, text: &Bytes) -> u64
     ensures { result ≡ behind_text at text.now }
 {
     at.saturating_add((text.len() as u64).saturating_add(1))
 }
 
-/// The offset behind the names of a file's entries, whose strings begin at an offset, at most 2^64 - 1.
+/// The offset after the names of a file's entries, at most 2^64 - 1. The file's strings begin at `at`.
 pub(crate) fn behind_entries(layout: &Layout, at: u64, file: &File) -> u64
     ensures { result ≡ behind_entries layout.now at file.now }
 {
@@ -32,7 +32,7 @@ pub(crate) fn behind_entries(layout: &Layout, at: u64, file: &File) -> u64
         .saturating_add(entry_room(layout, file))
 }
 
-/// The offset behind the search path, where there is one.
+/// The offset after the search path; `at` itself without one.
 fn behind_path(at: u64, path: &Option<Bytes>) -> u64
     ensures { result ≡ behind_path at path.now }
 {
@@ -42,7 +42,7 @@ fn behind_path(at: u64, path: &Option<Bytes>) -> u64
     }
 }
 
-/// Adds the offset of a name, and tells the one behind it.
+/// Appends the offset of a name, and returns the offset after that name.
 fn add_name(names: &mut Vec<u32>, at: u64, name: &Bytes) -> Result<u64, AllocError>
     ensures added { OnOk result (names.new.items ≡ names.old.items ++ told at ∷ []) }
     ensures next { IfOk result (λ next. next ≡ behind_text at name.now) }
@@ -51,7 +51,7 @@ fn add_name(names: &mut Vec<u32>, at: u64, name: &Bytes) -> Result<u64, AllocErr
     Ok(behind_text(at, name))
 }
 
-/// The offsets of the names of versions that are needed, of which the first stands at an offset.
+/// The offsets of the names of needed versions. The first name is at `at`.
 pub(crate) fn needed_offsets(
     alloc: Global,
     at: u64,
@@ -67,7 +67,7 @@ pub(crate) fn needed_offsets(
     Ok(names)
 }
 
-/// Adds the offsets of the names of versions that the output defines, of which the first stands at an offset.
+/// Appends the offsets of the names of defined versions. The first name is at `at`.
 fn add_defined(
     names: &mut Vec<u32>,
     at: u64,
@@ -82,8 +82,8 @@ fn add_defined(
     Ok(())
 }
 
-/// Where the names of the versions that the output defines stand: the first version's is the output's own name, where
-/// that has a string for itself.
+/// The offsets of the names of the versions that the output defines. With a soname, the first version's name is the
+/// soname's string.
 #[tactic(auto, unfolding(crate::specs::Names::definition_offsets))]
 pub(crate) fn definition_offsets(
     alloc: Global,

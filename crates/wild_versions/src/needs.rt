@@ -41,7 +41,7 @@ fn vernaux_of(names: &[u32], i: usize, last: bool, version: &NeededVersion) -> V
     }
 }
 
-/// Adds the record of a library.
+/// Appends the record of a library.
 fn push_verneed(table: &mut FilledRoom, entry: Verneed)
     requires { length table.old.bytes + verneed_size ≤ table.old.room }
     ensures added { table.new ≡ with_bytes (spell (verneed_fields entry)) table.old }
@@ -52,7 +52,7 @@ fn push_verneed(table: &mut FilledRoom, entry: Verneed)
     table.push(&bytes);
 }
 
-/// Adds the record of a version.
+/// Appends the record of a version.
 fn push_vernaux(table: &mut FilledRoom, entry: Vernaux)
     requires { length table.old.bytes + vernaux_size ≤ table.old.room }
     ensures added { table.new ≡ with_bytes (spell (vernaux_fields entry)) table.old }
@@ -63,7 +63,7 @@ fn push_vernaux(table: &mut FilledRoom, entry: Vernaux)
     table.push(&bytes);
 }
 
-/// Adds the versions that are needed of a library.
+/// Appends the records of the versions that are needed of a library.
 #[tactic(auto, using(crate::proofs::ChainLemmas::need_steps))]
 fn push_versions(table: &mut FilledRoom, names: &[u32], versions: &[NeededVersion])
     requires room { length table.old.bytes + vernaux_size * length versions.now ≤ table.old.room }
@@ -75,7 +75,7 @@ fn push_versions(table: &mut FilledRoom, names: &[u32], versions: &[NeededVersio
     }
 }
 
-/// Adds a library and the versions that are needed of it.
+/// Appends the record of a library and those of the versions that are needed of it.
 #[tactic(auto, using(crate::proofs::ChainLemmas::behind))]
 pub(crate) fn push_need(table: &mut FilledRoom, file: u32, names: &[u32], needs: &VersionNeeds)
     requires few { length needs.now.versions < 2 ^ 16 }

@@ -1,4 +1,4 @@
-//! Bytes behind each other, from the front of a room on.
+//! A buffer of fixed size that is filled from its front.
 ghost use Rattle.std.specs.Prelude.{◌≡◌, ◌+◌, ◌++◌, ◌^◌, ◌<◌, ◌≤◌, length, take, [], IfOk, OnOk};
 ghost use Rattle.wild_versions.specs.Room.{with_bytes, IsFull};
 
@@ -6,7 +6,7 @@ use std::alloc::{AllocError, Global};
 use std::marker::Model;
 use wild_words::put;
 
-/// Bytes behind each other, from the front of a room on.
+/// A buffer that is filled from its front: the first `used` bytes are written.
 #[derive(Drop)]
 pub struct FilledRoom {
     room: Vec<u8>,
@@ -23,7 +23,7 @@ impl Model for FilledRoom {
     ghost invariant = { λ t. IsFilled t.room.items t.used };
 }
 
-/// Bytes at an offset.
+/// Writes bytes at an offset, after those already written.
 #[tactic(auto, using(crate::proofs::ChainLemmas::front_of))]
 fn put_behind(out: &mut [u8], at: usize, bytes: &[u8])
     requires { at + length bytes.now ≤ length out.old }
@@ -33,7 +33,7 @@ fn put_behind(out: &mut [u8], at: usize, bytes: &[u8])
 }
 
 impl FilledRoom {
-    /// Nothing yet, in a room of so many bytes.
+    /// An empty buffer with `room` bytes of space. Fails only if out of memory.
     pub(crate) fn new(alloc: Global, room: usize) -> Result<Self, AllocError>
         ensures { IfOk result (λ t. t ≡ record { bytes = []; room = room }) }
     {
@@ -43,7 +43,7 @@ impl FilledRoom {
         })
     }
 
-    /// Room for so many bytes more.
+    /// Extends the buffer by `size` bytes of space. Fails only if out of memory.
     pub(crate) fn make_room(&mut self, size: usize) -> Result<(), AllocError>
         requires { size < 2 ^ 32 }
         ensures { OnOk result (self.new ≡ record self.old { room = self.old.room + size }) }
@@ -52,7 +52,7 @@ impl FilledRoom {
         self.room.resize(room, 0)
     }
 
-    /// Adds bytes behind the others.
+    /// Appends bytes.
     pub(crate) fn push(&mut self, bytes: &[u8])
         requires { length self.old.bytes + length bytes.now ≤ self.old.room }
         ensures added { self.new ≡ with_bytes bytes.now self.old }
@@ -62,14 +62,14 @@ impl FilledRoom {
         self.used += bytes.len();
     }
 
-    /// How many bytes the room has.
+    /// The size of the buffer, written and unwritten bytes together.
     pub(crate) fn room(&self) -> usize
         ensures { result ≡ self.now.room }
     {
         self.room.len()
     }
 
-    /// How many of them are filled.
+    /// The number of written bytes.
     pub(crate) fn used(&self) -> usize
         ensures is { result ≡ length self.now.bytes }
         ensures few { result < 2 ^ 63 }
@@ -77,7 +77,7 @@ impl FilledRoom {
         self.used
     }
 
-    /// The bytes of the room: those that were added, and then what is left.
+    /// The whole buffer: the written bytes, then the unwritten ones.
     pub(crate) fn bytes(&self) -> &[u8]
         ensures written { take (length self.now.bytes) result.now ≡ self.now.bytes }
         ensures room { length result.now ≡ self.now.room }
@@ -85,7 +85,7 @@ impl FilledRoom {
         self.room.as_slice()
     }
 
-    /// The bytes of a room that is full.
+    /// The bytes of a buffer that is full.
     pub(crate) fn into_bytes(self) -> Vec<u8>
         requires { IsFull self }
         ensures { result.items ≡ self.bytes }

@@ -9,7 +9,8 @@ use wild_records::Versym;
 use wild_records::abi::version::VER_NDX_GLOBAL;
 use wild_types::{FileRole, Symbol};
 
-/// The version of a symbol that an entry of a file of that role names.
+/// The version of a symbol in an entry of a file with that role: for a library the version that is needed of it, otherwise
+/// `VER_NDX_GLOBAL`.
 pub(crate) fn version_of(role: FileRole, symbol: &Symbol) -> u16
     ensures { result ≡ version_of role symbol.now }
 {
@@ -20,7 +21,7 @@ pub(crate) fn version_of(role: FileRole, symbol: &Symbol) -> u16
     }
 }
 
-/// Adds the version of a symbol.
+/// Appends the version of a symbol.
 pub(crate) fn push_version(table: &mut FilledRoom, version: u16)
     requires { length table.old.bytes + versym_size ≤ table.old.room }
     ensures { table.new ≡ with_bytes (spelled version) table.old }

@@ -1,4 +1,4 @@
-//! Bytes in the room of a group's share of a part.
+//! One table of versions: a buffer with the size of a group's share of a part.
 ghost use Rattle.std.specs.Prelude.{◌≡◌, ◌^◌, ◌<◌, length, take, IfOk};
 ghost use Rattle.wild_versions.specs.Table.{room_for, left_of, empty_table};
 
@@ -6,7 +6,7 @@ use crate::room::FilledRoom;
 use std::alloc::{AllocError, Global};
 use wild_types::{Error, Layout, Role, excessive, insufficient, part_of, share_of};
 
-/// Bytes behind each other, from the front of a group's share of a part on.
+/// A group's share of a part, filled from its front.
 #[derive(Drop)]
 pub struct VersionTable {
     pub(crate) part: usize,
@@ -15,7 +15,7 @@ pub struct VersionTable {
 }
 
 impl VersionTable {
-    /// Nothing yet, in the group's share of the part of a role.
+    /// An empty table with the size of the group's share of the part with this role.
     pub(crate) fn new(
         alloc: Global,
         layout: &Layout,
@@ -32,11 +32,11 @@ impl VersionTable {
         })
     }
 
-    /// Whether there is room for so many bytes more.
+    /// Checks that `size` more bytes fit.
     ///
     /// # Errors
     ///
-    /// `InsufficientAllocation` exactly where there is not.
+    /// `InsufficientAllocation` exactly if they do not fit.
     pub(crate) fn check_room(&self, size: usize) -> Result<(), Error>
         requires { size < 2 ^ 32 }
         ensures { result ≡ room_for size self.now }
@@ -49,11 +49,11 @@ impl VersionTable {
         Ok(())
     }
 
-    /// Whether the share is full.
+    /// Checks that the share is full.
     ///
     /// # Errors
     ///
-    /// `ExcessiveAllocation` exactly where room is left.
+    /// `ExcessiveAllocation` exactly if unwritten bytes are left.
     pub(crate) fn check_exhausted(&self) -> Result<(), Error>
         ensures { result ≡ left_of self.now }
     {
@@ -65,7 +65,7 @@ impl VersionTable {
         Ok(())
     }
 
-    /// The bytes of the share: those that were written, and then the room that is left.
+    /// The bytes of the share: the written ones, then the unwritten ones.
     pub fn bytes(&self) -> &[u8]
         ensures written { take (length self.now.filled.bytes) result.now ≡ self.now.filled.bytes }
         ensures room { length result.now ≡ self.now.filled.room }

@@ -15,21 +15,20 @@ use wild_needs::{definitions_size, need_size};
 use wild_records::Versym;
 use wild_types::{Error, FileRole, Layout, Role, Symbol, VersionNeeds};
 
-/// A group's tables of versions, each filled from the front of the group's share on. It takes no more memory once it
-/// is made.
+/// A group's three tables of versions, each filled from the front of the group's share. All memory is allocated by `new`.
 #[derive(Drop)]
 pub struct VersionWriter {
-    /// The versions of the dynamic symbols.
+    /// The versions of the dynamic symbols (`.gnu.version`).
     pub symbols: VersionTable,
-    /// The versions that the output defines.
+    /// The versions that the output defines (`.gnu.version_d`).
     pub definitions: VersionTable,
-    /// The versions that are needed of libraries.
+    /// The versions that are needed of libraries (`.gnu.version_r`).
     pub needs: VersionTable,
 }
 
 impl VersionWriter {
-    /// Nothing yet, with the room of the group's shares of `gnu_version`, `gnu_version_d` and `gnu_version_r`. Memory
-    /// is taken for these alone, here and never again.
+    /// Empty tables with the sizes of the group's shares of `gnu_version`, `gnu_version_d` and `gnu_version_r`. Nothing
+    /// else is allocated, here or later.
     pub fn new(alloc: Global, layout: &Layout, group: usize) -> Result<Self, AllocError>
         ensures { IfOk result (λ w. w ≡ no_versions layout.now group) }
     {
@@ -44,7 +43,7 @@ impl VersionWriter {
     ///
     /// # Errors
     ///
-    /// `InsufficientAllocation` exactly where it does not fit what is left of its share; nothing changes then.
+    /// `InsufficientAllocation` exactly if it does not fit in the rest of its share; then nothing changes.
     #[tactic(auto, using(crate::proofs::ChainLemmas::alone))]
     pub fn set_next_symbol_version(&mut self, version: u16) -> Result<(), Error>
         ensures answered { result ≡ room_for versym_size self.old.symbols }
@@ -56,12 +55,12 @@ impl VersionWriter {
         Ok(())
     }
 
-    /// Writes the version of the next dynamic symbol, which an entry of a file of that role names: a library's has the
-    /// version that is needed of the library, an object's has none.
+    /// Writes the version of the next dynamic symbol, an entry of a file with that role: for a library the version that is
+    /// needed of it, otherwise `VER_NDX_GLOBAL`.
     ///
     /// # Errors
     ///
-    /// `InsufficientAllocation` exactly where it does not fit what is left of its share; nothing changes then.
+    /// `InsufficientAllocation` exactly if it does not fit in the rest of its share; then nothing changes.
     pub fn copy_symbol_version(&mut self, role: FileRole, symbol: &Symbol) -> Result<(), Error>
         ensures answered { result ≡ room_for versym_size self.old.symbols }
         ensures written { OnOk result (self.new ≡ with_versions (version_of role symbol.now ∷ []) self.old) }
@@ -70,12 +69,12 @@ impl VersionWriter {
         self.set_next_symbol_version(version_of(role, symbol))
     }
 
-    /// Writes the versions that the output defines, whose names stand at offsets of the string table. The first of them
-    /// is the output's own name: where the layout has one, its offset is the first.
+    /// Writes the versions that the output defines. `names` has the offset of each version's name in `.dynstr`. The first
+    /// version is that of the output itself: with a soname, the first offset is that of the soname.
     ///
     /// # Errors
     ///
-    /// `InsufficientAllocation` exactly where they do not fit what is left of their share; nothing changes then.
+    /// `InsufficientAllocation` exactly if they do not fit in the rest of their share; then nothing changes.
     pub fn write_verdef(&mut self, layout: &Layout, names: &[u32]) -> Result<(), Error>
         requires few { length layout.now.verdefs < 2 ^ 16 }
         ensures answered { result ≡ room_for (definitions_size layout.now.verdefs) self.old.definitions }
@@ -93,11 +92,12 @@ impl VersionWriter {
         Ok(())
     }
 
-    /// Writes the versions that are needed of a library. Its name and theirs stand at offsets of the string table.
+    /// Writes the versions that are needed of a library. `file` is the offset of the library's name in `.dynstr`, and
+    /// `names` has those of the versions' names.
     ///
     /// # Errors
     ///
-    /// `InsufficientAllocation` exactly where they do not fit what is left of their share; nothing changes then.
+    /// `InsufficientAllocation` exactly if they do not fit in the rest of their share; then nothing changes.
     pub fn write_verneed(
         &mut self,
         file: u32,
@@ -114,11 +114,11 @@ impl VersionWriter {
         Ok(())
     }
 
-    /// Whether every table is full.
+    /// Checks that every table is full.
     ///
     /// # Errors
     ///
-    /// `ExcessiveAllocation` for the first table with room left, in the order of the roles of parts.
+    /// `ExcessiveAllocation` for the first table with unwritten bytes, in the order of the roles of parts.
     pub fn check_exhausted(&self) -> Result<(), Error>
         ensures { result ≡ left_over self.now }
     {

@@ -1,4 +1,4 @@
-//! Slots, what stands once, and entries that fill a place.
+//! Writes slots, the start of the GOT, and the RELA entries of places in data.
 ghost use Rattle.std.specs.Prelude.{◌≡◌, ◌≢◌, ◌++◌, ◌%◌, ◌≤◌, unwrap_or, length, OnOk, OnErr};
 ghost use Rattle.std.specs.Int.{cast_signed, w64};
 ghost use Rattle.wild_reloc.specs.declared.dynamic.DynamicRelocationKind.TheVariants.{Irelative};
@@ -27,7 +27,7 @@ use wild_types::{
 };
 
 impl TableWriter {
-    /// The tables' rooms with words from a place on and a stub.
+    /// Sizes and uses of the tables, with the words of a slot at `place` and a stub added.
     #[tactic(auto, using(crate::proofs::SlotLemmas::length_after_flats))]
     fn rooms_with(
         &self,
@@ -58,7 +58,7 @@ impl TableWriter {
         ]
     }
 
-    /// `InsufficientAllocation` for the first table that is too small for words from a place on and a stub.
+    /// `InsufficientAllocation` for the first table in which the words of a slot at `place` and a stub do not fit.
     #[tactic(auto, using(crate::proofs::SlotLemmas::answer_fits))]
     fn room_for_content(
         &self,
@@ -76,7 +76,7 @@ impl TableWriter {
         first_short(layout, self.group, &rooms)
     }
 
-    /// Words from a place on, each in its part with its entry in its own, and a stub.
+    /// Writes the words of a slot at `place`, their entries and a stub, each into its table.
     #[tactic(auto, using(crate::proofs::SlotLemmas::length_after_flats))]
     fn put_content(&mut self, layout: &Layout, place: u64, words: &[SlotWord], stub: &[u8])
         requires { Fit (with_content layout.now place words.now stub.now self.old) }
@@ -107,14 +107,14 @@ impl TableWriter {
         add_flat(&mut self.packed, relr, place, words);
     }
 
-    /// Writes the slots of a resolution and its stub, which is given by its bytes, or by its distance from the slot where
-    /// that is too far: the words from the slot's place on, the entries that fill them, and RELR words of addresses that
-    /// do not stand in the block.
+    /// Writes the slots of a resolution: its words from the slot's place on, the RELA entries that fill them, the RELR words
+    /// of addresses outside `got_relr`, and its stub. `stub` has the stub's bytes, or its distance from the slot if that is
+    /// out of range.
     ///
     /// # Errors
     ///
-    /// `Refused::Room` where a part has too little room for what comes before a fault, else `Refused::Fault` where the
-    /// slots have one. Nothing changes then.
+    /// `Refused::Room` if a part has too little room for what comes before a fault. Otherwise `Refused::Fault` if the slots
+    /// have a fault. In both cases nothing changes.
     pub fn process_resolution(
         &mut self,
         layout: &Layout,
@@ -143,7 +143,7 @@ impl TableWriter {
         Ok(())
     }
 
-    /// `InsufficientAllocation` for the first table that is too small for what stands once.
+    /// `InsufficientAllocation` for the first table in which the reserved words and the module pair do not fit.
     #[tactic(auto, using(crate::proofs::SlotLemmas::header_fits))]
     fn room_for_header(&self, layout: &Layout, place: u64, pair: &[SlotWord]) -> Result<(), Error>
         requires place { place ≡ unwrap_or layout.now.tlsld 0 }
@@ -165,7 +165,7 @@ impl TableWriter {
         first_short(layout, self.group, &[got, general])
     }
 
-    /// What stands once.
+    /// Writes the reserved words and the module pair.
     fn put_header(&mut self, layout: &Layout, place: u64, pair: &[SlotWord])
         requires place { place ≡ unwrap_or layout.now.tlsld 0 }
         requires pair { pair.now ≡ storage_words layout.now }
@@ -186,12 +186,12 @@ impl TableWriter {
         );
     }
 
-    /// Writes what stands once at the start of the global offset table: the reserved words, and the module pair of the
-    /// output's own thread-local data.
+    /// Writes the start of the GOT: the reserved words, and the pair of module and offset for the output's own TLS segment
+    /// (local dynamic).
     ///
     /// # Errors
     ///
-    /// `InsufficientAllocation` exactly where a part has too little room; nothing changes then.
+    /// `InsufficientAllocation` exactly if a part has too little room; then nothing changes.
     pub fn write_plt_got_entries(&mut self, layout: &Layout) -> Result<(), Error>
         ensures answered { result ≡ room_for_header layout.now (with_header layout.now self.old) }
         ensures written { OnOk result (self.new ≡ with_header layout.now self.old) }
@@ -208,12 +208,12 @@ impl TableWriter {
         Ok(())
     }
 
-    /// Records the `n` places from `base` on, 8 bytes apart, by one block of packed words: the group's words of `got_relr`.
-    /// Nothing is recorded where `n` or `base` is 0.
+    /// Records the group's words of `got_relr` in RELR: `n` places, 8 bytes after each other from `base`, by one address word
+    /// and its bitmaps. Nothing is recorded if `n` or `base` is 0.
     ///
     /// # Errors
     ///
-    /// `InsufficientAllocation` exactly where the words do not fit; nothing changes then.
+    /// `InsufficientAllocation` exactly if the RELR words do not fit; then nothing changes.
     pub fn write_got_relr_bitmap(&mut self, base: u64, n: u64) -> Result<(), Error>
         requires { base % 2 ≡ 0 }
         ensures answered { result ≡ room_for_block (with_block base n self.old) }
@@ -231,7 +231,7 @@ impl TableWriter {
         }
     }
 
-    /// Adds an entry to `rela_dyn_general`.
+    /// Appends an entry to `rela_dyn_general`.
     fn list_general(&mut self, layout: &Layout, entry: Rela) -> Result<(), Error>
         ensures answered { result ≡ room_for_general layout.now (with_general entry self.old) }
         ensures written { OnOk result (self.new ≡ with_general entry self.old) }
@@ -252,11 +252,11 @@ impl TableWriter {
         }
     }
 
-    /// Adds the entry by which a loader fills a place by a symbol of the dynamic symbol table.
+    /// Appends the RELA entry with which a loader fills a place from a symbol of `.dynsym`.
     ///
     /// # Errors
     ///
-    /// `InsufficientAllocation` exactly where `rela_dyn_general` has no room for it; nothing changes then.
+    /// `InsufficientAllocation` exactly if the entry does not fit in `rela_dyn_general`; then nothing changes.
     pub fn write_dynamic_symbol_relocation(
         &mut self,
         layout: &Layout,
@@ -278,11 +278,11 @@ impl TableWriter {
         self.list_general(layout, entry)
     }
 
-    /// Adds the entry by which a loader stores at a place what the resolver at an address answers.
+    /// Appends the `IRELATIVE` entry with which a loader stores the result of a resolver at a place.
     ///
     /// # Errors
     ///
-    /// `InsufficientAllocation` exactly where `rela_dyn_general` has no room for it; nothing changes then.
+    /// `InsufficientAllocation` exactly if the entry does not fit in `rela_dyn_general`; then nothing changes.
     pub fn write_ifunc_relocation_for_data(
         &mut self,
         layout: &Layout,
@@ -297,13 +297,12 @@ impl TableWriter {
         self.write_dynamic_symbol_relocation(layout, place, resolver.cast_signed(), 0, kind)
     }
 
-    /// Adds the entry by which a loader copies a symbol's bytes to its address in this output.
+    /// Appends the `COPY` entry with which a loader copies a symbol's bytes to its address in this output.
     ///
     /// # Errors
     ///
-    /// `MissingResolution` where nothing was decided of the symbol (`Address`), or it has no index in the dynamic symbol
-    /// table (`DynamicSymbol`), else `InsufficientAllocation` exactly where `rela_dyn_general` has no room for the entry.
-    /// Nothing changes then.
+    /// `MissingResolution` if the symbol has no resolution (`Address`) or no index in `.dynsym` (`DynamicSymbol`). Otherwise
+    /// `InsufficientAllocation` exactly if the entry does not fit in `rela_dyn_general`. Nothing changes then.
     pub fn write_copy_relocation(
         &mut self,
         layout: &Layout,
@@ -323,7 +322,7 @@ impl TableWriter {
     }
 }
 
-/// The fault of a symbol that lacks something.
+/// The fault of a symbol that has no address or no dynamic symbol index.
 fn lacks(what: Missing, symbol: SymbolIndex) -> Fault
     ensures { result ≡ MissingResolution what symbol }
 {
@@ -333,7 +332,7 @@ fn lacks(what: Missing, symbol: SymbolIndex) -> Fault
     }
 }
 
-/// What was decided of the symbol that defines a symbol.
+/// The resolution of the symbol that defines this one.
 fn resolution_of(layout: &Layout, symbol: SymbolIndex) -> Option<Resolution>
     ensures { result ≡ resolution_of layout.now symbol }
 {
@@ -343,7 +342,7 @@ fn resolution_of(layout: &Layout, symbol: SymbolIndex) -> Option<Resolution>
     }
 }
 
-/// The entry by which a loader copies the bytes of a symbol; or what the symbol lacks.
+/// The `COPY` entry of a symbol. Fails if the symbol has no resolution or no dynamic symbol index.
 fn copied_by(layout: &Layout, symbol: SymbolIndex) -> Result<Rela, Fault>
     ensures { result ≡ copied_by layout.now symbol }
 {
