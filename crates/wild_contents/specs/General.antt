@@ -1,8 +1,8 @@
--- What a file gives to the table of entries that name a symbol or a resolver, relocation by relocation and section by section.
---   left_in l s r               the entry of a relocation, where its field is left to one
+-- What a file contributes to the dynamic relocations that name a symbol or a resolver, by relocation and by section.
+--   left_in l s r               the entry of a relocation, if the dynamic linker computes its field
 --   left_bytes l s r            its bytes
---   section_general_bytes l s   those of an input section
---   copy_bytes l i              those of the entry by which symbol i is copied
+--   section_general_bytes l s   the bytes of an input section's entries
+--   copy_bytes l i              the bytes of the COPY entry of symbol i
 use Rattle.std.specs.Prelude.{ℕ, List, [], ◌∷◌, if◌then◌else◌, Option, Some, None, option_to_list}
 use Rattle.wild_records.specs.declared.relocations.Rela.{Rela}
 use Rattle.wild_types.specs.declared.input.InputRelocation.{InputRelocation}
@@ -13,17 +13,17 @@ use Rattle.wild_slot.specs.Treatment.{treatment}
 use Rattle.wild_tables.specs.Entries.{rela_bytes}
 use Rattle.wild_layout.specs.Left.{left_entry, section_generals, copy_entry}
 
--- the entry of a relocation, where its field is left to one
+-- the entry of a relocation, if the dynamic linker computes its field
 unfoldable pub left_in : Layout → InputSection → InputRelocation → Option Rela
 left_in l s r = if is_left_to_entry (treatment l s.flags r) then Some (left_entry l s.address s.flags r) else None
 
 unfoldable pub left_bytes : Layout → InputSection → InputRelocation → List ℕ
 left_bytes l s r = rela_bytes (option_to_list (left_in l s r))
 
--- those of an input section
+-- the bytes of an input section's entries
 unfoldable pub section_general_bytes : Layout → InputSection → List ℕ
 section_general_bytes l s = rela_bytes (section_generals l s)
 
--- the entry by which a symbol is copied
+-- the bytes of the COPY entry of a symbol
 unfoldable pub copy_bytes : Layout → ℕ → List ℕ
 copy_bytes l i = rela_bytes (copy_entry l i ∷ [])

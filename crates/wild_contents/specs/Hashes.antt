@@ -1,5 +1,5 @@
--- How many symbols other modules define.
---   symbol_undefined role s    1 of such a symbol, else 0; file_undefined, group_undefined: how many of a file, of a group
+-- The number of undefined dynamic symbols.
+--   symbol_undefined role s    1 for such a symbol, else 0; file_undefined, group_undefined: the number in a file, in a group
 use Rattle.std.specs.Prelude.{ℕ, if◌then◌else◌}
 use Rattle.wild_types.specs.declared.symbol.Symbol.{Symbol}
 use Rattle.wild_types.specs.declared.file.FileRole.{FileRole}
@@ -10,14 +10,14 @@ use Rattle.wild_types.specs.FileSymbols.{range_of}
 use Rattle.wild_needs.specs.DynamicSymbols.{is_undefined_entry}
 use Rattle.wild_types.specs.Lists.{total}
 
--- one that other modules define, of a file of that role
+-- 1 for an undefined dynamic symbol of a file of that role
 abbrev pub symbol_undefined : FileRole → Symbol → ℕ
 symbol_undefined role s = if is_undefined_entry role s then 1 else 0
 
--- how many of a file
+-- the number in a file
 abbrev pub file_undefined : Layout → File → ℕ
 file_undefined l f = total (symbol_undefined f.role) (range_of l.symbols f)
 
--- how many of a group
+-- the number in a group
 abbrev pub group_undefined : Layout → Group → ℕ
 group_undefined l g = total (file_undefined l) g.files

@@ -1,11 +1,11 @@
--- What sections as they stand in the output give to the tables that a loader reads.
---   is_applied r            the part of that role has what relocations give that a loader applies
---   is_apart r              it is made apart from what each file gives: frames, and their search table
---   section_given r l s     the bytes that a section, as it stands, gives to the part of that role
---   sorted_given r l x      those of a section that is named among the sorted ones
---   copies_given r l f      what stands ahead of them, of the symbols that a file has copied
---   behind_given r l f      what stands behind those of a file: those of the sorted sections
---   group_frames l g        the frames of a group, with their fields
+-- What placed sections contribute to dynamic tables.
+--   is_applied r            the part of that role is a table of dynamic relocations
+--   is_apart r              frames and their search table, which are not computed file by file
+--   section_given r l s     the bytes that a placed section contributes to the part of that role
+--   sorted_given r l x      those of a sorted input section
+--   copies_given r l f      the COPY entries of a file, which come before those of its sections
+--   behind_given r l f      the entries of the sorted input sections, which come after those of the last file's sections
+--   group_frames l g        the frames of a group, relocated
 use Rattle.std.specs.Prelude.{◌≡◌, ℕ, Bool, true, false, if◌then◌else◌, List, [], All}
 use Rattle.std.specs.List.{flat_map}
 use Rattle.wild_types.specs.declared.part.Role.{Role}
@@ -24,34 +24,34 @@ use Rattle.wild_layout.specs.SearchTable.{search_table}
 use Rattle.wild_contents.specs.Own.{section_entry_bytes, section_word_bytes}
 use Rattle.wild_contents.specs.General.{section_general_bytes, copy_bytes}
 
--- the part of that role has what relocations give that a loader applies
+-- the part of that role is a table of dynamic relocations
 abbrev pub is_applied : Role → Bool
 is_applied role.RelaDynRelative = true
 is_applied role.RelaDynGeneral = true
 is_applied role.RelrDyn = true
 is_applied other = false
 
--- it is made apart from what each file gives
+-- frames and their search table are not computed file by file
 abbrev pub is_apart : Role → Bool
 is_apart role.EhFrame = true
 is_apart role.EhFrameHdr = true
 is_apart other = false
 
--- the bytes that a section, as it stands, gives to the part of that role
+-- the bytes that a placed section contributes to the part of that role
 abbrev pub section_given : Role → Layout → InputSection → List ℕ
 section_given role.RelaDynRelative l s = section_entry_bytes l s
 section_given role.RelaDynGeneral l s = section_general_bytes l s
 section_given role.RelrDyn l s = section_word_bytes l s
 section_given other l s = []
 
--- those of a sorted section
+-- those of a sorted input section
 abbrev pub input_given : Role → Layout → Input → List ℕ
 input_given r l x = section_given r l (as_turned x.section)
 
 abbrev pub sorted_given : Role → Layout → SortedSection → List ℕ
 sorted_given r l x = flat_map (input_given r l) (sorted_input l x)
 
--- what stands ahead of them
+-- the entries before those of a file's sections
 abbrev pub copies_given : Role → Layout → File → List ℕ
 copies_given role.RelaDynGeneral l f = flat_map (copy_bytes l) (copies_of f)
 copies_given other l f = []
@@ -59,24 +59,24 @@ copies_given other l f = []
 abbrev pub sorted_behind : Role → Layout → List ℕ
 sorted_behind r l = flat_map (section_given r l) (sorted_sections l)
 
--- what stands behind them: of words nothing, which stand behind those of the group's block
+-- the entries after those of a file's sections; RELR words of sorted sections are not among them, they follow those of the group's GOT words
 abbrev pub behind_given : Role → Layout → File → List ℕ
 behind_given role.RelaDynRelative l f = of_last_file f (sorted_behind role.RelaDynRelative l)
 behind_given role.RelaDynGeneral l f = of_last_file f (sorted_behind role.RelaDynGeneral l)
 behind_given other l f = []
 
--- the frames of a group, with their fields
+-- the frames of a group, relocated
 unfoldable pub group_frames : Layout → Group → List ℕ
 group_frames l g = flat_map (frames_bytes l) (laid_files l g)
 
--- the first file gives the search table
+-- the first file contributes the search table
 abbrev pub first_given : List ℕ → File → List ℕ
 first_given table f = if is_prelude f.role then table else []
 
--- the table is the search table, where the file is the first one
+-- the bytes are the search table, if the file is the first one
 abbrev pub HasSearchTable : Layout → List ℕ → File → Type 0
 HasSearchTable l table f = is_prelude f.role ≡ true → table ≡ search_table l
 
--- where one of the files is
+-- the bytes are the search table, if one of the files is the first one
 abbrev pub HaveSearchTable : Layout → List ℕ → List File → Type 0
 HaveSearchTable l table fs = All (HasSearchTable l table) fs

@@ -1,6 +1,6 @@
--- Parts of notes of GNU.
---   gnu_front kind size     the header of such a note, whose descriptor has so many bytes, and its name
---   word_property t v       a property of that type whose value is a word; signed_property t p v one that tells how addresses are signed
+-- Parts of GNU notes.
+--   gnu_front kind size     the header of a GNU note whose descriptor has `size` bytes, and the name
+--   word_property t v       a property of type t whose value is a word; signed_property t p v the pointer authentication property
 use Rattle.std.specs.Prelude.{ℕ, List, ◌++◌, length}
 use Rattle.wild_words.specs.Words.{word}
 use Rattle.wild_words.specs.Record.{spell}
@@ -16,6 +16,6 @@ gnu_front kind size = spell (note_header_fields (record { name_size = length gnu
 abbrev pub word_property : ℕ → ℕ → List ℕ
 word_property t v = word 4 t ++ value_bytes (values.Word v)
 
--- one that tells how addresses are signed
+-- the pointer authentication property
 abbrev pub signed_property : ℕ → ℕ → ℕ → List ℕ
 signed_property t p v = word 4 t ++ value_bytes (values.PointerAuthentication p v)

@@ -1,8 +1,8 @@
--- What a file gives to the tables that a loader reads, relocation by relocation, section by section and symbol by symbol.
---   entry_bytes l s r      the bytes of the entry of relocation r of an input section; none where it has none
---   packed_in l s r        its place, where that is packed
---   symbol_slot_bytes p l s   what a part takes of a symbol's slots and its stub: the bytes of words, of entries, of places that
---                          have a RELR word of their own, or the stub; slot_part r: which of them the part of a role takes
+-- What a file contributes to dynamic tables, by relocation, by section and by symbol.
+--   entry_bytes l s r      the bytes of the entry of relocation r of an input section; empty if it needs none
+--   packed_in l s r        its place, if it is packed in .relr.dyn
+--   symbol_slot_bytes p l s   what a part has for a symbol's GOT and PLT entries: the bytes of GOT words, of dynamic relocations, of
+--                          RELR words, or of the stub; slot_part r: which of them the part of a role has
 use Rattle.std.specs.Prelude.{ℕ, List, Option, Some, None, option_to_list}
 use Rattle.wild_types.specs.declared.input.InputRelocation.{InputRelocation}
 use Rattle.wild_types.specs.declared.input.InputSection.{InputSection}
@@ -21,30 +21,30 @@ use Rattle.wild_tables.specs.Entries.{rela_bytes}
 use Rattle.wild_layout.specs.Moved.{listed_entry, section_entries}
 use Rattle.wild_layout.specs.SlotBytes.{symbol_entries, flat_in, stub_bytes}
 
--- the bytes of the entry of a relocation; none where it has none
+-- the bytes of the entry of a relocation; empty if it needs none
 unfoldable pub entry_bytes : Layout → InputSection → InputRelocation → List ℕ
 entry_bytes l s r = rela_bytes (option_to_list (listed_entry l s r))
 
--- those of an input section
+-- the bytes of an input section's entries
 unfoldable pub section_entry_bytes : Layout → InputSection → List ℕ
 section_entry_bytes l s = rela_bytes (section_entries l s)
 
--- the bytes of the words of an input section
+-- the bytes of an input section's RELR words
 unfoldable pub section_word_bytes : Layout → InputSection → List ℕ
 section_word_bytes l s = word_bytes (words_of l s)
 
--- the place of a relocation, where that is packed
+-- the place of a relocation, if it is packed in .relr.dyn
 abbrev pub packed_in : Layout → InputSection → InputRelocation → List ℕ
 packed_in l s r = option_to_list (packed_place l s r)
 
--- what a part takes of a symbol's slots and its stub
+-- what a part has for a symbol's GOT and PLT entries
 unfoldable pub symbol_slot_bytes : SlotPart → Layout → Symbol → List ℕ
 symbol_slot_bytes (parts.Words part) l s = word_bytes (words_in part l s)
 symbol_slot_bytes (parts.Entries part) l s = rela_bytes (symbol_entries part l s)
 symbol_slot_bytes parts.Places l s = word_bytes (flat_in l s)
 symbol_slot_bytes parts.Stubs l s = stub_bytes l s
 
--- what the part of a role takes of them, if anything
+-- which of these the part of a role has, if any
 abbrev pub slot_part : Role → Option SlotPart
 slot_part role.Got = Some (parts.Words words.Got)
 slot_part role.GotRelr = Some (parts.Words words.Block)

@@ -1,7 +1,7 @@
--- The search table of frames, as it was made.
---   FaultIsFirst f fs      the fault is the first of these; none where there are none
---   IsSearchTable l t      it is the layout's, where that is written, or tells the first fault
---   found_fdes l fs at f   what was found as an FDE with its address, where it is one that is kept
+-- The computed search table of frames.
+--   FaultIsFirst f fs      the fault is the first of these, and there is none if the list is empty
+--   IsSearchTable l t      t is the layout's search table, if that is written, or has its first fault
+--   found_fdes l fs at f   a record found in the frames, as an FDE with its address, if it is one that is kept
 use Rattle.std.specs.Prelude.{◌≡◌, ℕ, true, false, List, [], ◌∷◌, map, Option, None, Some}
 use Rattle.wild_types.specs.declared.fault.Fault.{Fault}
 use Rattle.wild_types.specs.declared.file.File.{File}
@@ -21,15 +21,15 @@ FaultIsFirst None fs = fs ≡ []
 FaultIsFirst (Some f) [] = ⊥
 FaultIsFirst (Some f) (g ∷ gs) = f ≡ g
 
--- the layout's, where that is written, or its first fault
+-- the layout's search table, if that is written, or its first fault
 pub record IsSearchTable (l : Layout) (t : SearchTable) : Type 0 where
   pub fault : FaultIsFirst t.fault (search_table_faults l)
   pub bytes : is_hollow_role l role.EhFrameHdr ≡ false → t.fault ≡ None → t.bytes ≡ search_table l
 
--- it is that, where the file is the first one
+-- the same, if the file is the first one
 abbrev pub IsTableFor : Layout → SearchTable → File → Type 0
 IsTableFor l t f = is_prelude f.role ≡ true → IsSearchTable l t
 
--- what was found, where it is an FDE that is kept
+-- a record found in the frames, if it is an FDE that is kept
 abbrev pub found_fdes : Layout → Frames → ℕ → Found → List Fde
 found_fdes l fs at f = map (fde_at l fs at) (fde_of f)

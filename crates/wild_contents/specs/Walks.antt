@@ -1,12 +1,12 @@
--- What the parts of `.symtab` take of symbols, one behind the other (gABI, "Symbol Table").
---   entry_of l f named i s     the entry of symbol i of a file, or of the name of its slot, its stub or a thunk to it
---   taken_bytes k at n         what a part takes of an entry whose name stands at an offset of the strings
---   sunk k at ns               of some, whose names stand one behind the other
---   with_entry n w             an entry more
---   Walks k from at to next ns   from bytes and an offset to others: those of the entries are added, whatever comes behind them
---   Written                    what is written of a part, for which file, and where the next name stands
---   Writes a x b               what the part takes of a symbol was added; WritesSection a k b that of section k
---   Passes a x b, Lacks a x e b   a symbol that lacks nothing, and one that lacks what the error says
+-- What the parts of `.symtab` have for consecutive symbols (gABI, "Symbol Table").
+--   entry_of l f named i s     the entry of symbol i of a file, or of the symbol that names its GOT entry, its stub or a thunk to it
+--   taken_bytes k at n         what a part has for an entry whose name is at an offset of the strings
+--   sunk k at ns               what a part has for several entries, whose names are consecutive
+--   with_entry n w             w with one more entry
+--   Walks k from at to next ns   `to` and `next` are `from` and `at` after these entries, whatever entries follow
+--   Written                    the state of a sink: part, file, bytes, and the offset of the next name
+--   Writes a x b               what the part has for a symbol was appended; WritesSection a k b for section symbol k
+--   Passes a x b, Lacks a x e b   a symbol without a fault, and one with the fault e
 use Rattle.std.specs.Prelude.{◌≡◌, ℕ, Bool, if◌then◌else◌, List, [], ◌∷◌, ◌++◌, option_to_list}
 use Rattle.wild_words.specs.Words.{word}
 use Rattle.wild_types.specs.declared.fault.At.{At}
@@ -25,27 +25,27 @@ use Rattle.wild_symbols.specs.DynamicEntries.{entry_at}
 use Rattle.wild_symbols.specs.TableEntries.{NamedEntry, named_entry, section_entry, is_side, name_at, behind_name}
 use Rattle.wild_layout.specs.Faults.{table_error}
 
--- the entry of symbol i of a file, or of the name of its slot, its stub or a thunk to it
+-- the entry of symbol i of a file, or of the symbol that names its GOT entry, its stub or a thunk to it
 abbrev pub entry_of : Layout → File → Named → ℕ → Symbol → NamedEntry
 entry_of l f named i s = named_entry l f (item named i s)
 
--- what a part takes of an entry whose name stands at an offset of the strings: the entry or its longer section index, of its side, or
--- the name
+-- what a part has for an entry whose name is at an offset of the strings: the entry or its extended section index, if it is local as
+-- the part says, or the name
 abbrev pub taken_bytes : TablePart → ℕ → NamedEntry → List ℕ
 taken_bytes (parts.Side local) at n = if is_side local n then symbol_bytes (entry_at (name_at at n.name) n.fields.fields ∷ []) else []
 taken_bytes (parts.Long local) at n = if is_side local n then word 4 n.fields.long else []
 taken_bytes parts.Strings at n = string_bytes (option_to_list n.name)
 
--- of some, whose names stand one behind the other
+-- what a part has for several entries, whose names are consecutive
 unfoldable pub sunk : TablePart → ℕ → List NamedEntry → List ℕ
 sunk k at [] = []
 sunk k at (n ∷ ns) = taken_bytes k at n ++ sunk k (behind_name at n.name) ns
 
--- from bytes and an offset to others: those of the entries are added, whatever comes behind them
+-- these entries were appended, whatever entries follow
 pub record Walks (k : TablePart) (from : List ℕ) (at : ℕ) (to : List ℕ) (next : ℕ) (ns : List NamedEntry) : Type 0 where
   pub on : (rest : List NamedEntry) → to ++ sunk k next rest ≡ from ++ sunk k at (ns ++ rest)
 
--- what is written of a part, for which file, and where the next name stands
+-- the state of a sink: part, file, bytes, and the offset of the next name
 pub record Written : Type 0 where
   pub layout : Layout
   pub file : File
@@ -53,25 +53,25 @@ pub record Written : Type 0 where
   pub at : ℕ
   pub bytes : List ℕ
 
--- an entry more
+-- one more entry
 abbrev pub with_entry : NamedEntry → Written → Written
 with_entry n w = record w { at = behind_name w.at n.name; bytes = w.bytes ++ taken_bytes w.part w.at n }
 
--- what the part takes of a symbol was added
+-- what the part has for a symbol was appended
 abbrev pub Writes : Written → TableSymbol → Written → Type 0
 Writes a x b = b ≡ with_entry (named_entry a.layout a.file x) a
 
--- what it takes of a section
+-- what it has for a section symbol was appended
 abbrev pub WritesSection : Written → ℕ → Written → Type 0
 WritesSection a k b = b ≡ with_entry (section_entry k) a
 
--- the symbols of a file, which are looked at
+-- the state of the sink that checks: the file
 pub record Looked : Type 0 where
   pub layout : Layout
   pub file : File
   pub at : At
 
--- a symbol that lacks nothing, and one that lacks what the error says
+-- a symbol without a fault, and one with the fault e
 abbrev pub Passes : Looked → TableSymbol → Looked → Type 0
 Passes a x b = (table_error a.layout a.at a.file x ≡ []) × (b ≡ a)
 

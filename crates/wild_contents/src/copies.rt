@@ -1,4 +1,4 @@
-//! What symbols that are copied into the output lack of their entries.
+//! Checks symbols that are copied into the output by COPY relocations.
 ghost use Rattle.std.specs.Prelude.{◌≡◌, Some};
 ghost use Rattle.std.specs.List.{flat_map};
 ghost use Rattle.wild_types.specs.Faults.{Answers};
@@ -11,7 +11,7 @@ use wild_relax::Arch;
 use wild_sections::{InputPlace, Resolved, index_of, raw_address};
 use wild_types::{Error, Fault, File, Missing, SymbolIndex};
 
-/// What a symbol lacks of an entry that copies it.
+/// The fault of a copied symbol: it has no address, or no entry in the dynamic symbol table.
 fn copy_fault<A: Arch>(resolved: &Resolved<A>, symbol: SymbolIndex) -> Option<Fault>
     ensures { result ≡ copy_fault symbol (index_of resolved.now.layout.now symbol) (raw_address resolved.now.layout.now (Some symbol)) }
 {
@@ -28,7 +28,7 @@ fn copy_fault<A: Arch>(resolved: &Resolved<A>, symbol: SymbolIndex) -> Option<Fa
     }
 }
 
-/// Refuses a symbol that lacks something of an entry that copies it.
+/// Refuses a copied symbol without an address or an entry in the dynamic symbol table.
 fn check_copy<A: Arch>(
     resolved: &Resolved<A>,
     place: InputPlace,
@@ -45,7 +45,7 @@ fn check_copy<A: Arch>(
     }
 }
 
-/// Refuses copies of which one lacks something: answers the first fault in their order.
+/// Checks copied symbols; returns the first fault in their order.
 #[tactic(auto, using(wild_sections::proofs::FaultLemmas::first_faults))]
 fn check_copies<A: Arch>(
     resolved: &Resolved<A>,
@@ -60,7 +60,7 @@ fn check_copies<A: Arch>(
     Ok(())
 }
 
-/// Refuses a file of which a copy lacks something, or slots are not written.
+/// Checks the copied symbols of a file, and the GOT and PLT entries of its symbols.
 #[tactic(auto, using(wild_sections::proofs::FaultLemmas::first_of_both))]
 pub fn check_entries<A: Arch>(
     resolved: &Resolved<A>,

@@ -1,5 +1,5 @@
-//! The entries of a group in the dynamic section (gABI, "Dynamic Section"): those of its libraries, and all others where it
-//! has the last file.
+//! The entries of a group in the dynamic section (gABI, "Dynamic Section"): DT_NEEDED for its libraries, and all other entries for the
+//! group of the last file.
 ghost use Rattle.std.specs.Prelude.{◌≡◌, ◌++◌, Some, OnOk};
 ghost use Rattle.wild_needs.specs.DynamicStrings.{needed_of, needed_entries, needed_count};
 ghost use Rattle.wild_types.specs.declared.file.File.{File};
@@ -15,7 +15,7 @@ use wild_records::abi::dynamic::DT_NEEDED;
 use wild_tables::write_dynamic;
 use wild_types::{File, Group, Layout, Role, share_of};
 
-/// Adds the entry of a library whose name stands at an offset.
+/// Appends the DT_NEEDED entry of a library whose name is at an offset of the string table.
 fn add_library(file: &File, at: u64, bytes: &mut PartBytes) -> Result<(), AllocError>
     ensures { OnOk result (bytes.new ≡ bytes.old ++ entries_bytes (needed_of at file.now)) }
 {
@@ -31,7 +31,7 @@ fn add_library(file: &File, at: u64, bytes: &mut PartBytes) -> Result<(), AllocE
     Ok(())
 }
 
-/// Adds the entries of a group's libraries, each with the offset of its name in the string table.
+/// Appends the DT_NEEDED entries of a group's libraries, each with the offset of its name in the string table.
 #[tactic(auto, unfolding(wild_needs::specs::DynamicStrings::needed_entries))]
 fn add_libraries(layout: &Layout, group: &Group, bytes: &mut PartBytes) -> Result<(), AllocError>
     ensures { OnOk result (bytes.new ≡ bytes.old ++ entries_bytes (needed_entries layout.now group.now)) }
@@ -47,7 +47,7 @@ fn add_libraries(layout: &Layout, group: &Group, bytes: &mut PartBytes) -> Resul
     Ok(())
 }
 
-/// How many entries some files have for libraries.
+/// The number of DT_NEEDED entries of some files.
 fn needed_of_files(layout: &Layout, files: &[File]) -> usize
     ensures { result ≡ total (needed_count layout.now) files.now }
 {
@@ -58,7 +58,7 @@ fn needed_of_files(layout: &Layout, files: &[File]) -> usize
     count
 }
 
-/// The room of the last file in the dynamic section, where that is a file of this group.
+/// The size of the last file's room in the dynamic section, if that file is in this group.
 #[tactic(auto, using(wild_needs::proofs::DynamicLemmas::length_needed_entries))]
 fn room_behind(layout: &Layout, group: &Group) -> u64
     ensures { result ≡ room_behind layout.now (Some group.now) }
@@ -70,7 +70,7 @@ fn room_behind(layout: &Layout, group: &Group) -> u64
     ))
 }
 
-/// The room of the last file in the dynamic section.
+/// The size of the last file's room in the dynamic section, in bytes.
 fn dynamic_room(layout: &Layout) -> u64
     ensures { result ≡ dynamic_room layout.now }
 {
@@ -81,7 +81,7 @@ fn dynamic_room(layout: &Layout) -> u64
     }
 }
 
-/// Adds the entries of the last file, in its room; that has never less bytes than they where the shares are what is needed.
+/// Appends the entries of the last file, in its room. The room is large enough if the shares are correct.
 #[tactic(auto, using(crate::proofs::DynamicLemmas::dynamic_by))]
 fn add_last(alloc: Global, layout: &Layout, bytes: &mut PartBytes) -> Result<(), AllocError>
     ensures { OnOk result (bytes.new ≡ bytes.old ++ dynamic_bytes layout.now (dynamic_room layout.now)) }
@@ -93,7 +93,7 @@ fn add_last(alloc: Global, layout: &Layout, bytes: &mut PartBytes) -> Result<(),
     bytes.extend(&room)
 }
 
-/// Adds the entries of a group.
+/// Appends the entries of a group.
 #[tactic(auto, using(crate::proofs::DynamicLemmas::group_joined, crate::proofs::DynamicLemmas::group_without))]
 pub(crate) fn add_group_dynamic(
     alloc: Global,

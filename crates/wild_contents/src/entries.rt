@@ -1,5 +1,5 @@
-//! The entries with addends of an input section: for each address that moves and is not packed, one by which a loader stores the
-//! sum of base and value (gABI, "Relocation").
+//! The entries of an input section in `.rela.dyn` that depend on the load bias only (gABI, "Relocation"). Each address that needs one
+//! and is not packed in `.relr.dyn` has one; the loader stores load bias plus addend there.
 ghost use Rattle.std.specs.Prelude.{◌≡◌, [], ◌∷◌, ◌++◌, OnOk};
 ghost use Rattle.std.specs.List.{flat_map};
 ghost use Rattle.wild_needs.specs.Entries.{listed_place};
@@ -15,7 +15,7 @@ use wild_sections::{Resolved, moved_value};
 use wild_tables::relative_entry;
 use wild_types::{InputRelocation, InputSection, Layout};
 
-/// The place of a relocation, where that has an entry.
+/// The place of a relocation, if it has such an entry.
 fn listed_place(
     layout: &Layout,
     section: &InputSection,
@@ -31,7 +31,7 @@ fn listed_place(
     }
 }
 
-/// Adds an entry.
+/// Appends an entry.
 pub(crate) fn add_entry(entry: Rela, bytes: &mut PartBytes) -> Result<(), AllocError>
     ensures { OnOk result (bytes.new ≡ bytes.old ++ rela_bytes (entry ∷ [])) }
 {
@@ -40,7 +40,7 @@ pub(crate) fn add_entry(entry: Rela, bytes: &mut PartBytes) -> Result<(), AllocE
     bytes.extend(&room)
 }
 
-/// Adds the entry of a relocation, where it has one.
+/// Appends the entry of a relocation, if it needs one.
 #[tactic(auto, unfolding(crate::specs::Own::entry_bytes))]
 fn add_listed<A: Arch>(
     resolved: &Resolved<A>,
@@ -59,7 +59,7 @@ fn add_listed<A: Arch>(
     }
 }
 
-/// Adds the entries of the relocations of a section.
+/// Appends the entries of the relocations of a section.
 fn add_all_listed<A: Arch>(
     resolved: &Resolved<A>,
     section: &InputSection,
@@ -73,7 +73,7 @@ fn add_all_listed<A: Arch>(
     Ok(())
 }
 
-/// Adds the entries of a section.
+/// Appends the entries of a section.
 #[tactic(auto, using(crate::proofs::OwnLemmas::listed_entries, crate::proofs::OwnLemmas::no_entries))]
 pub(crate) fn add_section_entries<A: Arch>(
     resolved: &Resolved<A>,

@@ -1,4 +1,4 @@
-//! The hash tables of the symbols that the output defines, which the last file has (gABI, "Hash Table"; GNU, "DT_GNU_HASH").
+//! The hash tables of the symbols that the output defines, which the last file writes (gABI, "Hash Table"; GNU, "DT_GNU_HASH").
 ghost use Rattle.std.specs.Prelude.{◌≡◌, ◌+◌, ◌-◌, ◌^◌, ◌<◌, ◌++◌, [], ℕ, List, if◌then◌else◌, map, min, OnOk, IfOk};
 ghost use Rattle.wild_hashes.specs.Tables.{sysv_hash_of, gnu_hash_of, gnu_header, sysv_table, gnu_table};
 ghost use Rattle.wild_needs.specs.DynamicSymbols.{is_undefined_entry, first_listed};
@@ -16,7 +16,7 @@ use wild_relax::Arch;
 use wild_sections::Resolved;
 use wild_types::{File, FileRole, GnuHash, Group, Layout, Symbol, SysvHash};
 
-/// How many of some symbols other modules define, at most 2^64 - 1.
+/// The number of undefined dynamic symbols among some symbols of a file of that role, at most 2^64 - 1.
 fn count_undefined(role: FileRole, symbols: &[Symbol]) -> u64
     ensures { result ≡ min (2 ^ 64 - 1) (total (symbol_undefined role) symbols.now) }
 {
@@ -29,7 +29,7 @@ fn count_undefined(role: FileRole, symbols: &[Symbol]) -> u64
     count
 }
 
-/// The same of some files.
+/// The number of undefined dynamic symbols of some files, at most 2^64 - 1.
 fn count_in_files(layout: &Layout, files: &[File]) -> u64
     ensures { result ≡ min (2 ^ 64 - 1) (total (file_undefined layout.now) files.now) }
 {
@@ -40,7 +40,7 @@ fn count_in_files(layout: &Layout, files: &[File]) -> u64
     count
 }
 
-/// The same of all files.
+/// The number of undefined dynamic symbols of all files, at most 2^64 - 1.
 fn count_in_groups(layout: &Layout) -> u64
     ensures { result ≡ min (2 ^ 64 - 1) (total (group_undefined layout.now) layout.now.groups) }
 {
@@ -51,8 +51,7 @@ fn count_in_groups(layout: &Layout) -> u64
     count
 }
 
-/// The position in the dynamic symbol table of the first symbol that the output defines: behind the null symbol and those that
-/// other modules define.
+/// The index in the dynamic symbol table of the first symbol that the output defines: after the null symbol and the undefined ones.
 #[tactic(auto, using(crate::proofs::HashLemmas::first_is))]
 fn first_listed(layout: &Layout) -> u32
     requires { first_listed layout.now < 2 ^ 32 }
@@ -61,7 +60,7 @@ fn first_listed(layout: &Layout) -> u32
     (count_in_groups(layout) + 1) as u32
 }
 
-/// The hash table of the gABI, of that shape.
+/// The hash table of the gABI, with that number of buckets.
 fn sysv_table(alloc: Global, layout: &Layout, shape: &SysvHash) -> Result<Vec<u8>, AllocError>
     requires { SysvStands layout.now shape.now }
     ensures { IfOk result (λ v. v.items ≡ sysv_table shape.now.buckets (first_listed layout.now) (map sysv_hash_of layout.now.dynsyms)) }
@@ -74,7 +73,7 @@ fn sysv_table(alloc: Global, layout: &Layout, shape: &SysvHash) -> Result<Vec<u8
     Ok(room)
 }
 
-/// GNU's hash table, of that shape.
+/// GNU's hash table, with the parameters that the plan gives.
 fn gnu_table(alloc: Global, layout: &Layout, shape: &GnuHash) -> Result<Vec<u8>, AllocError>
     requires { GnuStands layout.now shape.now }
     ensures { IfOk result (λ v. v.items ≡ gnu_table (gnu_header shape.now) (map gnu_hash_of layout.now.dynsyms)) }
@@ -87,14 +86,14 @@ fn gnu_table(alloc: Global, layout: &Layout, shape: &GnuHash) -> Result<Vec<u8>,
     Ok(room)
 }
 
-/// Whether the file has the tables that stand behind all else of an output with dynamic symbols.
+/// Whether the file writes hash tables: the last file of an output with dynamic symbols.
 fn has_hashes(layout: &Layout, file: &File) -> bool
     ensures { (bytes : List ℕ) → of_last layout.now file.now bytes ≡ (if result then bytes else []) }
 {
     layout.kind.needs_dynsym() && file.role.is_epilogue()
 }
 
-/// Adds the hash table of the gABI, where the file is the last one.
+/// Appends the hash table of the gABI, if the file is the last one.
 pub(crate) fn add_sysv<A: Arch>(
     alloc: Global,
     resolved: &Resolved<A>,
@@ -113,7 +112,7 @@ pub(crate) fn add_sysv<A: Arch>(
     Ok(())
 }
 
-/// Adds GNU's hash table, where the file is the last one.
+/// Appends GNU's hash table, if the file is the last one.
 pub(crate) fn add_gnu<A: Arch>(
     alloc: Global,
     resolved: &Resolved<A>,

@@ -1,4 +1,4 @@
-//! What the sections of files give, as they stand in the output, to the parts of relocations that a loader applies.
+//! What placed sections contribute to dynamic relocation tables: `.rela.dyn` and `.relr.dyn`.
 ghost use Rattle.std.specs.Prelude.{◌≡◌, ◌++◌, true, IfOk, OnOk};
 ghost use Rattle.std.specs.List.{flat_map};
 ghost use Rattle.wild_needs.specs.Needs.{frame_room};
@@ -19,7 +19,7 @@ use wild_relax::Arch;
 use wild_sections::Resolved;
 use wild_types::{File, Group, InputSection, Role, SortedSection};
 
-/// The address behind a section as it stands, where the frames of a file stand at an address: only frames take room there.
+/// The address after a placed section's frames, which begin at `at`. Only frames take room there.
 pub fn behind_frames(at: u64, section: &InputSection) -> u64
     ensures { result ≡ behind at (frame_room section.now) }
 {
@@ -30,7 +30,7 @@ pub fn behind_frames(at: u64, section: &InputSection) -> u64
     }
 }
 
-/// Adds what a section, as it stands, gives to the part of that role.
+/// Appends what a placed section contributes to the part of that role.
 fn add_stood<A: Arch>(
     alloc: Global,
     resolved: &Resolved<A>,
@@ -48,8 +48,8 @@ fn add_stood<A: Arch>(
     }
 }
 
-/// Adds what a section of a file gives to the part of that role, where the file's next frames stand at an address; tells where
-/// those behind it stand.
+/// Appends what a section of a file contributes to the part of that role. The file's next frames begin at address `at`; returns the
+/// address after this section's frames.
 #[tactic(auto, using(crate::proofs::LaidLemmas::room_of_laid))]
 fn add_section<A: Arch>(
     alloc: Global,
@@ -69,7 +69,7 @@ fn add_section<A: Arch>(
     Ok(behind_frames(at, stood))
 }
 
-/// Adds what the sections of a file give, where its frames stand from an address on; tells where those behind stand.
+/// Appends what the sections of a file contribute. The file's frames begin at `at`; returns the address after them.
 #[tactic(auto, using(crate::proofs::LaidLemmas::laid_more, crate::proofs::LaidLemmas::laid_done, crate::proofs::LaidLemmas::reach_more, crate::proofs::LaidLemmas::reach_done, crate::proofs::LaidLemmas::behind_small))]
 fn add_sections<A: Arch>(
     alloc: Global,
@@ -89,7 +89,7 @@ fn add_sections<A: Arch>(
     Ok(next)
 }
 
-/// Adds what a section gives that is named among the sorted ones.
+/// Appends what one sorted input section contributes.
 fn add_sorted_section<A: Arch>(
     alloc: Global,
     resolved: &Resolved<A>,
@@ -108,7 +108,7 @@ fn add_sorted_section<A: Arch>(
     }
 }
 
-/// Adds what the sorted sections give.
+/// Appends what the sorted input sections contribute.
 #[tactic(auto, using(crate::proofs::LaidLemmas::sorted_joined))]
 pub(crate) fn add_sorted<A: Arch>(
     alloc: Global,
@@ -124,7 +124,7 @@ pub(crate) fn add_sorted<A: Arch>(
     Ok(())
 }
 
-/// Adds what stands ahead of the sections' of a file.
+/// Appends a file's entries that come before those of its sections: the COPY relocations of its copied symbols.
 fn add_ahead<A: Arch>(
     resolved: &Resolved<A>,
     role: Role,
@@ -139,7 +139,7 @@ fn add_ahead<A: Arch>(
     }
 }
 
-/// Adds what stands behind them.
+/// Appends a file's entries that come after those of its sections: those of the sorted input sections, for the last file.
 fn add_behind<A: Arch>(
     alloc: Global,
     resolved: &Resolved<A>,
@@ -157,7 +157,7 @@ fn add_behind<A: Arch>(
     }
 }
 
-/// Adds what relocations of a file give, whose frames stand from an address on; tells where those behind stand.
+/// Appends the dynamic relocations of a file's sections and copied symbols. Its frames begin at `at`; returns the address after them.
 #[tactic(auto, using(crate::proofs::LaidLemmas::own_joined))]
 fn add_own_laid<A: Arch>(
     alloc: Global,
@@ -177,7 +177,7 @@ fn add_own_laid<A: Arch>(
     Ok(next)
 }
 
-/// Adds what a file gives to such a part, whose frames stand from an address on; tells where those behind stand.
+/// Appends all that a file contributes to such a part. Its frames begin at `at`; returns the address after them.
 #[tactic(auto, using(crate::proofs::LaidLemmas::file_given))]
 fn add_file_laid<A: Arch>(
     alloc: Global,
@@ -197,7 +197,7 @@ fn add_file_laid<A: Arch>(
     Ok(next)
 }
 
-/// Adds what the files of a group give to the part of that role, which has what relocations give that a loader applies.
+/// Appends what the files of a group contribute to the part of that role, a table of dynamic relocations.
 #[tactic(auto, using(crate::proofs::LaidLemmas::files_more, crate::proofs::LaidLemmas::files_done), unfolding(wild_laid::specs::Laid::laid_files))]
 pub(crate) fn add_laid<A: Arch>(
     alloc: Global,

@@ -1,5 +1,5 @@
-//! The entries of a file that name a symbol or a resolver: those of the symbols that it has copied into the output, and
-//! those of fields that are left to a loader (gABI, "Relocation"; x86-64 psABI, "Relocation Types").
+//! The entries of a file in `.rela.dyn` that name a symbol or a resolver: COPY relocations, and those of fields whose value the dynamic
+//! linker computes (gABI, "Relocation"; x86-64 psABI, "Relocation Types").
 ghost use Rattle.std.specs.Prelude.{◌≡◌, ◌++◌, OnOk};
 ghost use Rattle.std.specs.List.{flat_map};
 ghost use Rattle.wild_types.specs.FileSymbols.{copies_of};
@@ -30,14 +30,14 @@ fn entry_for(place: u64, number: u32, symbol: u64, addend: u64) -> Rela
     }
 }
 
-/// The index of a symbol in the dynamic symbol table; 0 where it has none.
+/// The index of a symbol in the dynamic symbol table; 0 if it is not there.
 fn index_or_zero(layout: &Layout, symbol: SymbolIndex) -> u64
     ensures { result ≡ index_or_zero layout.now symbol }
 {
     index_of(layout, symbol).unwrap_or(0)
 }
 
-/// The entry of a relocation, where its field is left to one.
+/// The entry of a relocation, if the dynamic linker computes its field.
 #[tactic(auto, unfolding(crate::specs::General::left_in))]
 fn left_entry(layout: &Layout, section: &InputSection, relocation: &InputRelocation) -> Option<Rela>
     ensures { result ≡ left_in layout.now section.now relocation.now }
@@ -62,7 +62,7 @@ fn left_entry(layout: &Layout, section: &InputSection, relocation: &InputRelocat
     }
 }
 
-/// Adds the entry of a relocation, where its field is left to one.
+/// Appends the entry of a relocation, if the dynamic linker computes its field.
 #[tactic(auto, unfolding(crate::specs::General::left_bytes))]
 fn add_left(
     layout: &Layout,
@@ -78,7 +78,7 @@ fn add_left(
     }
 }
 
-/// Adds the entries of the relocations of a section.
+/// Appends the entries of the relocations of a section.
 fn add_all_left(
     layout: &Layout,
     section: &InputSection,
@@ -92,7 +92,7 @@ fn add_all_left(
     Ok(())
 }
 
-/// Adds the entries of a section.
+/// Appends the entries of a section.
 #[tactic(auto, using(crate::proofs::GeneralLemmas::section_left, crate::proofs::GeneralLemmas::none_left))]
 pub(crate) fn add_section_left(
     layout: &Layout,
@@ -107,7 +107,7 @@ pub(crate) fn add_section_left(
     Ok(())
 }
 
-/// The entry by which a loader copies a symbol's bytes to its address.
+/// The COPY entry for a symbol's address.
 fn copy_entry<A: Arch>(resolved: &Resolved<A>, symbol: SymbolIndex) -> Rela
     ensures { result ≡ copy_entry resolved.now.layout.now symbol }
 {
@@ -120,7 +120,7 @@ fn copy_entry<A: Arch>(resolved: &Resolved<A>, symbol: SymbolIndex) -> Rela
     )
 }
 
-/// Adds the entries of the symbols that a file has copied.
+/// Appends the COPY entries of a file.
 #[tactic(auto, unfolding(crate::specs::General::copy_bytes))]
 pub(crate) fn add_copies<A: Arch>(
     resolved: &Resolved<A>,

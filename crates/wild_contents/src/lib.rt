@@ -1,5 +1,5 @@
-//! What each group gives to each table: entries, words of slots, stubs, names, symbols, hash tables, versions and the dynamic section, and
-//! the bytes of its input sections and thunks.
+//! What each group contributes to each part: relocation entries, GOT words, PLT stubs, names, symbols, hash tables, versions and the
+//! dynamic section, and the bytes of its input sections and thunks.
 #![tactic(auto)]
 
 mod copies;

@@ -1,4 +1,4 @@
-//! What the dynamic symbol table says of the symbols that other modules see, and what these lack of it.
+//! The dynamic symbols that the output exports: the fields of their entries, and what these entries may lack.
 ghost use Rattle.std.specs.Prelude.{◌≡◌, ◌++◌, true, slice_get};
 ghost use Rattle.std.specs.List.{flat_map};
 ghost use Rattle.wild_types.specs.Faults.{Answers};
@@ -12,7 +12,7 @@ use wild_sections::{InputPlace, Resolved};
 use wild_symbols::{SymbolFields, listed_fields, no_fields};
 use wild_types::{DynamicSymbol, Error, Fault, File};
 
-/// What the entry of a listed symbol says, or what the symbol lacks of it.
+/// The fields of an exported symbol's entry, or why it has none.
 fn fields_of<A: Arch>(resolved: &Resolved<A>, listed: &DynamicSymbol) -> Result<SymbolFields, Fault>
     requires table { needs_dynsym resolved.now.layout.now.kind ≡ true }
     ensures { result ≡ listed_of resolved.now.layout.now listed.now.symbol (slice_get resolved.now.layout.now.symbols listed.now.symbol) }
@@ -34,7 +34,7 @@ fn fields_of<A: Arch>(resolved: &Resolved<A>, listed: &DynamicSymbol) -> Result<
     }
 }
 
-/// The same, of a symbol that lacks nothing.
+/// The fields of an exported symbol's entry; zeros if it has a fault.
 pub(crate) fn listed_or_none<A: Arch>(
     resolved: &Resolved<A>,
     listed: &DynamicSymbol,
@@ -45,7 +45,7 @@ pub(crate) fn listed_or_none<A: Arch>(
     fields_of(resolved, listed).unwrap_or(no_fields())
 }
 
-/// Refuses a listed symbol that lacks something.
+/// Refuses an exported symbol whose entry has a fault.
 fn check_symbol<A: Arch>(
     resolved: &Resolved<A>,
     place: InputPlace,
@@ -63,7 +63,7 @@ fn check_symbol<A: Arch>(
     }
 }
 
-/// Refuses listed symbols of which one lacks something: answers the first fault in their order.
+/// Checks exported symbols; returns the first fault in their order.
 #[tactic(auto, using(wild_sections::proofs::FaultLemmas::first_faults))]
 fn check_symbols<A: Arch>(
     resolved: &Resolved<A>,
@@ -79,7 +79,7 @@ fn check_symbols<A: Arch>(
     Ok(())
 }
 
-/// Refuses the listed symbols, where the file is the last one.
+/// Checks the exported symbols, if the file is the last one.
 #[tactic(auto, unfolding(wild_layout::specs::Faults::listed_errors))]
 fn check_file<A: Arch>(resolved: &Resolved<A>, place: InputPlace, file: &File) -> Result<(), Error>
     ensures { Answers result (listed_errors resolved.now.layout.now place.group place.file file.now) }
@@ -91,7 +91,7 @@ fn check_file<A: Arch>(resolved: &Resolved<A>, place: InputPlace, file: &File) -
     Ok(())
 }
 
-/// Refuses the listed symbols, where one of the files is the last one.
+/// Checks the exported symbols, if one of the files is the last one.
 #[tactic(auto, using(wild_sections::proofs::FaultLemmas::first_from))]
 fn check_listed<A: Arch>(resolved: &Resolved<A>, group: usize, files: &[File]) -> Result<(), Error>
     ensures { Answers result (flat_map_from (listed_errors resolved.now.layout.now group) 0 files.now) }
@@ -107,8 +107,7 @@ fn check_listed<A: Arch>(resolved: &Resolved<A>, group: usize, files: &[File]) -
     Ok(())
 }
 
-/// What the symbols of a group's files lack of their entries: those that other modules see, and then those of the table of all
-/// symbols.
+/// Checks the symbol table entries of a group's files: first the exported dynamic symbols, then `.symtab`.
 #[tactic(auto, using(wild_sections::proofs::FaultLemmas::first_of_both))]
 pub fn check_symbol_tables<A: Arch>(
     resolved: &Resolved<A>,

@@ -1,4 +1,4 @@
-//! Notes of GNU (gABI, "Note Section"; the Linux Extensions to gABI, "Program Property").
+//! GNU notes (gABI, "Note Section"; the Linux Extensions to gABI, "Program Property").
 ghost use Rattle.std.specs.Prelude.{◌≡◌, ◌+◌, ◌-◌, ◌^◌, ◌≤◌, ◌++◌, min, length, take, OnOk};
 ghost use Rattle.std.specs.List.{flat_map};
 ghost use Rattle.wild_types.specs.Lists.{total};
@@ -14,13 +14,13 @@ use wild_records::abi::note::{NT_GNU_BUILD_ID, NT_GNU_PROPERTY_TYPE_0};
 use wild_types::{File, Layout, Property, PropertyValue};
 use wild_words::{put, put_u32, put_u64};
 
-/// The name of GNU's notes with its zero, as a little-endian number.
+/// The name "GNU" with its zero, as a little-endian number.
 const NAME: u32 = 0x0055_4e47;
 
-/// How many bytes stand ahead of a note's descriptor: the note's header and the name.
+/// The offset of a GNU note's descriptor: the size of the note's header and the name.
 const FRONT_SIZE: usize = NoteHeader::SIZE + 4;
 
-/// The header of such a note, whose descriptor has so many bytes, and its name.
+/// Writes the header of a GNU note whose descriptor has `size` bytes, and the name.
 #[tactic(auto, using(crate::proofs::NoteLemmas::front_put))]
 fn put_front(kind: u32, size: usize, out: &mut [u8])
     requires { gnu_note_size ≤ length out.old }
@@ -32,7 +32,7 @@ fn put_front(kind: u32, size: usize, out: &mut [u8])
     put_u32(out, 12, NAME);
 }
 
-/// A note of that type with its descriptor.
+/// Writes a note of that type with its descriptor.
 #[tactic(auto, using(crate::proofs::NoteLemmas::note_put))]
 fn put_note(kind: u32, descriptor: &[u8], out: &mut [u8])
     requires { length out.old ≡ gnu_note_size + length descriptor.now }
@@ -42,7 +42,7 @@ fn put_note(kind: u32, descriptor: &[u8], out: &mut [u8])
     put(out, FRONT_SIZE, descriptor);
 }
 
-/// The note that tells which build the output is, into its room; nothing where the layout names none.
+/// Writes the build id note into its room; writes nothing if the layout has no build id.
 pub fn write_gnu_build_id_note(layout: &Layout, out: &mut [u8])
     requires { length out.old ≡ build_id_room layout.now.build_id }
     ensures { out.new ≡ build_id_note layout.now.build_id }
@@ -52,7 +52,7 @@ pub fn write_gnu_build_id_note(layout: &Layout, out: &mut [u8])
     }
 }
 
-/// A property whose value is a word: its type, the value's size, the value, and zeros up to a multiple of 8 bytes.
+/// Writes a property whose value is a word: its type, the value's size, the value, and zeros up to a multiple of 8 bytes.
 #[tactic(auto, using(crate::proofs::NoteLemmas::four_put))]
 fn put_word_property(kind: u32, value: u32, at: usize, out: &mut [u8])
     requires { at + 16 ≤ length out.old }
@@ -64,7 +64,7 @@ fn put_word_property(kind: u32, value: u32, at: usize, out: &mut [u8])
     put_u32(out, at + 12, 0);
 }
 
-/// A property that tells how addresses are signed.
+/// Writes the pointer authentication property, which says how addresses are signed.
 #[tactic(auto, using(crate::proofs::NoteLemmas::four_put))]
 fn put_signed_property(kind: u32, platform: u64, version: u64, at: usize, out: &mut [u8])
     requires { at + 24 ≤ length out.old }
@@ -76,7 +76,7 @@ fn put_signed_property(kind: u32, platform: u64, version: u64, at: usize, out: &
     put_u64(out, at + 16, version);
 }
 
-/// A property, from an offset on.
+/// Writes a property at an offset.
 fn put_property(property: &Property, at: usize, out: &mut [u8])
     requires { at + property_room property.now ≤ length out.old }
     ensures { take (at + property_room property.now) out.new ≡ take at out.old ++ property_bytes property.now }
@@ -89,7 +89,7 @@ fn put_property(property: &Property, at: usize, out: &mut [u8])
     }
 }
 
-/// How many bytes a property has.
+/// The size of a property in bytes.
 fn property_size(property: &Property) -> usize
     ensures { result ≡ property_room property.now }
 {
@@ -99,7 +99,7 @@ fn property_size(property: &Property) -> usize
     }
 }
 
-/// Properties, one behind the other, behind the front of their note.
+/// Writes properties consecutively, after the header and name of their note.
 fn put_properties(properties: &[Property], out: &mut [u8])
     requires { length out.old ≡ gnu_note_size + total property_room properties.now }
     ensures { out.new ≡ take gnu_note_size out.old ++ flat_map property_bytes properties.now }
@@ -111,7 +111,7 @@ fn put_properties(properties: &[Property], out: &mut [u8])
     }
 }
 
-/// The note of the output's properties, into its room; nothing where it has none.
+/// Writes the note of the output's properties into its room; writes nothing if there are none.
 #[tactic(auto, using(crate::proofs::NoteLemmas::properties_put))]
 pub fn write_gnu_property_notes(layout: &Layout, out: &mut [u8])
     requires { length out.old ≡ properties_room layout.now.properties }
@@ -125,7 +125,7 @@ pub fn write_gnu_property_notes(layout: &Layout, out: &mut [u8])
     put_properties(properties, out);
 }
 
-/// How many bytes the note of the build has, at most 2^64 - 1.
+/// The size of the build id note in bytes, at most 2^64 - 1.
 fn build_id_room(layout: &Layout) -> usize
     ensures { result ≡ min (2 ^ 64 - 1) (build_id_room layout.now.build_id) }
 {
@@ -135,7 +135,7 @@ fn build_id_room(layout: &Layout) -> usize
     }
 }
 
-/// How many bytes the note of the properties has, at most 2^64 - 1.
+/// The size of the property note in bytes, at most 2^64 - 1.
 fn properties_room(properties: &[Property]) -> usize
     ensures { result ≡ min (2 ^ 64 - 1) (properties_room properties.now) }
 {
@@ -149,7 +149,7 @@ fn properties_room(properties: &[Property]) -> usize
     room
 }
 
-/// Adds the note of the build, where the file is the last one.
+/// Appends the build id note, if the file is the last one.
 pub(crate) fn add_build_id(
     alloc: Global,
     layout: &Layout,
@@ -166,7 +166,7 @@ pub(crate) fn add_build_id(
     Ok(())
 }
 
-/// Adds the note of the properties, where the file is the last one.
+/// Appends the property note, if the file is the last one.
 pub(crate) fn add_properties(
     alloc: Global,
     layout: &Layout,

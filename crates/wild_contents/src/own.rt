@@ -1,4 +1,4 @@
-//! What a file gives to the parts that no section is read for: those that a loader reads, those of the table of all symbols, and notes.
+//! What a file contributes to parts that do not depend on its sections: dynamic tables, `.symtab` and notes.
 ghost use Rattle.std.specs.Prelude.{◌≡◌, ◌++◌, false, OnOk};
 ghost use Rattle.wild_layout.specs.Content.{own_bytes};
 ghost use Rattle.wild_contents.specs.Laid.{is_applied, is_apart};
@@ -14,7 +14,7 @@ use wild_relax::Arch;
 use wild_sections::Resolved;
 use wild_types::{File, Role};
 
-/// Adds what a file gives to a part of that role, of those that no section is read for.
+/// Appends what a file contributes to a part of that role that does not depend on its sections.
 pub(crate) fn add_own<A: Arch>(
     alloc: Global,
     resolved: &Resolved<A>,

@@ -1,4 +1,4 @@
-//! The bytes that a group has of a part.
+//! A buffer for the bytes of a group.
 ghost use Rattle.std.specs.Prelude.{◌≡◌, [], ◌++◌, true, length, All, IfOk, OnOk};
 ghost use Rattle.wild_frames.specs.Frames.{terminator};
 ghost use Rattle.wild_types.specs.Faults.{Answers};
@@ -20,7 +20,7 @@ use wild_relax::Arch;
 use wild_sections::{Origin, Resolved, write_data, write_group_section, write_rela_section};
 use wild_types::{Error, InputSection, ItemRef};
 
-/// Bytes that grow at their end, which contracts see as a list of numbers.
+/// A growing buffer, which contracts see as a list of numbers.
 #[derive(Drop)]
 pub struct PartBytes {
     entries: Vec<u8>,
@@ -35,7 +35,7 @@ impl Model for PartBytes {
 }
 
 impl PartBytes {
-    /// No bytes.
+    /// An empty buffer.
     pub fn empty(alloc: Global) -> Self
         ensures { result ≡ [] }
     {
@@ -44,7 +44,7 @@ impl PartBytes {
         }
     }
 
-    /// No bytes, with room for so many.
+    /// An empty buffer with capacity for `count` bytes.
     pub fn with_room(alloc: Global, count: usize) -> Result<Self, AllocError>
         ensures { IfOk result (λ v. v ≡ []) }
     {
@@ -53,28 +53,28 @@ impl PartBytes {
         })
     }
 
-    /// These bytes.
+    /// A buffer of these bytes.
     pub fn from_vec(bytes: Vec<u8>) -> Self
         ensures { result ≡ bytes.items }
     {
         PartBytes { entries: bytes }
     }
 
-    /// Adds bytes at the end.
+    /// Appends bytes.
     pub fn extend(&mut self, bytes: &[u8]) -> Result<(), AllocError>
         ensures { OnOk result (self.new ≡ self.old ++ bytes.now) }
     {
         self.entries.extend_from_slice(bytes)
     }
 
-    /// Adds what ends the frames of an output.
+    /// Appends the terminator of the output's frames.
     pub fn end_frames(&mut self) -> Result<(), AllocError>
         ensures { OnOk result (self.new ≡ self.old ++ terminator) }
     {
         write_eh_frame_terminator(&mut self.entries)
     }
 
-    /// Adds the bytes of an item with its fields, or answers its first fault, with the place that it has in the input.
+    /// Appends the bytes of an item with its relocations applied, or returns its first fault, with its place in the input.
     pub fn add_data<A: Arch>(
         &mut self,
         alloc: Global,
@@ -92,8 +92,8 @@ impl PartBytes {
         write_data(alloc, resolved, origin, item, &mut self.entries[from..])
     }
 
-    /// Adds the bytes of a section that debuggers read, which stands so, with its relocations, or answers its first fault, with the place
-    /// that it has in the input; by so many workers.
+    /// Appends the bytes of a debug section of a final output with its relocations applied, or returns its first fault, with its place in
+    /// the input. `workers` threads share a large section.
     pub fn add_debug<A: ShardedArch, R: Threads + Sync>(
         &mut self,
         by: &Workers<R>,
@@ -118,7 +118,7 @@ impl PartBytes {
         )
     }
 
-    /// Adds the bytes of a table of relocations, which stands with those of its target.
+    /// Appends the bytes of a relocation table that is placed with its target section.
     #[tactic(auto, using(crate::proofs::PartLemmas::rela_room))]
     pub fn add_rela<A: Arch>(
         &mut self,
@@ -135,7 +135,7 @@ impl PartBytes {
         self.extend(&room)
     }
 
-    /// Adds the bytes of a group.
+    /// Appends the bytes of a section group.
     pub fn add_group(&mut self, alloc: Global, section: &InputSection) -> Result<(), AllocError>
         requires size { length (group_words section.now) ≡ section.now.size }
         ensures { OnOk result (self.new ≡ self.old ++ group_words section.now) }

@@ -1,4 +1,4 @@
-//! The search table of the frames of all files (LSB, "The .eh_frame_hdr section").
+//! The `.eh_frame_hdr` search table of the frames of all files (LSB, "The .eh_frame_hdr section").
 ghost use Rattle.std.specs.Prelude.{◌≡◌, not, ◌&&◌, ◌<◌, ◌+◌, ◌^◌, ◌++◌, true, false, None, [], length, IfOk, OnOk};
 ghost use Rattle.std.specs.List.{flat_map};
 ghost use Rattle.wild_types.specs.declared.part.Role.TheVariants as role;
@@ -24,7 +24,7 @@ use wild_types::{
     Fault, File, Group, InputRelocation, InputSection, Layout, Part, Role, part_with,
 };
 
-/// The search table of frames, or what is too far from it.
+/// The search table, or the fault that a frame is too far from it.
 #[derive(Drop)]
 pub struct SearchTable {
     pub bytes: PartBytes,
@@ -44,7 +44,7 @@ impl SearchTable {
     }
 }
 
-/// Where the code begins that an FDE is of, by the FDE's relocations: S + A of the first.
+/// The start address of the code that an FDE describes: S + A of the FDE's first relocation.
 fn code_at<A: Arch>(resolved: &Resolved<A>, own: &[InputRelocation]) -> u64
     ensures { result ≡ code_at resolved.now.layout.now own.now }
 {
@@ -56,7 +56,7 @@ fn code_at<A: Arch>(resolved: &Resolved<A>, own: &[InputRelocation]) -> u64
     }
 }
 
-/// Adds what was found in frames that stand from an address on, with its relocations, where it is an FDE that is kept.
+/// Appends a record found in frames that begin at an address, with its relocations, if it is an FDE that is kept.
 fn add_found<A: Arch>(
     resolved: &Resolved<A>,
     frames: &FileFrames<'_>,
@@ -80,7 +80,7 @@ fn add_found<A: Arch>(
     }
 }
 
-/// Adds the FDEs from the start of a walk on.
+/// Appends the FDEs from the start of a walk on.
 #[tactic(auto, using(crate::proofs::SearchTableLemmas::found_more, crate::proofs::SearchTableLemmas::found_last))]
 fn add_from<A: Arch>(
     resolved: &Resolved<A>,
@@ -104,7 +104,7 @@ fn add_from<A: Arch>(
     }
 }
 
-/// Adds the FDEs of a section of frames that stand from an address on.
+/// Appends the FDEs of a section of frames that begin at an address.
 #[tactic(auto, using(crate::proofs::SearchTableLemmas::frames_added, crate::proofs::SearchTableLemmas::frames_bad, crate::proofs::SearchTableLemmas::frames_none))]
 fn add_frames<A: Arch>(
     alloc: Global,
@@ -130,7 +130,7 @@ fn add_frames<A: Arch>(
     }
 }
 
-/// Adds the FDEs of a file whose frames stand from an address on; tells where those behind stand.
+/// Appends the FDEs of a file whose frames begin at an address; returns the address after them.
 #[tactic(auto, using(crate::proofs::SearchTableLemmas::section_more, crate::proofs::SearchTableLemmas::section_done, crate::proofs::LaidLemmas::reach_more, crate::proofs::LaidLemmas::reach_done))]
 fn add_file<A: Arch>(
     alloc: Global,
@@ -150,7 +150,7 @@ fn add_file<A: Arch>(
     Ok(next)
 }
 
-/// Adds the FDEs of a group.
+/// Appends the FDEs of a group.
 #[tactic(auto, using(crate::proofs::SearchTableLemmas::file_more, crate::proofs::SearchTableLemmas::file_done))]
 fn add_group<A: Arch>(
     alloc: Global,
@@ -189,7 +189,7 @@ fn address_of(role: Role, parts: &[Part]) -> u64
     }
 }
 
-/// The table of these FDEs, of which there are fewer than it can count.
+/// The table of these FDEs, fewer than its 32-bit count can hold.
 fn table_of<A: Arch>(
     rt: &(impl Threads + Sync),
     alloc: Global,
@@ -220,16 +220,16 @@ fn table_of<A: Arch>(
     }
 }
 
-/// Whether the option asks for the search table, and it is written.
+/// Whether the option requires the search table, and it is written.
 fn is_asked(layout: &Layout) -> bool
     ensures { result ≡ (layout.now.options.eh_frame_hdr && not (is_hollow_role layout.now role.EhFrameHdr)) }
 {
     layout.options.eh_frame_hdr && !layout.is_hollow_role(Role::EhFrameHdr)
 }
 
-/// The search table of all frames, where the option asks for one and it is written, or what is too far from it. One pass over all
-/// frames, and a sort of their FDEs, on as many threads as there are processors. More FDEs than the table can count, 2^32, are more
-/// than there is memory for.
+/// The search table of all frames, if the option requires one and it is written; or the fault of a frame too far from it. One pass over
+/// all frames, and a parallel sort of their FDEs with one thread for each processor. More FDEs than the table can count, 2^32, do
+/// not fit in memory.
 pub fn make_search_table<A: Arch>(
     rt: &(impl Threads + Sync),
     alloc: Global,

@@ -1,4 +1,4 @@
-//! Why the slots of a file's symbols are not written.
+//! Why GOT and PLT entries of a file's symbols cannot be written.
 ghost use Rattle.std.specs.Prelude.{◌≡◌, Some};
 ghost use Rattle.wild_types.specs.Faults.{Answers};
 ghost use Rattle.wild_slot.specs.SymbolWords.{slots_of};
@@ -8,7 +8,7 @@ use wild_sections::InputPlace;
 use wild_slot::{SlotFault, SymbolSlots, begins_block};
 use wild_types::{Error, Fault, File, Layout, Missing, Resolution, Role, Symbol};
 
-/// The fault of the slots of a symbol with that number.
+/// The fault of the GOT and PLT entries of the symbol with that index.
 fn fault_of(index: usize, fault: SlotFault) -> Fault
     ensures { result ≡ slot_fault index fault }
 {
@@ -27,7 +27,7 @@ fn fault_of(index: usize, fault: SlotFault) -> Fault
     }
 }
 
-/// What keeps the slots of a symbol from being written; a symbol without a slot has none.
+/// Why a symbol's GOT and PLT entries cannot be written; None for a symbol without a GOT entry.
 #[tactic(auto, unfolding(wild_slot::specs::SymbolWords::slots_of, wild_slot::specs::Slots::slot))]
 fn fault_in(layout: &Layout, symbol: &Symbol) -> Option<SlotFault>
     ensures { result ≡ (slots_of layout.now symbol.now).fault }
@@ -43,7 +43,7 @@ fn fault_in(layout: &Layout, symbol: &Symbol) -> Option<SlotFault>
     }
 }
 
-/// The part that the slots of a symbol stand in.
+/// The role of the part that has the GOT entries of a symbol.
 fn slot_role(layout: &Layout, symbol: &Symbol) -> Role
     ensures { result ≡ slot_role layout.now symbol.now }
 {
@@ -55,7 +55,7 @@ fn slot_role(layout: &Layout, symbol: &Symbol) -> Role
     }
 }
 
-/// Refuses slots of the symbol with that number that are not written, though other bytes of their section are.
+/// Refuses the symbol with that index if its GOT and PLT entries cannot be written and their section is not omitted.
 fn check_symbol(
     layout: &Layout,
     place: InputPlace,
@@ -73,7 +73,7 @@ fn check_symbol(
     }
 }
 
-/// Refuses slots of a file's symbols that are not written: answers the first fault in the order of the symbols.
+/// Checks the GOT and PLT entries of a file's symbols; returns the first fault in the order of the symbols.
 #[tactic(auto, using(wild_sections::proofs::FaultLemmas::first_behind), unfolding(wild_layout::specs::Faults::slot_errors))]
 pub(crate) fn check_slots(layout: &Layout, place: InputPlace, file: &File) -> Result<(), Error>
     ensures { Answers result (slot_errors layout.now place.group place.file file.now) }

@@ -1,4 +1,4 @@
-//! What stands once at the start of the global offset table, and the words that pack a group's block of slots.
+//! The start of the GOT, which is written once, and the `.relr.dyn` words for a group's GOT words.
 ghost use Rattle.std.specs.Prelude.{◌≡◌, ◌-◌, ◌*◌, ◌^◌, ◌++◌, min, replicate, unwrap_or, OnOk};
 ghost use Rattle.wild_relr.specs.Packed.{bitmaps, bitmap_count};
 ghost use Rattle.wild_relr.specs.Written.{word_bytes};
@@ -15,7 +15,7 @@ use wild_needs::{Block, group_block};
 use wild_slot::{EntryPart, Setting, WordPart, storage_pair};
 use wild_types::{Group, Layout, Role};
 
-/// Adds so many words that are 0.
+/// Appends `count` words that are 0.
 fn add_zeros(count: u64, bytes: &mut PartBytes) -> Result<(), AllocError>
     ensures { OnOk result (bytes.new ≡ bytes.old ++ word_bytes (replicate count 0)) }
 {
@@ -25,7 +25,7 @@ fn add_zeros(count: u64, bytes: &mut PartBytes) -> Result<(), AllocError>
     Ok(())
 }
 
-/// Adds the pair of the output's own thread-local data, where it has a place.
+/// Appends the GOT pair for the output's own thread-local data (local dynamic model), if it has an address.
 fn add_pair(layout: &Layout, bytes: &mut PartBytes) -> Result<(), AllocError>
     ensures { OnOk result (bytes.new ≡ bytes.old ++ word_bytes (slot_words words.Got layout.now.options.relr (unwrap_or layout.now.tlsld 0) (storage_words layout.now))) }
 {
@@ -38,7 +38,7 @@ fn add_pair(layout: &Layout, bytes: &mut PartBytes) -> Result<(), AllocError>
     }
 }
 
-/// Adds the entries of that pair.
+/// Appends the dynamic relocations of that pair.
 fn add_pair_entries(layout: &Layout, bytes: &mut PartBytes) -> Result<(), AllocError>
     ensures { OnOk result (bytes.new ≡ bytes.old ++ rela_bytes (storage_entries layout.now)) }
 {
@@ -59,7 +59,7 @@ fn add_pair_entries(layout: &Layout, bytes: &mut PartBytes) -> Result<(), AllocE
     }
 }
 
-/// Adds what stands once of a part of that role: reserved words, which are 0, and that pair.
+/// Appends what is once in a part of that role: the reserved words, which are 0, and that pair; or the pair's relocations.
 pub(crate) fn add_header(
     layout: &Layout,
     role: Role,
@@ -77,7 +77,7 @@ pub(crate) fn add_header(
     }
 }
 
-/// The bitmap word of so many slots, all of whose bits are set, at most 63.
+/// The RELR bitmap word of `slots` consecutive words, of at most 63: all of their bits are set.
 #[tactic(auto, using(wild_relr::proofs::WriterLemmas::full_shift))]
 fn full_bitmap(slots: u64) -> u64
     ensures { result ≡ 2 * 2 ^ min slots 63 - 1 }
@@ -85,7 +85,7 @@ fn full_bitmap(slots: u64) -> u64
     u64::MAX >> (63 - slots.min(63))
 }
 
-/// Adds the bitmap words of so many slots.
+/// Appends the RELR bitmap words of `slots` consecutive words.
 fn add_bitmaps(slots: u64, bytes: &mut PartBytes) -> Result<(), AllocError>
     ensures { OnOk result (bytes.new ≡ bytes.old ++ word_bytes (bitmaps (bitmap_count slots) slots)) }
 {
@@ -97,7 +97,7 @@ fn add_bitmaps(slots: u64, bytes: &mut PartBytes) -> Result<(), AllocError>
     Ok(())
 }
 
-/// Adds the words that pack a block: its address, and the bitmap words of the slots behind its first (gABI, "Relative
+/// Appends the RELR words of a run of GOT words: the address of the first, and the bitmap words of the others (gABI, "Relative
 /// Relocation Table").
 fn add_words_of_block(block: Block, bytes: &mut PartBytes) -> Result<(), AllocError>
     ensures { OnOk result (bytes.new ≡ bytes.old ++ word_bytes (words_of_block block)) }
@@ -109,7 +109,7 @@ fn add_words_of_block(block: Block, bytes: &mut PartBytes) -> Result<(), AllocEr
     add_bitmaps(block.count - 1, bytes)
 }
 
-/// Adds the words that pack a group's block of slots, where the part of that role has them.
+/// Appends the RELR words of a group's run of GOT words, if the part of that role is `.relr.dyn`.
 pub(crate) fn add_block(
     layout: &Layout,
     role: Role,

@@ -1,4 +1,4 @@
-//! Words of slots in the parts that they give something to.
+//! GOT words: their bytes, their dynamic relocations, and their RELR words.
 ghost use Rattle.std.specs.Prelude.{◌≡◌, ◌∷◌, [], ◌++◌, OnOk};
 ghost use Rattle.wild_slot.specs.SlotParts.{slot_words, slot_entries, flat_places};
 ghost use Rattle.wild_relr.specs.Written.{word_bytes};
@@ -10,7 +10,7 @@ use std::alloc::AllocError;
 use wild_slot::{EntryPart, SlotWord, WordPart, entry_of, flat_place, next_word, word_of};
 use wild_types::Machine;
 
-/// Adds a word.
+/// Appends a word.
 #[tactic(auto, using(wild_words::proofs::WordLemmas::word_8))]
 pub(crate) fn add_word(word: u64, bytes: &mut PartBytes) -> Result<(), AllocError>
     ensures { OnOk result (bytes.new ≡ bytes.old ++ word_bytes (word ∷ [])) }
@@ -18,7 +18,7 @@ pub(crate) fn add_word(word: u64, bytes: &mut PartBytes) -> Result<(), AllocErro
     bytes.extend(&word.to_le_bytes())
 }
 
-/// Adds what words, which stand from a place on, have in a part.
+/// Appends the GOT words, of which the first is at `place`, that are in a part.
 pub(crate) fn add_slot_words(
     part: WordPart,
     relr: bool,
@@ -38,7 +38,7 @@ pub(crate) fn add_slot_words(
     Ok(())
 }
 
-/// Adds the entries of words in a part.
+/// Appends the dynamic relocations of GOT words that are in a part.
 pub(crate) fn add_slot_entries(
     part: EntryPart,
     machine: Machine,
@@ -59,7 +59,7 @@ pub(crate) fn add_slot_entries(
     Ok(())
 }
 
-/// Adds the places of words that have a RELR word of their own.
+/// Appends the places of the GOT words that have a RELR word of their own.
 pub(crate) fn add_flat_places(
     relr: bool,
     place: u64,

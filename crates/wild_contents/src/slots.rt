@@ -1,4 +1,4 @@
-//! What the slots and stubs of a file's symbols give to the parts (x86-64 psABI, "Global Offset Table (GOT)", "Procedure
+//! What the GOT and PLT entries of a file's symbols contribute to the parts (x86-64 psABI, "Global Offset Table (GOT)", "Procedure
 //! Linkage Table").
 ghost use Rattle.std.specs.Prelude.{◌≡◌, ◌++◌, unwrap_or, OnOk};
 ghost use Rattle.std.specs.List.{flat_map};
@@ -13,20 +13,20 @@ use std::alloc::AllocError;
 use wild_slot::{EntryPart, STUB_SIZE, SymbolSlots, WordPart, put_stub};
 use wild_types::{File, Layout, Role, Symbol};
 
-/// What a part takes of the slots and stubs of symbols.
+/// What a part has for the GOT and PLT entries of symbols.
 #[derive(Clone, Copy)]
 enum SlotPart {
-    /// Words.
+    /// The GOT words.
     Words(WordPart),
-    /// Entries, each with the place of its word.
+    /// The dynamic relocations of GOT words.
     Entries(EntryPart),
-    /// Places that have a RELR word of their own.
+    /// The places of GOT words that have a RELR word of their own.
     Places,
-    /// Stubs.
+    /// The PLT stubs.
     Stubs,
 }
 
-/// What the part of a role takes of them, if anything.
+/// Which of these the part of a role has, if any.
 fn slot_part(role: Role) -> Option<SlotPart>
     ensures { result ≡ slot_part role }
 {
@@ -42,7 +42,7 @@ fn slot_part(role: Role) -> Option<SlotPart>
     }
 }
 
-/// The address of a symbol's stub; 0 where it has none.
+/// The address of a symbol's PLT stub; 0 if it has none.
 fn stub_at(symbol: &Symbol) -> u64
     ensures { result ≡ unwrap_or (plt_of symbol.now) 0 }
 {
@@ -52,7 +52,7 @@ fn stub_at(symbol: &Symbol) -> u64
     }
 }
 
-/// Adds the stub of a symbol, where it has one.
+/// Appends the PLT stub of a symbol, if it has one.
 fn add_stub(layout: &Layout, symbol: &Symbol, bytes: &mut PartBytes) -> Result<(), AllocError>
     ensures { OnOk result (bytes.new ≡ bytes.old ++ stub_bytes layout.now symbol.now) }
 {
@@ -71,7 +71,7 @@ fn add_stub(layout: &Layout, symbol: &Symbol, bytes: &mut PartBytes) -> Result<(
     Ok(())
 }
 
-/// Adds what a part takes of a symbol's slots and its stub.
+/// Appends what a part has for a symbol's GOT and PLT entries.
 #[tactic(auto, unfolding(crate::specs::Own::symbol_slot_bytes))]
 fn add_symbol(
     part: SlotPart,
@@ -94,7 +94,7 @@ fn add_symbol(
     }
 }
 
-/// Adds what a part takes of the slots and stubs of a file's symbols.
+/// Appends what a part has for the GOT and PLT entries of a file's symbols.
 fn add_symbols(
     part: SlotPart,
     layout: &Layout,
@@ -109,7 +109,7 @@ fn add_symbols(
     Ok(())
 }
 
-/// Adds what a file's slots and stubs give to a part of that role.
+/// Appends what a file's GOT and PLT entries contribute to a part of that role.
 #[tactic(auto, using(crate::proofs::SlotLemmas::slots_joined))]
 pub(crate) fn add_slots(
     layout: &Layout,

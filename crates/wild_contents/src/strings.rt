@@ -1,5 +1,5 @@
-//! The strings of the dynamic string table: of each file those that no symbol has for its name, then the names of its
-//! entries in the dynamic symbol table, and those of its versions (gABI, "String Table"; LSB, "Symbol Versioning").
+//! The dynamic string table (gABI, "String Table"; LSB, "Symbol Versioning"). Each file has, in this order, strings that are no symbol's
+//! name, the names of its dynamic symbols, and the names of its versions.
 ghost use Rattle.std.specs.Prelude.{◌≡◌, ◌++◌, option_to_list, OnOk};
 ghost use Rattle.std.specs.List.{flat_map, filter};
 ghost use Rattle.wild_needs.specs.DynamicStrings.{epilogue_strings, lead_strings, listed_names, symbol_names, entry_names, file_strings};
@@ -13,7 +13,7 @@ use wild_needs::{is_undefined_entry, needs_of};
 use wild_types::{DynamicSymbol, File, FileRole, Layout, NeededVersion, Symbol, VersionDefinition};
 use wild_words::Bytes;
 
-/// Adds a string, with a zero behind it.
+/// Appends a string and a zero.
 fn add_string(text: &[u8], bytes: &mut PartBytes) -> Result<(), AllocError>
     ensures { OnOk result (bytes.new ≡ bytes.old ++ string text.now) }
 {
@@ -21,7 +21,7 @@ fn add_string(text: &[u8], bytes: &mut PartBytes) -> Result<(), AllocError>
     bytes.extend(&[0])
 }
 
-/// Adds a string that may be there.
+/// Appends an optional string.
 fn add_option(text: &Option<Bytes>, bytes: &mut PartBytes) -> Result<(), AllocError>
     ensures { OnOk result (bytes.new ≡ bytes.old ++ flat_map string (option_to_list text.now)) }
 {
@@ -31,7 +31,7 @@ fn add_option(text: &Option<Bytes>, bytes: &mut PartBytes) -> Result<(), AllocEr
     }
 }
 
-/// Adds some strings.
+/// Appends strings.
 fn add_strings(texts: &[Bytes], bytes: &mut PartBytes) -> Result<(), AllocError>
     ensures { OnOk result (bytes.new ≡ bytes.old ++ string_bytes texts.now) }
 {
@@ -41,7 +41,7 @@ fn add_strings(texts: &[Bytes], bytes: &mut PartBytes) -> Result<(), AllocError>
     Ok(())
 }
 
-/// Adds the strings that entries of the dynamic section name.
+/// Appends the strings of the dynamic section's entries.
 #[tactic(auto, using(crate::proofs::StringLemmas::strings_are, crate::proofs::StringLemmas::no_strings))]
 fn add_dynamic_strings(layout: &Layout, bytes: &mut PartBytes) -> Result<(), AllocError>
     ensures { OnOk result (bytes.new ≡ bytes.old ++ epilogue_strings layout.now) }
@@ -54,7 +54,7 @@ fn add_dynamic_strings(layout: &Layout, bytes: &mut PartBytes) -> Result<(), All
     Ok(())
 }
 
-/// Adds the strings of a file that no symbol has for its name.
+/// Appends the strings of a file that are no symbol's name.
 fn add_leads(layout: &Layout, file: &File, bytes: &mut PartBytes) -> Result<(), AllocError>
     ensures { OnOk result (bytes.new ≡ bytes.old ++ string_bytes (lead_strings layout.now file.now)) }
 {
@@ -66,7 +66,7 @@ fn add_leads(layout: &Layout, file: &File, bytes: &mut PartBytes) -> Result<(), 
     }
 }
 
-/// Adds the names of listed symbols.
+/// Appends the names of exported symbols.
 fn add_listed_names(listed: &[DynamicSymbol], bytes: &mut PartBytes) -> Result<(), AllocError>
     ensures { OnOk result (bytes.new ≡ bytes.old ++ string_bytes (listed_names listed.now)) }
 {
@@ -76,7 +76,7 @@ fn add_listed_names(listed: &[DynamicSymbol], bytes: &mut PartBytes) -> Result<(
     Ok(())
 }
 
-/// Adds the names of the symbols that have an undefined entry, of some of a file of that role.
+/// Appends the names of undefined dynamic symbols among some symbols of a file of that role.
 fn add_undefined_names(
     role: FileRole,
     symbols: &[Symbol],
@@ -92,7 +92,7 @@ fn add_undefined_names(
     Ok(())
 }
 
-/// Adds the names of a file's entries in the dynamic symbol table.
+/// Appends the names of a file's dynamic symbols.
 fn add_entry_names(layout: &Layout, file: &File, bytes: &mut PartBytes) -> Result<(), AllocError>
     ensures { OnOk result (bytes.new ≡ bytes.old ++ string_bytes (entry_names layout.now file.now)) }
 {
@@ -103,7 +103,7 @@ fn add_entry_names(layout: &Layout, file: &File, bytes: &mut PartBytes) -> Resul
     }
 }
 
-/// Adds the names of versions that are needed.
+/// Appends the names of needed versions.
 fn add_needed_names(versions: &[NeededVersion], bytes: &mut PartBytes) -> Result<(), AllocError>
     ensures { OnOk result (bytes.new ≡ bytes.old ++ string_bytes (needed_names versions.now)) }
 {
@@ -113,7 +113,7 @@ fn add_needed_names(versions: &[NeededVersion], bytes: &mut PartBytes) -> Result
     Ok(())
 }
 
-/// Adds the names of versions that the output defines.
+/// Appends the names of versions that the output defines.
 fn add_defined_names(
     definitions: &[VersionDefinition],
     bytes: &mut PartBytes,
@@ -126,7 +126,7 @@ fn add_defined_names(
     Ok(())
 }
 
-/// Adds those of them that are strings of their own: not the first, where the output's own name is one.
+/// Appends those of them that need a string of their own: not the first if the output has a soname, whose string it shares.
 fn add_own_names(layout: &Layout, bytes: &mut PartBytes) -> Result<(), AllocError>
     ensures { OnOk result (bytes.new ≡ bytes.old ++ string_bytes (own_names layout.now.options.soname layout.now.verdefs)) }
 {
@@ -137,7 +137,7 @@ fn add_own_names(layout: &Layout, bytes: &mut PartBytes) -> Result<(), AllocErro
     }
 }
 
-/// Adds the name of a library once more, and those of the versions that are needed of it.
+/// Appends the name of a library, which is stored a second time for its versions, and the names of the versions needed of it.
 fn add_need_names(file: &File, bytes: &mut PartBytes) -> Result<(), AllocError>
     ensures { OnOk result (bytes.new ≡ bytes.old ++ string_bytes (need_names file.now.lib_name (needs_of file.now))) }
 {
@@ -150,7 +150,7 @@ fn add_need_names(file: &File, bytes: &mut PartBytes) -> Result<(), AllocError>
     }
 }
 
-/// Adds the strings of a file's versions.
+/// Appends the names of a file's versions.
 fn add_version_names(layout: &Layout, file: &File, bytes: &mut PartBytes) -> Result<(), AllocError>
     ensures { OnOk result (bytes.new ≡ bytes.old ++ string_bytes (version_names layout.now file.now)) }
 {
@@ -161,7 +161,7 @@ fn add_version_names(layout: &Layout, file: &File, bytes: &mut PartBytes) -> Res
     }
 }
 
-/// Adds the strings of a file.
+/// Appends the strings of a file.
 #[tactic(auto, using(crate::proofs::StringLemmas::file_strings_joined, crate::proofs::StringLemmas::no_file_strings))]
 pub(crate) fn add_file_strings(
     layout: &Layout,

@@ -1,6 +1,6 @@
-//! The entries of a group in the dynamic symbol table (gABI, "Symbol Table"): the null symbol, file by file the symbols
-//! that other modules define, and in the last file those that other modules see. Their names stand one behind the other in
-//! the string table, from where the group's strings begin.
+//! The entries of a group in the dynamic symbol table (gABI, "Symbol Table"): the null symbol, file by file the undefined symbols,
+//! and in the last file the exported symbols. Their names are consecutive in the string table, from the start of the group's
+//! strings.
 ghost use Rattle.std.specs.Prelude.{◌≡◌, ◌++◌, [], ◌∷◌, List, map, true, OnOk, IfOk};
 ghost use Rattle.std.specs.List.{filter};
 ghost use Rattle.wild_needs.specs.DynamicStrings.{behind_text, undefined_symbols};
@@ -19,7 +19,7 @@ use wild_sections::Resolved;
 use wild_symbols::{SymbolFields, entry_at, no_fields, undefined_fields};
 use wild_types::{DynamicSymbol, File, FileRole, Group, Layout, Symbol};
 
-/// Adds an entry.
+/// Appends an entry.
 pub(crate) fn add_entry(entry: SymtabEntry, bytes: &mut PartBytes) -> Result<(), AllocError>
     ensures { OnOk result (bytes.new ≡ bytes.old ++ symbol_bytes (entry ∷ [])) }
 {
@@ -28,14 +28,14 @@ pub(crate) fn add_entry(entry: SymtabEntry, bytes: &mut PartBytes) -> Result<(),
     bytes.extend(&room)
 }
 
-/// The offset behind a string and its zero, at most 2^64 - 1.
+/// The offset after a string and its zero, at most 2^64 - 1.
 pub(crate) fn behind_text(at: u64, text: &[u8]) -> u64
     ensures { result ≡ behind_text at text.now }
 {
     at.saturating_add((text.len() as u64).saturating_add(1))
 }
 
-/// Adds the entry of a symbol whose name stands at an offset, and tells the offset behind that.
+/// Appends the entry of a symbol whose name is at an offset; returns the offset after the name.
 fn add_symbol(
     at: u64,
     name: &[u8],
@@ -49,7 +49,7 @@ fn add_symbol(
     Ok(behind_text(at, name))
 }
 
-/// Adds the entries of the symbols that other modules define, of some of a file of that role.
+/// Appends the entries of the undefined symbols among some symbols of a file of that role.
 fn add_undefined(
     role: FileRole,
     symbols: &[Symbol],
@@ -68,7 +68,7 @@ fn add_undefined(
     Ok(())
 }
 
-/// Adds the entries of the symbols that other modules see.
+/// Appends the entries of the exported symbols.
 fn add_listed<A: Arch>(
     resolved: &Resolved<A>,
     symbols: &[DynamicSymbol],
@@ -86,7 +86,7 @@ fn add_listed<A: Arch>(
     Ok(())
 }
 
-/// Adds the entries of the symbols of a file, whose names begin at an offset.
+/// Appends the entries of the symbols of a file, whose names begin at an offset.
 fn add_symbols<A: Arch>(
     resolved: &Resolved<A>,
     file: &File,
@@ -104,7 +104,7 @@ fn add_symbols<A: Arch>(
     }
 }
 
-/// Adds the null symbol, where the file is the first one.
+/// Appends the null symbol, if the file is the first one.
 fn add_null(file: &File, bytes: &mut PartBytes) -> Result<(), AllocError>
     ensures { OnOk result (bytes.new ≡ bytes.old ++ symbol_bytes (null_entries file.now)) }
 {
@@ -114,14 +114,14 @@ fn add_null(file: &File, bytes: &mut PartBytes) -> Result<(), AllocError>
     Ok(())
 }
 
-/// The offset behind the strings that no symbol has for its name, of a file whose strings begin at an offset.
+/// The offset after the strings of a file that are no symbol's name; the file's strings begin at `at`.
 fn behind_lead(layout: &Layout, at: u64, file: &File) -> u64
     ensures { result ≡ behind_lead layout.now at file.now }
 {
     at.saturating_add(lead_room(layout, file))
 }
 
-/// Adds the entries of a file whose strings begin at an offset.
+/// Appends the entries of a file whose strings begin at an offset.
 #[tactic(auto, using(crate::proofs::SymbolLemmas::file_joined))]
 fn add_file<A: Arch>(
     resolved: &Resolved<A>,
@@ -141,7 +141,7 @@ fn add_file<A: Arch>(
     )
 }
 
-/// Adds the entries of a group.
+/// Appends the entries of a group.
 #[tactic(auto, unfolding(wild_symbols::specs::DynamicEntries::group_symbols))]
 pub(crate) fn add_group_symbols<A: Arch>(
     resolved: &Resolved<A>,

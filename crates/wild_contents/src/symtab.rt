@@ -1,5 +1,5 @@
-//! The parts of `.symtab` (gABI, "Symbol Table"): the entries of its local symbols and of the others, their longer section indexes,
-//! and the names. Each is what one walk over the symbols of a file gives to a sink, which computes of a symbol what its part takes.
+//! The parts of `.symtab` (gABI, "Symbol Table"): local entries, other entries, extended section indexes, and names. One walk over the
+//! symbols of a file passes each to a sink, which computes what its part has for it.
 ghost use Rattle.std.specs.Prelude.{◌≡◌, ◌++◌, ℕ, OnOk, IfOk};
 ghost use Rattle.wild_types.specs.declared.file.File.{File};
 ghost use Rattle.wild_types.specs.declared.layout.Layout.{Layout};
@@ -28,7 +28,7 @@ use wild_symbols::{
 use wild_types::{Fault, File, Group, Role, Symbol, SymbolIndex};
 use wild_walk::Sink;
 
-/// What the entry of a symbol of a file says, or of the name of its slot, its stub or a thunk to it; or what it lacks.
+/// The fields of the entry of a symbol of a file, or of the symbol that names its GOT entry, its stub or a thunk to it; or a fault.
 pub(crate) fn fields_of<A: Arch>(
     resolved: &Resolved<A>,
     file: &File,
@@ -54,7 +54,7 @@ pub(crate) fn fields_of<A: Arch>(
     )
 }
 
-/// The same, of one that lacks nothing.
+/// The same fields, of a symbol without a fault.
 #[tactic(auto, unfolding(wild_symbols::specs::TableEntries::table_fields))]
 fn fields_or_none<A: Arch>(
     resolved: &Resolved<A>,
@@ -71,14 +71,14 @@ fn fields_or_none<A: Arch>(
     }
 }
 
-/// Whether a symbol, or the name of its slot, its stub or a thunk to it, is local, or whether it is not.
+/// Whether such an entry is among the local ones, or with `local` false among the others.
 fn is_side(local: bool, named: Named, symbol: &Symbol) -> bool
     ensures { (l : Layout) (f : File) (i : ℕ) → result ≡ is_side local (entry_of l f named i symbol.now) }
 {
     is_on(local, named, symbol)
 }
 
-/// Adds a section index of 32 bits.
+/// Appends an extended section index, 32 bits.
 #[tactic(auto, using(wild_words::proofs::WordLemmas::word_4))]
 fn add_index(index: u32, bytes: &mut PartBytes) -> Result<(), AllocError>
     ensures { OnOk result (bytes.new ≡ bytes.old ++ word 4 index) }
@@ -86,7 +86,7 @@ fn add_index(index: u32, bytes: &mut PartBytes) -> Result<(), AllocError>
     bytes.extend(&index.to_le_bytes())
 }
 
-/// Adds the name of a symbol, of its slot, its stub or a thunk to it, with a zero behind it.
+/// Appends the name of a symbol, of its GOT entry, its stub or a thunk to it, and a zero.
 fn add_name(named: Named, symbol: &Symbol, bytes: &mut PartBytes) -> Result<(), AllocError>
     ensures { OnOk result (bytes.new ≡ bytes.old ++ string (full_name named symbol.now.name)) }
 {
@@ -96,7 +96,7 @@ fn add_name(named: Named, symbol: &Symbol, bytes: &mut PartBytes) -> Result<(), 
     bytes.extend(&[0])
 }
 
-/// The offset behind that name and the zero, at most 2^64 - 1.
+/// The offset after that name and its zero, at most 2^64 - 1.
 fn behind_name(at: u64, named: Named, symbol: &Symbol) -> u64
     ensures { result ≡ behind_text at (full_name named symbol.now.name) }
 {
@@ -105,7 +105,7 @@ fn behind_name(at: u64, named: Named, symbol: &Symbol) -> u64
     at.saturating_add(room.saturating_add(1))
 }
 
-/// A part of `.symtab`, written for a file.
+/// The sink for a part of `.symtab`, for one file.
 #[derive(Drop)]
 struct TableBytes<'r, 'l, 'f, A: Arch> {
     resolved: &'r Resolved<'l, A>,
@@ -156,7 +156,7 @@ impl<'r, 'l, 'f, A: Arch> Sink<usize> for TableBytes<'r, 'l, 'f, A> {
 }
 
 impl<'r, 'l, 'f, A: Arch> TableBytes<'r, 'l, 'f, A> {
-    /// The bytes, and where the next name stands.
+    /// The bytes, and the offset of the next name.
     fn into_parts(self) -> (PartBytes, u64)
         ensures bytes { result.0 ≡ self.entry.bytes }
         ensures at { result.1 ≡ self.entry.at }
@@ -164,7 +164,7 @@ impl<'r, 'l, 'f, A: Arch> TableBytes<'r, 'l, 'f, A> {
         (self.bytes, self.at)
     }
 
-    /// Adds the entry of a symbol, or of the name of its slot, its stub or a thunk to it, on its side.
+    /// Appends the entry of a symbol, or of the name of its GOT entry, its stub or a thunk to it, if it is local as `local` says.
     fn add_side(
         &mut self,
         local: bool,
@@ -181,7 +181,7 @@ impl<'r, 'l, 'f, A: Arch> TableBytes<'r, 'l, 'f, A> {
         Ok(())
     }
 
-    /// Adds its longer section index, on its side.
+    /// Appends its extended section index, if it is local as `local` says.
     fn add_long(
         &mut self,
         local: bool,
@@ -198,7 +198,7 @@ impl<'r, 'l, 'f, A: Arch> TableBytes<'r, 'l, 'f, A> {
         Ok(())
     }
 
-    /// Adds what the part takes of it.
+    /// Appends what the part has for it.
     fn add(&mut self, named: Named, index: usize, symbol: &Symbol) -> Result<(), AllocError>
         ensures { OnOk result (self.new ≡ record self.old { bytes = self.old.bytes ++ taken_bytes self.old.part self.old.at (entry_of self.old.layout self.old.file named index symbol.now) }) }
     {
@@ -209,7 +209,7 @@ impl<'r, 'l, 'f, A: Arch> TableBytes<'r, 'l, 'f, A> {
         }
     }
 
-    /// Adds what the part takes of the entry of zeros, whose name is empty.
+    /// Appends what the part has for the null symbol, whose name is empty.
     fn add_zeros(&mut self) -> Result<(), AllocError>
         ensures { OnOk result (self.new ≡ with_entry null_entry self.old) }
     {
@@ -223,7 +223,7 @@ impl<'r, 'l, 'f, A: Arch> TableBytes<'r, 'l, 'f, A> {
         Ok(())
     }
 
-    /// Adds what the part takes of the entry of a section, which has no name.
+    /// Appends what the part has for a section symbol, which has no name.
     fn add_section(&mut self, section: usize) -> Result<(), AllocError>
         ensures { OnOk result (self.new ≡ with_entry (section_entry section) self.old) }
     {
@@ -235,7 +235,7 @@ impl<'r, 'l, 'f, A: Arch> TableBytes<'r, 'l, 'f, A> {
         }
     }
 
-    /// Adds what the part takes of the entry of zeros and those of sections, where the file is the first one of an output with such a table.
+    /// Appends what the part has for the null symbol and section symbols, if the file is the first one of an output with a `.symtab`.
     #[tactic(auto, using(crate::proofs::WalkLemmas::prelude_walks))]
     fn add_null(&mut self) -> Result<(), AllocError>
         ensures walks { OnOk result (Walks self.old.part self.old.bytes self.old.at self.new.bytes self.new.at (null_entries self.old.layout self.old.file)) }
@@ -249,7 +249,7 @@ impl<'r, 'l, 'f, A: Arch> TableBytes<'r, 'l, 'f, A> {
     }
 }
 
-/// Bytes with what a part takes of a file behind them, whose names begin at an offset of the strings, and the offset behind these.
+/// The bytes followed by what a part has for a file, whose names begin at an offset; and the offset after these names.
 fn with_file<A: Arch>(
     resolved: &Resolved<A>,
     part: TablePart,
@@ -271,7 +271,7 @@ fn with_file<A: Arch>(
     Ok(table.into_parts())
 }
 
-/// Adds what a part takes of a file, and tells the offset behind its names.
+/// Appends what a part has for a file; returns the offset after its names.
 fn add_file<A: Arch>(
     alloc: Global,
     resolved: &Resolved<A>,
@@ -288,7 +288,7 @@ fn add_file<A: Arch>(
     Ok(next)
 }
 
-/// Adds the entries of a group among the local symbols, or among the others.
+/// Appends a group's local entries, or its other entries.
 #[tactic(auto, using(crate::proofs::WalkLemmas::walk_files))]
 pub(crate) fn add_group_table<A: Arch>(
     alloc: Global,
@@ -306,7 +306,7 @@ pub(crate) fn add_group_table<A: Arch>(
     Ok(())
 }
 
-/// Adds the longer section indexes of a file's local symbols, or of the others, where a part of that role has them.
+/// Appends the extended section indexes of a file's local symbols, or of the others, if the part of that role has them.
 #[tactic(auto, using(crate::proofs::WalkLemmas::walk_indexes))]
 pub(crate) fn add_file_indexes<A: Arch>(
     alloc: Global,
@@ -324,7 +324,7 @@ pub(crate) fn add_file_indexes<A: Arch>(
     Ok(())
 }
 
-/// Adds the names of a file, each with a zero behind it.
+/// Appends the names of a file, each with a zero.
 #[tactic(auto, using(crate::proofs::WalkLemmas::names_walked))]
 pub(crate) fn add_file_names<A: Arch>(
     alloc: Global,

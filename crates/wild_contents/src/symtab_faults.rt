@@ -1,4 +1,4 @@
-//! What the symbols of `.symtab` lack of their entries (gABI, "Symbol Table").
+//! Checks that the entries of `.symtab` can be computed (gABI, "Symbol Table").
 ghost use Rattle.std.specs.Prelude.{◌≡◌};
 ghost use Rattle.wild_types.specs.Faults.{Answers};
 ghost use Rattle.wild_layout.specs.Faults.{flat_map_from, table_errors};
@@ -10,7 +10,7 @@ use wild_relax::Arch;
 use wild_sections::{InputPlace, Resolved};
 use wild_types::{Error, File, Symbol};
 
-/// The symbols of a file, whose entries are looked at.
+/// The sink that checks the entries of a file's symbols.
 #[derive(Drop)]
 struct Look<'r, 'l, 'f, A: Arch> {
     resolved: &'r Resolved<'l, A>,
@@ -49,7 +49,7 @@ impl<'r, 'l, 'f, A: Arch> TableSink for Look<'r, 'l, 'f, A> {
     }
 }
 
-/// Refuses the symbols of a file that the table of all symbols has.
+/// Checks the entries of a file in `.symtab`.
 #[tactic(auto, using(crate::proofs::SymtabFaultLemmas::looked), unfolding(wild_layout::specs::Faults::table_errors))]
 fn check_file<A: Arch>(resolved: &Resolved<A>, place: InputPlace, file: &File) -> Result<(), Error>
     ensures { Answers result (table_errors resolved.now.layout.now place.group place.file file.now) }
@@ -62,7 +62,7 @@ fn check_file<A: Arch>(resolved: &Resolved<A>, place: InputPlace, file: &File) -
     give_table(resolved.layout, file, &mut look)
 }
 
-/// Refuses the symbols of files that the table of all symbols has: answers the first fault in their order.
+/// Checks the entries of files in `.symtab`; returns the first fault in their order.
 #[tactic(auto, using(wild_sections::proofs::FaultLemmas::first_from))]
 fn check_files<A: Arch>(resolved: &Resolved<A>, group: usize, files: &[File]) -> Result<(), Error>
     ensures { Answers result (flat_map_from (table_errors resolved.now.layout.now group) 0 files.now) }
@@ -78,7 +78,7 @@ fn check_files<A: Arch>(resolved: &Resolved<A>, group: usize, files: &[File]) ->
     Ok(())
 }
 
-/// The same, at once where the output has no such table.
+/// Checks the entries of files in `.symtab`, if the output has one.
 #[tactic(auto, using(crate::proofs::SymtabFaultLemmas::no_table))]
 pub(crate) fn check_table<A: Arch>(
     resolved: &Resolved<A>,

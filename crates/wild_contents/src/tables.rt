@@ -1,5 +1,5 @@
-//! What the groups give to the parts: the headers and the names of the sections, which stand once in an image and are the
-//! prelude's, what each file gives to the parts that a loader reads, and what its slots and stubs do.
+//! What the groups contribute to the parts. The first file contributes headers and section names, which the image has once. Each file
+//! contributes to the dynamic tables, and its GOT and PLT entries do.
 ghost use Rattle.std.specs.Prelude.{◌≡◌, [], ◌++◌, if◌then◌else◌, false, length, IfOk, OnOk};
 ghost use Rattle.std.specs.List.{flat_map};
 ghost use Rattle.wild_needs.specs.Needs.{whole_of};
@@ -29,16 +29,16 @@ use wild_relax::Arch;
 use wild_sections::Resolved;
 use wild_types::{File, Group, Role};
 
-/// What is made of a group ahead of its tables.
+/// Frame tables of a group, computed before its other tables.
 #[derive(Clone, Copy)]
 pub struct Beside<'a> {
-    /// The frames of the group, with their fields.
+    /// The `.eh_frame` bytes of the group, relocated.
     pub frames: &'a [u8],
-    /// The search table of the frames of all groups, where the group has the first file.
+    /// The search table of the frames of all groups, if the group has the first file.
     pub table: &'a [u8],
 }
 
-/// Fills the room of what stands once in an image, but for the search table.
+/// Writes a table that the image has once, into its room; not the search table.
 fn fill_whole<A: Arch>(resolved: &Resolved<A>, role: Role, room: &mut [u8])
     requires here { is_apart role ≡ false }
     requires room { length room.old ≡ whole_of resolved.now.layout.now role }
@@ -54,7 +54,7 @@ fn fill_whole<A: Arch>(resolved: &Resolved<A>, role: Role, room: &mut [u8])
     }
 }
 
-/// What stands once in an image, by role.
+/// A table that the image has once, by role.
 pub(crate) fn whole_bytes<A: Arch>(
     alloc: Global,
     resolved: &Resolved<A>,
@@ -68,7 +68,7 @@ pub(crate) fn whole_bytes<A: Arch>(
     Ok(room)
 }
 
-/// Adds what stands once in an image, where the file is the first one.
+/// Appends a table that the image has once, if the file is the first one.
 pub(crate) fn add_whole<A: Arch>(
     alloc: Global,
     resolved: &Resolved<A>,
@@ -87,7 +87,7 @@ pub(crate) fn add_whole<A: Arch>(
     Ok(())
 }
 
-/// Adds what a file gives to a part of that role.
+/// Appends what a file contributes to a part of that role.
 fn add_file_content<A: Arch>(
     alloc: Global,
     resolved: &Resolved<A>,
@@ -104,7 +104,7 @@ fn add_file_content<A: Arch>(
     add_slots(resolved.layout, role, file, bytes)
 }
 
-/// Adds what files give to a part for which no section is read.
+/// Appends what files contribute to a part that does not depend on their sections.
 fn add_plain<A: Arch>(
     alloc: Global,
     resolved: &Resolved<A>,
@@ -122,7 +122,7 @@ fn add_plain<A: Arch>(
     Ok(())
 }
 
-/// Adds the search table, where one of the files is the first one.
+/// Appends the search table, if one of the files is the first one.
 fn add_search_table(files: &[File], table: &[u8], bytes: &mut PartBytes) -> Result<(), AllocError>
     ensures { OnOk result (bytes.new ≡ bytes.old ++ flat_map (first_given table.now) files.now) }
 {
@@ -134,7 +134,7 @@ fn add_search_table(files: &[File], table: &[u8], bytes: &mut PartBytes) -> Resu
     Ok(())
 }
 
-/// Adds what the files of a group give to a part of that role.
+/// Appends what the files of a group contribute to a part of that role.
 #[tactic(auto, using(crate::proofs::FileLemmas::files_frames, crate::proofs::FileLemmas::files_table, crate::proofs::FileLemmas::files_plain))]
 fn add_files<A: Arch>(
     alloc: Global,
@@ -158,8 +158,7 @@ fn add_files<A: Arch>(
     }
 }
 
-/// Adds the words that pack the block of slots of a group, and behind those the words of the sorted sections, where it has the last
-/// file.
+/// Appends the RELR words of a group's run of GOT words, and then those of the sorted input sections, if the group has the last file.
 #[tactic(auto, using(crate::proofs::LaidLemmas::words_added, crate::proofs::LaidLemmas::words_not_last))]
 fn add_group_words<A: Arch>(
     alloc: Global,
@@ -176,7 +175,7 @@ fn add_group_words<A: Arch>(
     Ok(())
 }
 
-/// Adds what is told of the files of a group together, to a part of that role.
+/// Appends to a part of that role what depends on all files of the group together.
 fn add_group<A: Arch>(
     alloc: Global,
     resolved: &Resolved<A>,
@@ -198,7 +197,7 @@ fn add_group<A: Arch>(
     }
 }
 
-/// Adds what a group gives to a part of that role.
+/// Appends what a group contributes to a part of that role.
 pub fn add_content<A: Arch>(
     alloc: Global,
     resolved: &Resolved<A>,

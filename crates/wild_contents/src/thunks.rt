@@ -1,4 +1,4 @@
-//! Thunks, which carry branches of a file on to targets out of their range.
+//! Thunks, which extend branches of a file to targets out of their range.
 ghost use Rattle.std.specs.Prelude.{◌≡◌, ◌++◌, Some, IfErr, IfOk, OnOk};
 ghost use Rattle.std.specs.List.{flat_map};
 ghost use Rattle.wild_types.specs.Faults.{Answers};
@@ -13,7 +13,7 @@ use wild_relax::aarch64::write_thunk;
 use wild_sections::{InputPlace, Resolved, raw_address, stub_of};
 use wild_types::{Error, Fault, File, THUNK_SIZE, Thunk};
 
-/// Where a thunk goes on to: the stub of its symbol, or where that has none its address.
+/// The target of a thunk: its symbol's PLT stub, or without one its address.
 fn thunk_target<A: Arch>(resolved: &Resolved<A>, thunk: &Thunk) -> Result<u64, Fault>
     ensures { result ≡ thunk_target resolved.now.layout.now thunk.now }
 {
@@ -23,7 +23,7 @@ fn thunk_target<A: Arch>(resolved: &Resolved<A>, thunk: &Thunk) -> Result<u64, F
     }
 }
 
-/// The bytes of a thunk, or why it is not written.
+/// The bytes of a thunk, or why it cannot be written.
 fn thunk_code<A: Arch>(
     resolved: &Resolved<A>,
     thunk: &Thunk,
@@ -40,7 +40,7 @@ fn thunk_code<A: Arch>(
     }
 }
 
-/// Adds the bytes of a thunk, or answers why it is not written.
+/// Appends the bytes of a thunk, or returns why it cannot be written.
 fn add_thunk<A: Arch>(
     resolved: &Resolved<A>,
     place: InputPlace,
@@ -59,7 +59,7 @@ fn add_thunk<A: Arch>(
     }
 }
 
-/// Adds the bytes of the thunks of a file, or answers the first fault of one.
+/// Appends the bytes of the thunks of a file, or returns their first fault.
 #[tactic(auto, using(wild_sections::proofs::FaultLemmas::first_faults))]
 fn add_all_thunks<A: Arch>(
     resolved: &Resolved<A>,
@@ -76,8 +76,8 @@ fn add_all_thunks<A: Arch>(
     Ok(())
 }
 
-/// Adds the bytes of the thunks that a file writes behind its sections, or answers the first fault of one. Nothing is asked of them where
-/// nothing of their section is written.
+/// Appends the thunks that a file writes after its sections, or returns their first fault. If their section is omitted they are not
+/// checked.
 pub fn add_thunks<A: Arch>(
     resolved: &Resolved<A>,
     place: InputPlace,

@@ -12,7 +12,7 @@ use wild_sections::Resolved;
 use wild_types::{File, Group, Layout};
 use wild_versions::{file_definitions, file_versions, group_needs};
 
-/// Adds the versions of the symbols that a file has in the dynamic symbol table.
+/// Appends the versions of a file's dynamic symbols.
 pub(crate) fn add_versions(
     alloc: Global,
     layout: &Layout,
@@ -25,7 +25,7 @@ pub(crate) fn add_versions(
     bytes.extend(&versions)
 }
 
-/// Adds the versions that the output defines, where the file is the last one.
+/// Appends the versions that the output defines, if the file is the last one.
 pub(crate) fn add_definitions<A: Arch>(
     alloc: Global,
     resolved: &Resolved<A>,
@@ -38,7 +38,7 @@ pub(crate) fn add_definitions<A: Arch>(
     bytes.extend(&definitions)
 }
 
-/// Adds the versions that are needed of a group's libraries.
+/// Appends the versions that are needed of a group's libraries.
 pub(crate) fn add_needs(
     alloc: Global,
     layout: &Layout,

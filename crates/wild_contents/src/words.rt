@@ -1,4 +1,4 @@
-//! The words of packed relocations of an input section, whose places are a run of their own (gABI, "Relative Relocation Table").
+//! The `.relr.dyn` words of an input section, whose places are packed separately (gABI, "Relative Relocation Table").
 ghost use Rattle.std.specs.Prelude.{◌≡◌, ◌+◌, ◌*◌, ◌%◌, ◌≤◌, ◌++◌, length, IfOk, OnOk};
 ghost use Rattle.std.specs.List.{flat_map};
 ghost use Rattle.wild_records.specs.Relocations.{relr_size};
@@ -27,7 +27,7 @@ fn record_place(words: &mut RelrTable, place: u64)
     }
 }
 
-/// Records the place of a relocation, where that is packed; there is room for a word more.
+/// Records the place of a relocation, if it is packed; there is room for one more word.
 fn pack(
     layout: &Layout,
     section: &InputSection,
@@ -44,7 +44,7 @@ fn pack(
     }
 }
 
-/// The words of the relocations of a section, in room for one word each.
+/// The RELR words of a section's relocations; there is room for one word for each.
 fn words_in(alloc: Global, layout: &Layout, section: &InputSection) -> Result<RelrTable, AllocError>
     ensures { IfOk result (λ t. t.state.words ≡ packed (flat_map (packed_in layout.now section.now) section.now.relocations)) }
 {
@@ -56,14 +56,14 @@ fn words_in(alloc: Global, layout: &Layout, section: &InputSection) -> Result<Re
     Ok(words)
 }
 
-/// Adds the words of a table.
+/// Appends the words of a table.
 fn add_table(words: &RelrTable, bytes: &mut PartBytes) -> Result<(), AllocError>
     ensures { OnOk result (bytes.new ≡ bytes.old ++ word_bytes words.now.state.words) }
 {
     bytes.extend(&words.bytes()[..words.used()])
 }
 
-/// Adds the words of a section.
+/// Appends the words of a section.
 #[tactic(auto, using(crate::proofs::OwnLemmas::packed_words, crate::proofs::OwnLemmas::no_words))]
 pub(crate) fn add_section_words(
     alloc: Global,

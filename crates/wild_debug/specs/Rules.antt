@@ -1,6 +1,6 @@
--- What holds of the rule of a section that debuggers read.
---   rule_small l s   a field is at most 10 wide
---   rule_keeps l s   a field has as many bytes as before
+-- Properties of the rule by which a debug section is written.
+--   rule_small l s   a field has at most 10 bytes
+--   rule_keeps l s   a field keeps its number of bytes
 use Rattle.wild_types.specs.declared.input.InputSection.{InputSection}
 use Rattle.wild_types.specs.declared.layout.Layout.{Layout}
 use Rattle.wild_shards.specs.InOrder.{AreSmall, KeepsLength}

@@ -1,4 +1,4 @@
-//! The bytes of a section that debuggers read, with its relocations.
+//! Applies the relocations of a debug section to its bytes.
 ghost use Rattle.std.specs.Prelude.{◌≡◌, length, All, OnOk};
 ghost use Rattle.std.specs.Thread.{IsSync};
 ghost use Rattle.wild_types.specs.Faults.{Answers};
@@ -18,7 +18,7 @@ use wild_sections::{InputPlace, Resolved};
 use wild_shards::ranges_of;
 use wild_types::{Error, InputRelocation, InputSection};
 
-/// What a pass over the relocations came to: its fault is told with the place that the relocation has in the input.
+/// The result of a pass over the relocations. A fault gets the relocation's place in the input.
 fn answer<A: Arch>(
     step: &DebugStep<A>,
     place: InputPlace,
@@ -37,8 +37,8 @@ fn answer<A: Arch>(
     }
 }
 
-/// Applies the relocations of a section that debuggers read to its bytes, one after another; or answers its first fault, with the place
-/// that it has in the input.
+/// Applies the relocations of a debug section to its bytes, one after another; or returns the first fault, with its place in the
+/// input.
 #[tactic(auto, using(crate::proofs::FieldLemmas::lie_from_start))]
 pub fn apply_debug_relocations<A: Arch>(
     resolved: &Resolved<A>,
@@ -58,11 +58,11 @@ pub fn apply_debug_relocations<A: Arch>(
     answer(&step, place, origins, passed, out)
 }
 
-/// For each shard of a section so many relocations are begun.
+/// The number of shards is at most the number of relocations divided by this, rounded up.
 const LEAST: usize = 65536;
 
-/// The same by so many workers: from 65,536 relocations on in shards beside each other, where they may run so, and at most one for each
-/// 65,536 begun.
+/// The same with `workers` threads. If the relocations can be applied independently, they are divided into shards that run in parallel:
+/// at most one for each worker, and at most one for each 65,536 relocations, rounded up.
 pub fn apply_debug_rela_relocations<A: Arch + Sync, R: Threads + Sync>(
     rt: &R,
     alloc: Global,
@@ -93,7 +93,7 @@ where
     }
 }
 
-/// The threads that may share what one section has, as many as are counted, and where they take memory.
+/// The threads that share the work of one section, their number, and their allocator.
 #[derive(Drop)]
 pub struct Workers<'r, R> {
     pub rt: &'r R,
@@ -101,7 +101,7 @@ pub struct Workers<'r, R> {
     pub count: usize,
 }
 
-/// A machine whose debug sections may each be written by several threads: what these share of it may be shared.
+/// A machine whose debug sections several threads may write together: what they share of it is `Sync`.
 pub trait ShardedArch: Arch {
     ghost use Rattle.std.specs.Prelude.{◌≡◌, length, All, OnOk};
     ghost use Rattle.std.specs.Thread.{IsSync};
@@ -110,7 +110,7 @@ pub trait ShardedArch: Arch {
     ghost use Rattle.wild_layout.specs.Faults.{debug_errors};
     ghost use Rattle.wild_layout.specs.SectionPlaces.{FieldLies};
 
-    /// `apply_debug_rela_relocations`, for callers that know no more of the machine.
+    /// `apply_debug_rela_relocations`, for callers that are generic over the machine.
     fn apply_by_workers<R: Threads + Sync>(
         by: &Workers<R>,
         resolved: &Resolved<Self>,

@@ -1,4 +1,4 @@
-//! What is decided of a relocation of a section that debuggers read (DWARF, "Relocation", "Tombstone Values").
+//! Decides a relocation of a debug section (DWARF, "Relocation", "Tombstone Values").
 ghost use Rattle.std.specs.Prelude.{◌≡◌, Some, None};
 ghost use Rattle.wild_types.specs.Addresses.{raw_value};
 ghost use Rattle.wild_types.specs.Rows.{row_of};
@@ -13,14 +13,14 @@ use wild_reloc::{RelocationKind, RelocationKindInfo};
 use wild_sections::{Resolved, address_for, behind, field, pointer_offset, raw_address, sum};
 use wild_types::{Fault, InputRelocation, InputSection, Layout, SymbolIndex};
 
-/// Whether a section of that name is of lists that end at 0.
+/// Whether a section of that name has lists that end at 0.
 fn is_list_section(name: &[u8]) -> bool
     ensures { result ≡ is_list_section name.now }
 {
     name == b".debug_loc".as_slice() || name == b".debug_ranges".as_slice()
 }
 
-/// What stands in a section for the address of what was left out.
+/// The value in a section that replaces the address of a discarded symbol.
 pub fn tombstone(layout: &Layout, section: &InputSection) -> u64
     ensures { result ≡ tombstone layout.now section.now }
 {
@@ -34,7 +34,7 @@ pub fn tombstone(layout: &Layout, section: &InputSection) -> u64
     }
 }
 
-/// The relocations of a section that debuggers read, with what stands there for an address that the output has not.
+/// The relocations of a debug section, with the tombstone that replaces an address which the output does not have.
 #[derive(Drop)]
 pub struct DebugStep<'r, 'l, A: Arch> {
     pub resolved: &'r Resolved<'l, A>,
@@ -64,7 +64,7 @@ impl<'r, 'l, A: Arch> DebugStep<'r, 'l, A> {
         A::relocation_from_raw(relocation.number)
     }
 
-    /// As much of the tombstone as the field has, or a value in the field's range.
+    /// The tombstone in the field: -1 and -2 are truncated to it, 0 and 1 are range-checked.
     fn tombstone_field(&self, row: &RelocationKindInfo) -> Result<Decision, Fault>
         ensures { result ≡ tombstone_field self.now.resolved.now.layout.now self.now.section.now row.now }
     {
@@ -106,7 +106,7 @@ impl<'r, 'l, A: Arch> DebugStep<'r, 'l, A> {
         }
     }
 
-    /// Of one whose symbol has none: where the merged string is, or the tombstone.
+    /// The field of a relocation whose symbol has no address: the address of the merged string, or the tombstone.
     fn unvalued(
         &self,
         relocation: &InputRelocation,
@@ -140,7 +140,7 @@ impl<'r, 'l, A: Arch> DebugStep<'r, 'l, A> {
         }
     }
 
-    /// What is decided of a relocation.
+    /// Decides a relocation.
     #[inline]
     #[tactic(auto, unfolding(wild_layout::specs::Debug::debug_decided))]
     pub fn decided(&self, relocation: &InputRelocation) -> Result<Decision, Fault>
@@ -157,7 +157,7 @@ impl<'r, 'l, A: Arch> DebugStep<'r, 'l, A> {
     }
 }
 
-/// The value plus A in the row's field, or what the symbol lacks.
+/// The value plus A in the row's field, or the fault of the value.
 #[inline]
 fn added_to(
     relocation: &InputRelocation,
@@ -169,7 +169,7 @@ fn added_to(
     field(row, sum(value?, relocation.addend))
 }
 
-/// The field of a relocation without a symbol: A, where an address is asked for.
+/// The field of a relocation without a symbol: A, if the row is an absolute address. Others are refused.
 fn unnamed(relocation: &InputRelocation, row: &RelocationKindInfo) -> Result<Decision, Fault>
     ensures { result ≡ unnamed relocation.now row.now row.now.kind }
 {

@@ -1,4 +1,4 @@
-//! The first fault of the relocations of a section that debuggers read.
+//! Finds the first fault of the relocations of a debug section.
 ghost use Rattle.std.specs.Prelude.{◌≡◌, ◌<◌, length};
 ghost use Rattle.wild_types.specs.Faults.{Answers};
 ghost use Rattle.wild_layout.specs.Faults.{debug_error, debug_errors};
@@ -8,7 +8,7 @@ use wild_relax::Arch;
 use wild_sections::InputPlace;
 use wild_types::{Error, InputRelocation};
 
-/// The fault of a relocation, with the place that it has in the input.
+/// The fault of a relocation, with its place in the input.
 fn check<A: Arch>(
     step: &DebugStep<A>,
     place: InputPlace,

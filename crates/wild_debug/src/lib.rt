@@ -1,4 +1,4 @@
-//! The relocations of sections that debuggers read: each writes a value as the output is linked, or a tombstone.
+//! The relocations of debug sections: each writes a value as the output is linked, or a tombstone.
 #![tactic(auto)]
 
 mod apply;

@@ -1,4 +1,4 @@
-//! The relocations of a section that debuggers read, one after another.
+//! Applies the relocations of a debug section one after another.
 ghost use Rattle.std.specs.Prelude.{◌≡◌, ◌+◌, length, All, Ok, slice_range};
 ghost use Rattle.wild_words.specs.Words.{place};
 ghost use Rattle.wild_reloc.specs.Field.{size_width, size_written};
@@ -13,7 +13,7 @@ use wild_relax::Arch;
 use wild_reloc::RelocationSize;
 use wild_types::{Error, InputRelocation};
 
-/// Writes a value into a field, where that has bytes.
+/// Writes a value into a field, if the field has bytes.
 #[inline]
 fn write_sized(size: RelocationSize, value: u64, out: &mut [u8], offset: u64)
     requires lies { LiesAt offset (size_width size) (length out.old) }
@@ -24,7 +24,7 @@ fn write_sized(size: RelocationSize, value: u64, out: &mut [u8], offset: u64)
     }
 }
 
-/// Writes the field of a relocation over bytes that begin at offset `base`, as it was decided.
+/// Writes the field of a decided relocation over bytes that begin at offset `base`.
 #[inline]
 fn write_decided<A: Arch>(
     _step: &DebugStep<A>,
@@ -70,7 +70,7 @@ fn apply<A: Arch>(
     }
 }
 
-/// Applies relocations one after another over bytes that begin at offset `base`, or answers a fault.
+/// Applies relocations one after another over bytes that begin at offset `base`, or returns a fault.
 pub(crate) fn apply_in_order<A: Arch>(
     step: &DebugStep<A>,
     relocations: &[InputRelocation],

@@ -1,4 +1,4 @@
-//! The relocations of a section that debuggers read, in shards beside each other.
+//! Applies the relocations of a debug section in parallel shards.
 ghost use Rattle.std.specs.Prelude.{◌≡◌, ◌+◌, ◌≤◌, length, All};
 ghost use Rattle.std.specs.Thread.{IsSync};
 ghost use Rattle.wild_shards.specs.InOrder.{in_order, first_of, Came, FieldWithin, Tiles};
@@ -11,7 +11,7 @@ use wild_relax::Arch;
 use wild_shards::DebugRelocationShardRange;
 use wild_types::{Error, InputRelocation};
 
-/// What two parts came to: the fault of the first, else what the second came to.
+/// The result of two parts: the first's fault, otherwise the second's result.
 fn first_of(one: Result<(), Error>, two: Result<(), Error>) -> Result<(), Error>
     ensures { result ≡ first_of one two }
 {
@@ -21,7 +21,7 @@ fn first_of(one: Result<(), Error>, two: Result<(), Error>) -> Result<(), Error>
     }
 }
 
-/// Applies the relocations of a shard in its part of the bytes, which begins at offset `base`.
+/// Applies the relocations of a shard to its part of the bytes, which begins at offset `base`.
 #[tactic(auto, using(crate::proofs::FieldLemmas::lie_in_part))]
 fn apply_part<A: Arch>(
     step: &DebugStep<A>,
@@ -35,8 +35,8 @@ fn apply_part<A: Arch>(
     apply_in_order(step, relocations, base, out)
 }
 
-/// Applies the relocations of each range in its part of the bytes, which begin at offset `base`, beside each other; or answers the
-/// first fault in the order of the ranges.
+/// Applies the relocations of each range to its part of the bytes, which begin at offset `base`, in parallel; or returns the first fault
+/// in the order of the ranges.
 pub(crate) fn run_shards<A: Arch + Sync, R: Threads + Sync>(
     rt: &R,
     step: &DebugStep<A>,

@@ -1,4 +1,4 @@
-//! A relocation of a section that debuggers read, as a step of what is applied in shards.
+//! A relocation of a debug section, as a step that shards apply.
 ghost use Rattle.std.specs.Prelude.{◌≡◌, length};
 ghost use Rattle.wild_layout.specs.Debug.{debug_field, nowhere_at};
 
@@ -8,7 +8,7 @@ use wild_relax::Arch;
 use wild_shards::Step;
 use wild_types::{At, Error, InputRelocation};
 
-/// A place that has an offset alone.
+/// A place that has an offset only.
 pub(crate) fn nowhere_at(offset: u64) -> At
     ensures { result ≡ nowhere_at offset }
 {
@@ -20,7 +20,7 @@ pub(crate) fn nowhere_at(offset: u64) -> At
     }
 }
 
-/// Writes the bytes of a field, as it was decided.
+/// Writes the bytes of a decided field.
 #[tactic(auto, using(crate::proofs::FieldLemmas::whole_field))]
 fn write_field(decision: Decision, room: &mut [u8])
     requires wide { length (debug_field decision room.old) ≡ length room.old }

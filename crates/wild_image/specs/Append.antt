@@ -1,11 +1,11 @@
--- Bytes that are taken from the front of others.
---   BeginsWith own bytes   the bytes begin with its own
---   GoesOn own from to     what stands behind its own
---   HasStarts l j starts   what the groups before group j write of each part
---   GivesItsShares l g     a group gives to each table what it is given of it
---   HasRolesOnce l         each role is of one part
---   FileLies l f           all that a file has lies in its parts; EachFileLies l so does what all have
---   GroupStands l g        so do the sections of a group's files, as they stand
+-- Bytes that are taken from the front of a list of bytes.
+--   BeginsWith own bytes   the list begins with these bytes
+--   GoesOn own from to     `to` is the rest of `from` after these bytes
+--   HasStarts l j starts   the number of bytes that the groups before group j write of each part
+--   GivesItsShares l g     the group's content of each table has the length of its share
+--   HasRolesOnce l         each role except raw has one part
+--   FileLies l f           all bytes of a file are within the image; EachFileLies l says it of all files
+--   GroupStands l g        the placed sections of a group's files are within the image
 use Rattle.std.specs.Prelude.{◌≡◌, ℕ, ◌<◌, ◌≤◌, ◌^◌, true, false, List, [], ◌∷◌, ◌++◌, length, if◌then◌else◌, All, Contains, Option, Some, None, slice_get, slice_index, slice_index_or}
 use Rattle.wild_types.specs.declared.part.Part.{Part}
 use Rattle.wild_types.specs.declared.part.Role.{Role}
@@ -31,48 +31,48 @@ use Rattle.wild_layout.specs.SectionPlaces.{SectionLies, HasWords, FrontLies, Pa
 use Rattle.wild_image.specs.Pieces.{standing, written}
 use Rattle.wild_layout.specs.ThunkPlaces.{ThunkLies}
 
--- the bytes begin with its own
+-- the list begins with these bytes
 abbrev pub BeginsWith : List ℕ → List ℕ → Type 0
 BeginsWith own bytes = (rest : List ℕ) × (bytes ≡ own ++ rest)
 
--- what stands behind its own
+-- the rest after these bytes
 abbrev pub GoesOn : List ℕ → List ℕ → List ℕ → Type 0
 GoesOn own from to = (rest : List ℕ) → from ≡ own ++ rest → to ≡ rest
 
--- what the groups before group j write of part k
+-- the number of bytes that the groups before group j write of part k
 abbrev pub start_of : Layout → ℕ → ℕ → Option Part → ℕ
 start_of l j k None = 0
 start_of l j k (Some p) = written l p (given_before l k j)
 
--- and of each part
+-- the same for each part
 pub record HasStarts (l : Layout) (j : ℕ) (starts : List ℕ) : Type 0 where
   pub count : length starts ≡ length l.parts
   pub each : (k : ℕ) → k < length starts → slice_index starts k ≡ start_of l j k (slice_get l.parts k)
 
--- each part, as its groups share it
+-- each part's place is in the image, and its groups' shares fit in it
 abbrev pub EachPartLies : Layout → Type 0
 EachPartLies l = (i : ℕ) (p : Part) → i < length l.parts → PartLies l i (slice_index_or l.parts i p)
 
--- a group gives to each table what it is given of it
+-- the group's content of each table has the length of its share; of raw parts it has none
 abbrev pub GivesItsShares : Layout → Group → Type 0
 GivesItsShares l g = (i : ℕ) (p : Part) → slice_get l.parts i ≡ Some p → length (content l p.role g) ≡ (if has_role Raw p then 0 else given i g)
 
--- a role, other than that of raw parts, is of one part
+-- each role except raw has one part
 abbrev pub HasRolesOnce : Layout → Type 0
 HasRolesOnce l = (r : Role) (p : Part) → (role_place r ≡ 0 → ⊥) → Contains l.parts p → p.role ≡ r → part_with r l.parts ≡ Some p
 
--- a section of a file lies where it stands, if it stands in its part's range
+-- a section of a file that has a range in its part is within the image, as placed
 abbrev pub RangedLies : Layout → File → InputSection → Type 0
 RangedLies l f s = has_range s.slot ≡ true → SectionLies l (standing l f s)
 
--- the sorted section that is named lies where it stands
+-- a sorted input section is within the image
 abbrev pub InputLies : Layout → Input → Type 0
 InputLies l x = SectionLies l (as_turned x.section)
 
 abbrev pub SortedLies : Layout → SortedSection → Type 0
 SortedLies l x = All (InputLies l) (sorted_input l x)
 
--- bytes at the front of a part, where there are some
+-- bytes at the front of a part, if there are some, are within the image
 abbrev pub SomeLies : Layout → ℕ → List ℕ → Type 0
 SomeLies l k bs = 1 ≤ length bs → FrontLies l k bs
 
@@ -80,8 +80,8 @@ pub record MergedLies (l : Layout) (m : Merged) : Type 0 where
   pub front : SomeLies l m.part (merged_bytes m)
   pub small : length (merged_bytes m) < 2 ^ 64
 
--- all that a file has lies in its parts: its input sections, the sorted ones where it is the last, what stands once where it is the first,
--- and its thunks
+-- all bytes of a file are within the image: its input sections, its thunks, the sorted input sections of the last file, and the
+-- merged strings and the identity of the first
 pub record FileLies (l : Layout) (f : File) : Type 0 where
   pub sections : All (RangedLies l f) f.sections
   pub sorted : is_epilogue f.role ≡ true → All (SortedLies l) l.sorted
@@ -92,18 +92,18 @@ pub record FileLies (l : Layout) (f : File) : Type 0 where
 abbrev pub EachFileLies : Layout → Type 0
 EachFileLies l = All (λ (g : Group). All (FileLies l) g.files) l.groups
 
--- ---- as the sections stand
+-- ---- placed sections
 
--- the words of a reversed section are whole, and each of its relocations has one
+-- a reversed section consists of whole words, and each of its relocations applies to one
 abbrev pub IsTurned : Layout → InputSection → Type 0
 IsTurned l s = is_counted s ≡ true → s.reversed ≡ true → HasWords l.machine s
 
--- tables of relocations are of relocatable objects alone, and what debuggers read of others
+-- relocation tables are in relocatable outputs only, debug sections in others only
 pub record IsOfKind (l : Layout) (s : InputSection) : Type 0 where
   pub table : is_rela s.slot ≡ true → is_partial_link l.kind ≡ true
   pub debug : is_debug s.slot ≡ true → is_partial_link l.kind ≡ false
 
--- a sorted section that was found lies where it stands
+-- a sorted input section is within the image, and can be reversed if it is to be
 pub record InputStands (l : Layout) (x : Input) : Type 0 where
   pub lies : InputLies l x
   pub turned : IsTurned l x.section
@@ -111,14 +111,14 @@ pub record InputStands (l : Layout) (x : Input) : Type 0 where
 abbrev pub SortedStands : Layout → SortedSection → Type 0
 SortedStands l x = All (InputStands l) (sorted_input l x)
 
--- the sections of a file lie where they stand, with its frames from an address on, and the sorted ones where it is the last
+-- the placed sections of a file whose frames begin at an address, and the sorted input sections if it is the last file, are within the image
 pub record FileStands (l : Layout) (at : ℕ) (f : File) : Type 0 where
   pub lies : All (SectionLies l) (laid_sections l f at f.sections)
   pub turned : All (IsTurned l) f.sections
   pub kinds : All (IsOfKind l) f.sections
   pub sorted : is_epilogue f.role ≡ true → All (SortedStands l) l.sorted
 
--- those of some files, one behind the other
+-- the same for consecutive files
 abbrev pub StandFrom : Layout → ℕ → List File → Type 0
 StandFrom l at [] = Unit {0}
 StandFrom l at (f ∷ fs) = FileStands l at f × StandFrom l (behind at (file_frames l f)) fs

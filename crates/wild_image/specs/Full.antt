@@ -1,7 +1,7 @@
--- Bytes at the front of parts and sections that have owners.
---   Covers test start n             so many bytes from a start on pass the test
---   Joins front distance size next  next of them do, where front of them do and those of a range that begins so far from the start
---   PartFronts l fronts             of each part, so many bytes from its offset on have owners; SectionFronts l fronts of each section
+-- Bytes at the start of parts and sections that have owners.
+--   Covers test start n             n bytes from a start pass the test
+--   Joins front distance size next  if `front` bytes pass it, and `size` bytes at that distance from the start, `next` bytes do
+--   PartFronts l fronts             a number for each part: as many bytes from its offset have owners; SectionFronts l fronts for sections
 use Rattle.std.specs.Prelude.{◌≡◌, ℕ, ◌+◌, Bool, true, List, length, Some, slice_get, slice_index}
 use Rattle.wild_types.specs.declared.part.Part.{Part}
 use Rattle.wild_types.specs.declared.section.Section.{Section}
@@ -14,7 +14,7 @@ Covers test start n = (k : ℕ) → is_within start n k ≡ true → test k ≡ 
 unfoldable pub Joins : (front distance size next : ℕ) → Type 0
 Joins front distance size next = (test : ℕ → Bool) (start : ℕ) → Covers test start front → Covers test (start + distance) size → Covers test start next
 
--- of each item of a list, so many bytes from its offset on have owners
+-- for each item of a list, as many bytes from its offset have owners
 pub record OwnFronts {X : Type 0} (l : Layout) (offset : X → ℕ) (xs : List X) (fronts : List ℕ) : Type 0 where
   pub long : length fronts ≡ length xs
   pub owned : (i : ℕ) (x : X) → slice_get xs i ≡ Some x → Covers (is_owned l) (offset x) (slice_index fronts i)

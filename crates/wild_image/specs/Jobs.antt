@@ -1,5 +1,5 @@
--- What comes of a group.
---   GivesPiece l i r   r is what group i has of each part, with what it counts, or its first fault
+-- The result for one group.
+--   GivesPiece l i r   r is the bytes of group i by part and its relocation counts, or its first fault
 use Rattle.std.specs.Prelude.{◌≡◌, ℕ, Some, slice_get, Result, IfOk}
 use Rattle.wild_types.specs.declared.fault.Error.{Error}
 use Rattle.wild_types.specs.declared.file.Group.{Group}

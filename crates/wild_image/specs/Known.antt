@@ -1,7 +1,7 @@
--- What is asked once of a layout, or of some groups.
---   IsKnown l k            whether the output is bare, and inside; whether groups but the first are given nothing of tables; and where
---                          its part of frames begins
---   GiveNothing l gs       groups write nothing of any table
+-- Properties that are computed once for a layout, or for some groups.
+--   IsKnown l k            the fields of k hold: `bare` and `inside` of the output, `none` of the groups after the first, and
+--                          `frames` is the address of .eh_frame
+--   GiveNothing l gs       the groups write nothing to any table
 use Rattle.std.specs.Prelude.{◌≡◌, ℕ, true, List, Some, slice_get}
 use Rattle.wild_types.specs.declared.file.Group.{Group}
 use Rattle.wild_types.specs.declared.layout.Layout.{Layout}
@@ -16,13 +16,13 @@ use Rattle.wild_image.specs.Pieces.{written}
 use Rattle.wild_image.specs.Steps.{OthersHaveNone}
 use Rattle.wild_image.specs.declared.known.Known.{Known}
 
--- whether the output is bare, and inside; whether groups but the first are given nothing of tables; and where its part of frames begins
+-- the fields hold of the layout; `inside` and `none` may be false although the property holds
 pub record IsKnown (l : Layout) (k : Known) : Type 0 where
   pub bare : k.bare ≡ is_bare l
   pub inside : k.inside ≡ true → is_bare_inside l ≡ true
   pub none : k.none ≡ true → OthersHaveNone l
   pub frames : k.frames ≡ part_address (part_with role.EhFrame l.parts)
 
--- groups write nothing of any table
+-- the groups write nothing to any table
 abbrev pub GiveNothing : Layout → List Group → Type 0
 GiveNothing l gs = (k : ℕ) (p : Part) → slice_get l.parts k ≡ Some p → written l p (total (given k) gs) ≡ 0

@@ -1,8 +1,8 @@
--- What owns bytes of an image, as the code goes through it: file by file, the sections of the plan.
---   ranged_piece l f s    a section that stands in its part's range, as it stands, with its offset; ranged_pieces l f those of a file
---   sorted_pieces l x     a section that is named among the sorted ones; all_sorted_pieces l all of those
---   ends_pieces l f       what only the last or the first file has
---   standing_pieces l f   all that a file has
+-- The owners of an image's bytes in the order of the code: file by file, the sections of the plan.
+--   ranged_piece l f s    a section with a range in its part, as placed, and its file offset; ranged_pieces l f for a file
+--   sorted_pieces l x     a sorted input section; all_sorted_pieces l all of them
+--   ends_pieces l f       what only the last or only the first file has
+--   standing_pieces l f   all pieces of a file
 use Rattle.std.specs.Prelude.{ℕ, if◌then◌else◌, List, [], ◌++◌}
 use Rattle.std.specs.List.{flat_map}
 use Rattle.wild_words.specs.Overlay.{Piece}
@@ -16,14 +16,14 @@ use Rattle.wild_laid.specs.Laid.{sorted_input, of_last_file}
 use Rattle.wild_layout.specs.Image.{section_piece, sorted_piece, merged_bytes, front_piece, once_pieces, of_first_file, thunk_pieces}
 use Rattle.wild_image.specs.Pieces.{standing}
 
--- a section that stands in its part's range
+-- a section with a range in its part
 abbrev pub ranged_piece : Layout → File → InputSection → List Piece
 ranged_piece l f s = if has_range s.slot then section_piece l f (standing l f s) else []
 
 abbrev pub ranged_pieces : Layout → File → List Piece
 ranged_pieces l f = flat_map (ranged_piece l f) f.sections
 
--- a section that is named among the sorted ones
+-- a sorted input section
 abbrev pub sorted_pieces : Layout → SortedSection → List Piece
 sorted_pieces l x = flat_map (sorted_piece l) (sorted_input l x)
 
@@ -34,10 +34,10 @@ all_sorted_pieces l = flat_map (sorted_pieces l) l.sorted
 abbrev pub merged_piece : Layout → Merged → List Piece
 merged_piece l m = front_piece l m.part (merged_bytes m)
 
--- what only the last or the first file has
+-- what only the last or only the first file has
 abbrev pub ends_pieces : Layout → File → List Piece
 ends_pieces l f = of_last_file f (all_sorted_pieces l) ++ of_first_file f (once_pieces l)
 
--- all that a file has
+-- all pieces of a file
 abbrev pub standing_pieces : Layout → File → List Piece
 standing_pieces l f = ranged_pieces l f ++ (ends_pieces l f ++ thunk_pieces l f)

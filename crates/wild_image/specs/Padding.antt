@@ -1,15 +1,15 @@
--- Bytes of an image that are marked as taken, and a range of them that is filled.
---   Marks test from to     what passes the test is marked besides
---   free taken at end      the bytes of a range that are not
---   Fills ..               of a range, as far as it was gone through, free bytes were filled, each run of them anew
---   FillsSection ..        the same of all bytes of a section
+-- Marks of an image's bytes that have owners, and ranges that are filled.
+--   Marks test from to     the bytes that pass the test are marked, beside those marked before
+--   free taken at end      the bytes of a range that are not marked
+--   Fills ..               the free bytes of a range up to `next` are filled, and each run restarts the pattern
+--   FillsSection ..        the same for all bytes of a section
 use Rattle.std.specs.Prelude.{◌≡◌, ℕ, ◌<◌, Bool, true, not, ◌&&◌, ◌||◌, if◌then◌else◌, nat_le, nat_lt, List, length, get_or, slice_index}
 use Rattle.wild_types.specs.declared.layout.Layout.{Layout}
 use Rattle.wild_types.specs.declared.section.Section.{Section}
 use Rattle.wild_relax.specs.Padding.{repeated_byte}
 use Rattle.wild_layout.specs.Image.{has_offset, run, filling_of}
 
--- nothing behind the last mark is free
+-- a byte past the last mark counts as marked
 abbrev pub is_taken : List Bool → ℕ → Bool
 is_taken taken k = get_or taken k true
 
@@ -25,7 +25,7 @@ pub record Fills (bs : List ℕ) (at end next : ℕ) (taken after : List Bool) (
   pub long : length new ≡ length old
   pub filled : (k : ℕ) → k < length old → slice_index new k ≡ (if free taken at next k then repeated_byte bs (run (free taken at end) k) else slice_index old k)
 
--- of a section's bytes those that were free are filled
+-- the free bytes of a section are filled
 pub record FillsSection (l : Layout) (s : Section) (taken after : List Bool) (old new : List ℕ) : Type 0 where
   pub marks : Marks (λ k. has_offset l k s) taken after
   pub long : length new ≡ length old

@@ -1,13 +1,13 @@
 -- What a group has of each part, and what it counts.
---   group_given l part g  what a group gives to a part: the content of the part's role
---   standing l f s        a section of file f that stands in its part's range, as it stands in the output
---   file_sections l f     the bytes of a file's input sections that own some, one behind the other; sorted_bytes l x those of a sorted
---                         section; once_bytes l the strings that were merged, and the output's identity
---   group_tables l g      what a group gives to the tables, part by part
+--   group_given l part g  what a group contributes to a part: the content of the part's role
+--   standing l f s        a section of file f with a range in its part, as placed
+--   file_sections l f     the bytes of a file's input sections that have some in the image, consecutively; sorted_bytes l x those of
+--                         a sorted input section; once_bytes l the merged strings, and the output's identity
+--   group_tables l g      what a group contributes to the tables, part by part
 --   group_files l g       the bytes of its files, in the order of processing
---   group_owned l part g  of these those that stand in a part
---   group_parts l g       what the group gives to each part, with those behind it
---   group_pairs l g       a pair of a section and a number for each input section whose relocations are counted
+--   group_owned l part g  those of its files' bytes that are in a part
+--   group_parts l g       the group's contribution to each part, and after it its files' bytes there
+--   group_pairs l g       a pair of a section and a count for each input section whose relocations are counted
 use Rattle.std.specs.Prelude.{ℕ, ◌==◌, ◌&&◌, Bool, false, not, ◌||◌, if◌then◌else◌, List, [], ◌∷◌, ◌++◌, map, length, Option, None, Some, slice_get}
 use Rattle.std.specs.List.{flat_map, range_with_len}
 use Rattle.wild_types.specs.declared.part.Part.{Part}
@@ -34,30 +34,30 @@ use Rattle.wild_layout.specs.Content.{content}
 use Rattle.wild_layout.specs.Image.{offset_in, unless_hollow, merged_bytes, of_first_file}
 use Rattle.wild_layout.specs.Thunks.{thunk_bytes, file_thunks}
 
--- the role of a part; raw where there is none
+-- the role of a part; raw if there is no such part
 abbrev pub role_of : Option Part → Role
 role_of None = role.Raw
 role_of (Some p) = p.role
 
--- what a group gives to a part
+-- what a group contributes to a part
 abbrev pub group_given : Layout → ℕ → Group → List ℕ
 group_given l part g = unless_hollow l part (content l (role_of (slice_get l.parts part)) g)
 
--- ---- bytes of files, one behind the other
+-- ---- bytes of files, consecutively
 
--- a section of a file that stands in its part's range, as it stands: frames alone stand at an address of their own
+-- a section of a file with a range in its part, as placed; the address 0 is used for frames only, which have no such range
 abbrev pub standing : Layout → File → InputSection → InputSection
 standing l f s = laid_section l f 0 s
 
--- there are bytes of a section of that size
+-- a loaded, sorted or debug section has bytes in the image
 abbrev pub has_some : Layout → InputSection → Bool
 has_some l s = not (s.size == 0) && (not s.nobits || has_data l (section_of l s.part))
 
--- and it owns them
+-- and its part is written
 abbrev pub has_room : Layout → InputSection → Bool
 has_room l s = has_some l s && not (is_hollow_part l s.part)
 
--- there are some of a section that stands in its part's range
+-- a section with a range in its part has bytes there
 abbrev pub some_by : Slot → Layout → InputSection → Bool
 some_by slot.Loaded l s = has_some l s
 some_by slot.Debug l s = has_some l s
@@ -68,22 +68,22 @@ some_by other l s = false
 abbrev pub ranged_room : Layout → InputSection → Bool
 ranged_room l s = some_by s.slot l s && not (is_hollow_part l s.part)
 
--- where a section begins in the file
+-- the file offset of a section
 abbrev pub place_in : Layout → InputSection → ℕ
 place_in l s = offset_in (slice_get l.parts s.part) s.address
 
--- the bytes of an input section of a file, as it stands, that owns some
+-- the bytes of a placed input section, if it has some in the image
 abbrev pub section_owned : Layout → File → InputSection → List ℕ
 section_owned l f s = if is_filled l s then section_bytes l f s else []
 
--- of a section of the plan, which stands in its part's range
+-- the same for a section of the plan with a range in its part
 abbrev pub ranged_owned : Layout → File → InputSection → List ℕ
 ranged_owned l f s = if has_range s.slot then section_owned l f (standing l f s) else []
 
 abbrev pub file_sections : Layout → File → List ℕ
 file_sections l f = flat_map (ranged_owned l f) f.sections
 
--- of a section that is named among the sorted ones
+-- the same for a sorted input section
 abbrev pub input_owned : Layout → Input → List ℕ
 input_owned l x = section_owned l x.file (as_turned x.section)
 
@@ -93,41 +93,41 @@ sorted_owned l x = flat_map (input_owned l) (sorted_input l x)
 abbrev pub all_sorted : Layout → List ℕ
 all_sorted l = flat_map (sorted_owned l) l.sorted
 
--- what stands once: the strings that were merged, and the output's identity
+-- what is written once: the merged strings, and the output's identity
 abbrev pub once_bytes : Layout → List ℕ
 once_bytes l = flat_map merged_bytes l.merged ++ l.identity.bytes
 
--- what only the last or the first file has
+-- what only the last or only the first file has
 abbrev pub ends_bytes : Layout → File → List ℕ
 ends_bytes l f = of_last_file f (all_sorted l) ++ of_first_file f (once_bytes l)
 
--- the bytes of a file's input sections, behind them what only the last or the first has, and its thunks
+-- the bytes of a file: its input sections, then what only the last or the first file has, then its thunks
 abbrev pub file_bytes : Layout → File → List ℕ
 file_bytes l f = file_sections l f ++ (ends_bytes l f ++ unless_hollow l l.primary_part (file_thunks l f))
 
--- those of a group's files, in the order of processing
+-- the bytes of a group's files, in the order of processing
 unfoldable pub group_files : Layout → Group → List ℕ
 group_files l g = flat_map (file_bytes l) g.files
 
--- what a group gives to a table of which something is written
+-- what a group contributes to a table, unless the table's section is omitted
 abbrev pub table_given : Layout → Group → Part → List ℕ
 table_given l g p = if is_hollow_at l p.section then [] else content l p.role g
 
--- of so many bytes that groups give to a part those that they write: none of a raw one, and none where nothing of its section is written
+-- the number of bytes written of n bytes of shares: 0 for a raw part and in an omitted section
 abbrev pub written : Layout → Part → ℕ → ℕ
 written l p n = if is_hollow_at l p.section then 0 else if has_role role.Raw p then 0 else n
 
--- to the tables, part by part
+-- what a group contributes to the tables, part by part
 abbrev pub group_tables : Layout → Group → List ℕ
 group_tables l g = flat_map (table_given l g) l.parts
 
 -- ---- the same by part
 
--- bytes that stand in a part, where they do
+-- the bytes, if they are in that part
 abbrev pub in_part : ℕ → ℕ → List ℕ → List ℕ
 in_part part k bs = if k == part then bs else []
 
--- the bytes of an input section of a file, where it owns some of that part
+-- the bytes of an input section of a file, if it has some in that part
 abbrev pub owned_in : Layout → File → ℕ → InputSection → List ℕ
 owned_in l f part s = if is_filled l s then in_part part s.part (section_bytes l f s) else []
 
@@ -157,14 +157,14 @@ merged_in l part m = front_in l part m.part (merged_bytes m)
 abbrev pub once_in : Layout → ℕ → List ℕ
 once_in l part = flat_map (merged_in l part) l.merged ++ front_in l part l.identity.part l.identity.bytes
 
--- a thunk stands in the primary part
+-- thunks are in the primary part
 abbrev pub thunk_in : Layout → ℕ → Thunk → List ℕ
 thunk_in l part t = if l.primary_part == part then thunk_bytes l t else []
 
 abbrev pub thunks_in : Layout → ℕ → File → List ℕ
 thunks_in l part f = unless_hollow l l.primary_part (flat_map (thunk_in l part) (thunks_of l f))
 
--- what only the last or the first file has
+-- what only the last or only the first file has
 abbrev pub ends_in : Layout → ℕ → File → List ℕ
 ends_in l part f = of_last_file f (all_sorted_in l part) ++ of_first_file f (once_in l part)
 
@@ -174,23 +174,23 @@ file_owned l part f = sections_owned l part f ++ (ends_in l part f ++ thunks_in 
 unfoldable pub group_owned : Layout → ℕ → Group → List ℕ
 group_owned l part g = flat_map (file_owned l part) g.files
 
--- all that a group has of a part
+-- all bytes of a group in a part
 abbrev pub group_part : Layout → Group → ℕ → List ℕ
 group_part l g part = group_given l part g ++ group_owned l part g
 
--- all that a group has of each part
+-- all bytes of a group in each part
 unfoldable pub group_parts : Layout → Group → List (List ℕ)
 group_parts l g = map (group_part l g) (range_with_len 0 (length l.parts))
 
 -- ---- counts
 
--- what an input section adds to which count
+-- what an input section adds to the count of its output section
 abbrev pub section_pairs : Layout → InputSection → List (ℕ × ℕ)
 section_pairs l s = if is_counted s && not (is_dropped l s) then (section_of l s.part, length s.relocations) ∷ [] else []
 
 abbrev pub file_pairs : Layout → File → List (ℕ × ℕ)
 file_pairs l f = flat_map (section_pairs l) f.sections
 
--- of a relocatable object none is read
+-- in a relocatable output nothing is counted, as no relocation is read
 abbrev pub group_pairs : Layout → Group → List (ℕ × ℕ)
 group_pairs l g = if is_partial_link l.kind then [] else flat_map (file_pairs l) g.files

@@ -1,4 +1,4 @@
-//! Putting what the groups have into the image.
+//! Copies the bytes of the groups from their buffers to their places in the image.
 ghost use Rattle.std.specs.Prelude.{◌≡◌, ◌==◌, ◌&&◌, not, ◌+◌, ◌<◌, ◌≤◌, ◌^◌, ℕ, true, false, Some, if◌then◌else◌, length, take, drop, replicate, slice_get, OnOk, All};
 ghost use Rattle.std.specs.List.{flat_map};
 ghost use Rattle.wild_words.specs.Words.{place};
@@ -33,28 +33,28 @@ use wild_types::{
 };
 use wild_words::put;
 
-/// Whether there are bytes at the front of a part, and the part is written.
+/// Whether there are bytes to write at the front of a part.
 pub(crate) fn writes_front(layout: &Layout, part: usize, own: &[u8]) -> bool
     ensures { result ≡ (not (length own.now == 0) && not (is_hollow_part layout.now part)) }
 {
     own.len() != 0 && !layout.is_hollow_part(part)
 }
 
-/// Whether there are bytes of a section that is loaded, sorted or read by debuggers, as it stands.
+/// Whether a section that is loaded, sorted or read by debuggers has bytes in the image, as placed.
 fn has_some(layout: &Layout, section: &InputSection) -> bool
     ensures { result ≡ has_some layout.now section.now }
 {
     section.size != 0 && (!section.nobits || layout.has_data(layout.section_of(section.part)))
 }
 
-/// Whether it owns these bytes of the image.
+/// Whether such a section has bytes, and its part is written.
 pub(crate) fn owns_room(layout: &Layout, section: &InputSection) -> bool
     ensures { result ≡ has_room layout.now section.now }
 {
     has_some(layout, section) && !layout.is_hollow_part(section.part)
 }
 
-/// Whether there are bytes of a section that stands in its part's range.
+/// Whether a loaded or debug section, a relocation table or a section group has bytes in the image, as the plan gives its place.
 fn has_range(layout: &Layout, section: &InputSection) -> bool
     ensures { result ≡ some_by section.now.slot layout.now section.now }
 {
@@ -66,14 +66,14 @@ fn has_range(layout: &Layout, section: &InputSection) -> bool
     }
 }
 
-/// Whether it owns these bytes of the image.
+/// Whether such a section has bytes, and its part is written.
 pub(crate) fn owns_range(layout: &Layout, section: &InputSection) -> bool
     ensures { result ≡ ranged_room layout.now section.now }
 {
     has_range(layout, section) && !layout.is_hollow_part(section.part)
 }
 
-/// Puts the bytes of a section, the first of these, into the image, where it owns some, and tells what stands behind them.
+/// Copies the bytes of a section, the first of `bytes`, to their place if the section has some; returns the rest.
 fn append_own<'b>(
     layout: &Layout,
     section: &InputSection,
@@ -95,7 +95,7 @@ fn append_own<'b>(
     rest
 }
 
-/// Puts the bytes of the sections of a file into the image, and tells what stands behind them.
+/// Copies the bytes of the sections of a file to their places; returns the rest.
 fn append_sections<'b>(layout: &Layout, file: &File, bytes: &'b [u8], out: &mut [u8]) -> &'b [u8]
     requires lies { All (RangedLies layout.now file.now) file.now.sections }
     requires room { length out.old ≡ image_size layout.now }
@@ -110,7 +110,7 @@ fn append_sections<'b>(layout: &Layout, file: &File, bytes: &'b [u8], out: &mut 
     rest
 }
 
-/// Puts the bytes of a section that is named among the sorted ones into the image, and tells what stands behind them.
+/// Copies the bytes of one sorted input section to their place; returns the rest.
 fn append_sorted_section<'b>(
     layout: &Layout,
     entry: &SortedSection,
@@ -132,7 +132,7 @@ fn append_sorted_section<'b>(
     }
 }
 
-/// Puts the bytes of the sorted sections into the image, and tells what stands behind them.
+/// Copies the bytes of the sorted input sections to their places; returns the rest.
 fn append_sorted<'b>(layout: &Layout, bytes: &'b [u8], out: &mut [u8]) -> &'b [u8]
     requires lies { All (SortedLies layout.now) layout.now.sorted }
     requires room { length out.old ≡ image_size layout.now }
@@ -147,7 +147,7 @@ fn append_sorted<'b>(layout: &Layout, bytes: &'b [u8], out: &mut [u8]) -> &'b [u
     rest
 }
 
-/// Puts bytes at the front of a part into the image.
+/// Copies bytes to the front of a part.
 #[tactic(auto, using(crate::proofs::FrontLemmas::front_part, crate::proofs::FrontLemmas::front_ends, crate::proofs::FrontLemmas::front_put))]
 fn put_some(layout: &Layout, part: usize, own: &[u8], out: &mut [u8])
     requires some { 1 ≤ length own.now }
@@ -160,7 +160,7 @@ fn put_some(layout: &Layout, part: usize, own: &[u8], out: &mut [u8])
     put(out, front, own);
 }
 
-/// The same, where there are some and the part is written.
+/// Copies bytes to the front of a part, if there are some and the part is written.
 fn put_front(layout: &Layout, part: usize, own: &[u8], out: &mut [u8])
     requires lies { SomeLies layout.now part own.now }
     requires room { length out.old ≡ image_size layout.now }
@@ -172,7 +172,7 @@ fn put_front(layout: &Layout, part: usize, own: &[u8], out: &mut [u8])
     put_some(layout, part, own, out);
 }
 
-/// How many bytes merged strings have.
+/// The number of bytes of a merged string section.
 pub(crate) fn merged_size(merged: &Merged) -> usize
     requires { length (merged_bytes merged.now) < 2 ^ 64 }
     ensures { result ≡ length (merged_bytes merged.now) }
@@ -180,7 +180,7 @@ pub(crate) fn merged_size(merged: &Merged) -> usize
     strings_size(merged.strings.as_slice()) as usize
 }
 
-/// Puts merged strings, the first of these bytes, into the image, and tells what stands behind them.
+/// Copies the first of `bytes`, merged strings, to the front of their part; returns the rest.
 fn append_merged<'b>(layout: &Layout, merged: &Merged, bytes: &'b [u8], out: &mut [u8]) -> &'b [u8]
     requires lies { MergedLies layout.now merged.now }
     requires room { length out.old ≡ image_size layout.now }
@@ -193,7 +193,7 @@ fn append_merged<'b>(layout: &Layout, merged: &Merged, bytes: &'b [u8], out: &mu
     rest
 }
 
-/// Puts the strings that were merged into the image, and tells what stands behind them.
+/// Copies all merged strings to their parts; returns the rest.
 fn append_strings<'b>(layout: &Layout, bytes: &'b [u8], out: &mut [u8]) -> &'b [u8]
     requires lies { All (MergedLies layout.now) layout.now.merged }
     requires room { length out.old ≡ image_size layout.now }
@@ -208,7 +208,7 @@ fn append_strings<'b>(layout: &Layout, bytes: &'b [u8], out: &mut [u8]) -> &'b [
     rest
 }
 
-/// Puts the output's identity, the first of these bytes, into the image, and tells what stands behind it.
+/// Copies the output's identity, the first of `bytes`, to its part; returns the rest.
 fn append_identity<'b>(layout: &Layout, bytes: &'b [u8], out: &mut [u8]) -> &'b [u8]
     requires lies { SomeLies layout.now layout.now.identity.part layout.now.identity.bytes }
     requires room { length out.old ≡ image_size layout.now }
@@ -221,7 +221,7 @@ fn append_identity<'b>(layout: &Layout, bytes: &'b [u8], out: &mut [u8]) -> &'b 
     rest
 }
 
-/// Puts what stands once into the image: the strings that were merged, and the output's identity; tells what stands behind it.
+/// Copies merged strings and the output's identity, which the first file writes, to their parts; returns the rest.
 fn append_once<'b>(layout: &Layout, bytes: &'b [u8], out: &mut [u8]) -> &'b [u8]
     requires merged { All (MergedLies layout.now) layout.now.merged }
     requires identity { SomeLies layout.now layout.now.identity.part layout.now.identity.bytes }
@@ -234,7 +234,7 @@ fn append_once<'b>(layout: &Layout, bytes: &'b [u8], out: &mut [u8]) -> &'b [u8]
     append_identity(layout, rest, out)
 }
 
-/// Puts what only the last file has into the image, and tells what stands behind it.
+/// Copies the sorted input sections to their places, if this is the last file, which writes them; returns the rest.
 fn append_last<'b>(layout: &Layout, file: &File, bytes: &'b [u8], out: &mut [u8]) -> &'b [u8]
     requires lies { is_epilogue file.now.role ≡ true → All (SortedLies layout.now) layout.now.sorted }
     requires room { length out.old ≡ image_size layout.now }
@@ -248,7 +248,7 @@ fn append_last<'b>(layout: &Layout, file: &File, bytes: &'b [u8], out: &mut [u8]
     bytes
 }
 
-/// Puts what only the first file has into the image, and tells what stands behind it.
+/// Copies merged strings and the identity to their places, if this is the first file, which writes them; returns the rest.
 fn append_first<'b>(layout: &Layout, file: &File, bytes: &'b [u8], out: &mut [u8]) -> &'b [u8]
     requires merged { is_prelude file.now.role ≡ true → All (MergedLies layout.now) layout.now.merged }
     requires identity { is_prelude file.now.role ≡ true → SomeLies layout.now layout.now.identity.part layout.now.identity.bytes }
@@ -263,7 +263,7 @@ fn append_first<'b>(layout: &Layout, file: &File, bytes: &'b [u8], out: &mut [u8
     bytes
 }
 
-/// Puts what only the last or the first file has into the image, and tells what stands behind it.
+/// Copies what only the last or only the first file writes; returns the rest.
 fn append_ends<'b>(layout: &Layout, file: &File, bytes: &'b [u8], out: &mut [u8]) -> &'b [u8]
     requires lies { FileLies layout.now file.now }
     requires room { length out.old ≡ image_size layout.now }
@@ -275,7 +275,7 @@ fn append_ends<'b>(layout: &Layout, file: &File, bytes: &'b [u8], out: &mut [u8]
     append_first(layout, file, rest, out)
 }
 
-/// Puts a thunk, the first of these bytes, into the image, and tells what stands behind it.
+/// Copies a thunk, the first of `bytes`, to its place; returns the rest.
 fn append_thunk<'b>(layout: &Layout, thunk: &Thunk, bytes: &'b [u8], out: &mut [u8]) -> &'b [u8]
     requires lies { ThunkLies layout.now thunk.now }
     requires room { (length out.old ≡ image_size layout.now) × (image_size layout.now ≤ 2 ^ 62) }
@@ -289,7 +289,7 @@ fn append_thunk<'b>(layout: &Layout, thunk: &Thunk, bytes: &'b [u8], out: &mut [
     rest
 }
 
-/// Puts the thunks of a file into the image, and tells what stands behind them.
+/// Copies the thunks of a file to their places; returns the rest.
 fn append_all_thunks<'b>(layout: &Layout, file: &File, bytes: &'b [u8], out: &mut [u8]) -> &'b [u8]
     requires lies { All (ThunkLies layout.now) (thunks_of layout.now file.now) }
     requires room { (length out.old ≡ image_size layout.now) × (image_size layout.now ≤ 2 ^ 62) }
@@ -304,7 +304,7 @@ fn append_all_thunks<'b>(layout: &Layout, file: &File, bytes: &'b [u8], out: &mu
     rest
 }
 
-/// The same, unless nothing of their section is written.
+/// Copies the thunks of a file to their places, unless their output section is omitted; returns the rest.
 fn append_thunks<'b>(layout: &Layout, file: &File, bytes: &'b [u8], out: &mut [u8]) -> &'b [u8]
     requires lies { is_hollow_part layout.now layout.now.primary_part ≡ false → All (ThunkLies layout.now) (thunks_of layout.now file.now) }
     requires room { (length out.old ≡ image_size layout.now) × (image_size layout.now ≤ 2 ^ 62) }
@@ -318,7 +318,7 @@ fn append_thunks<'b>(layout: &Layout, file: &File, bytes: &'b [u8], out: &mut [u
     append_all_thunks(layout, file, bytes, out)
 }
 
-/// Puts the bytes of the sections of a file and its thunks into the image, and tells what stands behind them.
+/// Copies the sections of a file and its thunks to their places; returns the rest.
 fn append_file<'b>(layout: &Layout, file: &File, bytes: &'b [u8], out: &mut [u8]) -> &'b [u8]
     requires lies { FileLies layout.now file.now }
     requires room { (length out.old ≡ image_size layout.now) × (image_size layout.now ≤ 2 ^ 62) }
@@ -331,7 +331,7 @@ fn append_file<'b>(layout: &Layout, file: &File, bytes: &'b [u8], out: &mut [u8]
     append_thunks(layout, file, rest, out)
 }
 
-/// Puts the bytes of a group's files into the image, and tells what stands behind them.
+/// Copies the bytes of a group's files to their places; returns the rest.
 #[tactic(auto, unfolding(crate::specs::Pieces::group_files))]
 fn append_files<'b>(layout: &Layout, group: &Group, bytes: &'b [u8], out: &mut [u8]) -> &'b [u8]
     requires lies { All (FileLies layout.now) group.now.files }
@@ -347,7 +347,7 @@ fn append_files<'b>(layout: &Layout, group: &Group, bytes: &'b [u8], out: &mut [
     rest
 }
 
-/// How many bytes a group writes of what it gives to a part: none of a raw one, and none where nothing of the part's section is written.
+/// The number of bytes that a group writes of its share of a part: 0 for a raw part, and 0 if the part's section is omitted.
 pub(crate) fn written_size(layout: &Layout, part: &Part, group: &Group, i: usize) -> u64
     ensures { result ≡ written layout.now part.now (given i group.now) }
 {
@@ -359,8 +359,8 @@ pub(crate) fn written_size(layout: &Layout, part: &Part, group: &Group, i: usize
     }
 }
 
-/// Puts what the group with that number gives to part i, the first `size` of these bytes, into the image, behind what the
-/// groups before write of it, and tells what stands behind that.
+/// Copies what group `number` contributes to part i, the first `size` of `bytes`, into the image, after the contributions of the
+/// groups before it; returns the rest.
 fn append_table<'b>(
     layout: &Layout,
     index: usize,
@@ -390,8 +390,8 @@ fn append_table<'b>(
     rest
 }
 
-/// Puts what the group with that number gives to the parts into the image, moves each part's start behind that, and tells what stands
-/// behind it. Where no bytes are left there is nothing to put.
+/// Copies what group `number` contributes to each part, and advances each part's start past it; returns the rest. Stops early if
+/// `bytes` is empty.
 fn append_tables<'b>(
     layout: &Layout,
     index: usize,
@@ -421,7 +421,7 @@ fn append_tables<'b>(
     rest
 }
 
-/// Puts all that a batch has into the image, and moves the parts' starts behind it.
+/// Copies all bytes of a batch into the image, and advances the parts' starts past its contributions.
 fn append_batch(
     layout: &Layout,
     batch: &Batch,
@@ -448,7 +448,7 @@ fn append_batch(
     }
 }
 
-/// Puts what the batches have into the image, or answers the first fault in the order of the groups.
+/// Copies the bytes of all batches into the image, or returns the first fault in the order of the groups.
 pub(crate) fn append_all(
     layout: &Layout,
     batches: &[Batch],

@@ -1,23 +1,23 @@
-//! Groups that are worked on at once. Where there are many groups a batch has several, so that they share what a claim and
-//! a buffer cost.
+//! Batches of groups, the unit of work of a thread. If there are many groups, a batch has several, which share the cost of
+//! claiming the batch and of one buffer.
 ghost use Rattle.std.specs.Prelude.{◌≡◌, ◌<◌, ◌≤◌, length, IfOk};
 ghost use Rattle.wild_image.specs.Batches.{AreBatches};
 
 use std::alloc::{AllocError, Global};
 use wild_types::Group;
 
-/// Some groups of a layout, one behind the other.
+/// Consecutive groups of a layout.
 #[derive(Drop)]
 pub(crate) struct Batch<'a> {
-    /// The number of the first of them.
+    /// The number of the first of these groups.
     pub(crate) first: usize,
     pub(crate) groups: &'a [Group],
 }
 
-/// How many batches there are, about, where there are enough groups.
+/// The approximate number of batches, if there are enough groups.
 const BATCHES: usize = 1024;
 
-/// All groups, cut into batches of `size` groups.
+/// Divides all groups into batches of `size` groups.
 pub(crate) fn batches_of(
     alloc: Global,
     groups: &[Group],
@@ -39,7 +39,7 @@ pub(crate) fn batches_of(
     Ok(batches)
 }
 
-/// How many groups a batch has: one, unless there are many groups.
+/// The number of groups of a batch: one, unless there are many groups.
 pub(crate) fn batch_size(groups: usize) -> usize
     ensures { 0 < result }
 {

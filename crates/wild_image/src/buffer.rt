@@ -1,4 +1,4 @@
-//! All bytes of a group: what it gives to the tables, part by part, and its input sections' bytes and thunks in the order of
+//! All bytes of a group: what it contributes to the tables, part by part, and its input sections and thunks in the order of
 //! processing.
 ghost use Rattle.std.specs.Prelude.{◌≡◌, ◌&&◌, ◌+◌, ◌<◌, ◌^◌, ◌++◌, [], true, false, List, ℕ, length, replicate, Some, slice_get, option_to_list, IfOk, OnOk, All};
 ghost use Rattle.std.specs.List.{flat_map};
@@ -44,18 +44,19 @@ use wild_types::{
 };
 use wild_words::Bytes;
 
-/// What groups have of an image.
+/// All bytes that some groups contribute to an image.
 #[derive(Drop)]
 pub(crate) struct GroupBytes {
-    /// What they give to the tables, part by part.
+    /// Their contributions to the tables, part by part.
     pub(crate) tables: PartBytes,
     /// The bytes of their files.
     pub(crate) files: PartBytes,
-    /// The frames of the last of them.
+    /// The frames (CIEs and FDEs) of the last group.
     pub(crate) frames: PartBytes,
 }
 
-/// Adds what a group gives to part i, unless nothing of its section is written. Where it writes nothing, nothing is looked at.
+/// Appends what a group contributes to part i, unless the part's section is omitted. Computes nothing if the
+/// group writes nothing there.
 fn add_table<A: Arch>(
     alloc: Global,
     resolved: &Resolved<A>,
@@ -79,7 +80,7 @@ fn add_table<A: Arch>(
     add_content(alloc, resolved, part.role, group, beside, bytes)
 }
 
-/// Adds what a group gives to the tables, part by part.
+/// Appends what a group contributes to the tables, part by part.
 fn add_group_tables<A: Arch>(
     alloc: Global,
     resolved: &Resolved<A>,
@@ -100,7 +101,7 @@ fn add_group_tables<A: Arch>(
     Ok(())
 }
 
-/// Where a section comes from that stands so.
+/// Where in the input the relocations of a placed section are, for error messages.
 fn origin_of<'a>(place: InputPlace, laid: &'a LaidSection<'_>) -> Origin<'a>
     ensures place { result.place ≡ place }
     ensures relocations { result.relocations.now ≡ laid.now.origins }
@@ -113,7 +114,7 @@ fn origin_of<'a>(place: InputPlace, laid: &'a LaidSection<'_>) -> Origin<'a>
     }
 }
 
-/// Answers the first fault of a section, as it stands, whose relocations are read and that has no bytes.
+/// Returns the first fault of a placed section without bytes whose relocations are read.
 #[tactic(auto, unfolding(crate::specs::Stood::kept_faults))]
 fn check_data<A: Arch>(
     alloc: Global,
@@ -134,14 +135,14 @@ fn check_data<A: Arch>(
     write_data(alloc, resolved, &origin_of(place, laid), &item, &mut room)
 }
 
-/// So many zeros.
+/// A vector of `count` zeros.
 fn zeros(alloc: Global, count: usize) -> Result<Vec<u8>, AllocError>
     ensures { IfOk result (λ v. v.items ≡ replicate count 0) }
 {
     Ok(vec![in alloc; 0u8; count]?)
 }
 
-/// Adds as many zeros as a section has bytes, where it owns some.
+/// Appends as many zeros as a section has bytes, if it has bytes in the image.
 fn add_zeros(
     alloc: Global,
     layout: &Layout,
@@ -157,7 +158,7 @@ fn add_zeros(
     Ok(())
 }
 
-/// Adds the bytes of a section with data, as it stands, to those of the file's sections or of its frames, or answers its first
+/// Appends the bytes of a placed section with data: to the file's sections, or to its frames. Fails with the section's first
 /// fault.
 #[tactic(auto, using(crate::proofs::StoodLemmas::frames_own_none), unfolding(crate::specs::Stood::kept_faults, wild_layout::specs::Sites::section_bytes, wild_layout::specs::Content::frame_bytes_of))]
 fn add_read<A: Arch>(
@@ -189,7 +190,7 @@ fn add_read<A: Arch>(
     check_data(alloc, resolved, place, file, laid)
 }
 
-/// Adds the bytes of a section with data that debuggers read, as it stands, to those of the file's sections, or answers its first fault.
+/// Appends the bytes of a placed section with data that debuggers read to the file's sections, or returns its first fault.
 #[tactic(auto, using(crate::proofs::MadeLemmas::debug_answers, crate::proofs::MadeLemmas::debug_added))]
 fn add_debug<A: ShardedArch, R: Threads + Sync>(
     by: &Workers<R>,
@@ -209,14 +210,14 @@ fn add_debug<A: ShardedArch, R: Threads + Sync>(
     bytes.add_debug(by, resolved, &origin_of(place, laid), laid.section())
 }
 
-/// Whether a section is a table of relocations.
+/// Whether a section is a relocation table.
 fn is_rela(slot: Slot) -> bool
     ensures { result ≡ is_rela slot }
 {
     matches!(slot, Slot::Rela)
 }
 
-/// Adds what is made of a table of relocations or of a group, which owns bytes, as it stands.
+/// Appends the bytes computed for a relocation table or section group, as placed, which has bytes in the image.
 #[tactic(auto, using(crate::proofs::MadeLemmas::rela_size, crate::proofs::MadeLemmas::group_size, crate::proofs::MadeLemmas::rela_added, crate::proofs::MadeLemmas::group_added))]
 fn add_made<A: Arch>(
     alloc: Global,
@@ -236,7 +237,7 @@ fn add_made<A: Arch>(
     }
 }
 
-/// Adds the bytes of a section with data that is not loaded, as it stands, to those of the file's sections, or answers its first fault.
+/// Appends the bytes of a placed section with data that is not loaded to the file's sections, or returns its first fault.
 #[tactic(auto, using(crate::proofs::MadeLemmas::no_faults, crate::proofs::MadeLemmas::nothing_added))]
 fn add_unread<A: ShardedArch, R: Threads + Sync>(
     by: &Workers<R>,
@@ -265,7 +266,7 @@ fn add_unread<A: ShardedArch, R: Threads + Sync>(
     Ok(())
 }
 
-/// Adds the bytes of a section of that file, as it stands, or answers its first fault; nothing of one that is not written.
+/// Appends the bytes of a placed section of the file, or returns its first fault; appends nothing if it is omitted.
 #[tactic(auto, using(crate::proofs::StoodLemmas::zeros_owned), unfolding(crate::specs::Stood::kept_faults, crate::specs::Stood::stood_faults))]
 fn add_stood<A: ShardedArch, R: Threads + Sync>(
     by: &Workers<R>,
@@ -299,7 +300,7 @@ fn add_stood<A: ShardedArch, R: Threads + Sync>(
     add_unread(by, resolved, place, file, laid, &mut bytes.files)
 }
 
-/// Whether a section is loaded as the plan has it, with bytes of its own that are written.
+/// Whether a section is loaded, and what the plan gives is written unchanged except for its relocations.
 #[tactic(auto, unfolding(crate::specs::Stood::stands_so))]
 fn stands_so(layout: &Layout, section: &InputSection) -> bool
     ensures { result ≡ stands_so layout.now section.now }
@@ -312,7 +313,7 @@ fn stands_so(layout: &Layout, section: &InputSection) -> bool
         && !layout.is_hollow_part(section.part)
 }
 
-/// Adds the bytes of a section that stands so, or answers its first fault.
+/// Appends an input section that is written exactly as the plan gives it, or returns its first fault.
 fn add_so<A: Arch>(
     alloc: Global,
     resolved: &Resolved<A>,
@@ -339,8 +340,8 @@ fn add_so<A: Arch>(
     )
 }
 
-/// Lays a section of that file and adds its bytes, or answers its first fault, where the file's next frames stand at an address; tells
-/// where those behind it stand.
+/// Places a section of the file and appends its bytes, or returns its first fault. The file's next frames begin at address `at`;
+/// returns the address after this section's frames.
 #[inline(never)]
 #[tactic(auto, using(crate::proofs::StoodLemmas::section_stood, crate::proofs::StoodLemmas::laid_whole, crate::proofs::StoodLemmas::laid_apart, wild_contents::proofs::LaidLemmas::room_of_laid))]
 fn add_section<A: ShardedArch, R: Threads + Sync>(
@@ -366,8 +367,8 @@ fn add_section<A: ShardedArch, R: Threads + Sync>(
     Ok(behind_frames(at, laid.section()))
 }
 
-/// Adds the bytes of the sections of a file, whose frames stand from an address on, or answers their first fault; tells where those
-/// behind stand. One that stands as the plan has it is not laid.
+/// Appends the sections of a file, whose frames begin at address `at`, or returns their first fault. Returns the address after its
+/// frames. A section that is written exactly as the plan gives it needs no placing.
 #[tactic(auto, using(crate::proofs::StoodLemmas::faults_refuse, crate::proofs::StoodLemmas::faults_done, crate::proofs::StoodLemmas::given_done, wild_contents::proofs::LaidLemmas::reach_done))]
 fn add_file_sections<A: ShardedArch, R: Threads + Sync>(
     by: &Workers<R>,
@@ -401,7 +402,7 @@ fn add_file_sections<A: ShardedArch, R: Threads + Sync>(
     Ok(next)
 }
 
-/// Adds the bytes of a section that is named among the sorted ones, or answers its first fault, which has the section's own place.
+/// Appends one sorted input section, or returns its first fault, which names the section's own place in the input.
 #[tactic(auto, using(crate::proofs::StoodLemmas::sorted_stood, crate::proofs::StandingLemmas::one_owned))]
 fn add_sorted_section<A: ShardedArch, R: Threads + Sync>(
     by: &Workers<R>,
@@ -429,7 +430,7 @@ fn add_sorted_section<A: ShardedArch, R: Threads + Sync>(
     }
 }
 
-/// Adds the bytes of the sorted sections, or answers their first fault.
+/// Appends the sorted input sections, or returns their first fault.
 #[tactic(auto, using(wild_sections::proofs::FaultLemmas::first_faults))]
 fn add_sorted<A: ShardedArch, R: Threads + Sync>(
     by: &Workers<R>,
@@ -448,7 +449,7 @@ fn add_sorted<A: ShardedArch, R: Threads + Sync>(
     Ok(())
 }
 
-/// Adds what ends the frames of the output.
+/// Appends the terminator of the output's frames.
 fn add_end(layout: &Layout, frames: &mut PartBytes) -> Result<(), AllocError>
     ensures { OnOk result (frames.new ≡ frames.old ++ end_of_frames layout.now) }
 {
@@ -458,7 +459,7 @@ fn add_end(layout: &Layout, frames: &mut PartBytes) -> Result<(), AllocError>
     Ok(())
 }
 
-/// Adds what only the last file has: the sorted sections, and what ends the frames.
+/// Appends what only the last file writes: the sorted input sections, and the terminator of the frames.
 fn add_last<A: ShardedArch, R: Threads + Sync>(
     by: &Workers<R>,
     resolved: &Resolved<A>,
@@ -478,7 +479,7 @@ fn add_last<A: ShardedArch, R: Threads + Sync>(
     Ok(())
 }
 
-/// Adds strings, one behind the other.
+/// Appends strings consecutively.
 fn add_strings(strings: &[Bytes], bytes: &mut PartBytes) -> Result<(), AllocError>
     ensures { OnOk result (bytes.new ≡ bytes.old ++ flat_map (λ (s : List ℕ). s) strings.now) }
 {
@@ -488,7 +489,7 @@ fn add_strings(strings: &[Bytes], bytes: &mut PartBytes) -> Result<(), AllocErro
     Ok(())
 }
 
-/// Adds what stands once: the strings that were merged, and the output's identity.
+/// Appends merged strings and the output's identity, which are written once.
 fn add_once(layout: &Layout, bytes: &mut PartBytes) -> Result<(), AllocError>
     ensures { OnOk result (bytes.new ≡ bytes.old ++ once_bytes layout.now) }
 {
@@ -498,7 +499,7 @@ fn add_once(layout: &Layout, bytes: &mut PartBytes) -> Result<(), AllocError>
     bytes.extend(layout.identity.bytes.as_slice())
 }
 
-/// Adds what only the first file has.
+/// Appends what only the first file writes: merged strings and the output's identity.
 fn add_first(layout: &Layout, file: &File, bytes: &mut PartBytes) -> Result<(), AllocError>
     ensures { OnOk result (bytes.new ≡ bytes.old ++ of_first_file file.now (once_bytes layout.now)) }
 {
@@ -508,7 +509,7 @@ fn add_first(layout: &Layout, file: &File, bytes: &mut PartBytes) -> Result<(), 
     Ok(())
 }
 
-/// Refuses the first file where something is too far from the search table of frames.
+/// Refuses the first file if a frame is too far from the `.eh_frame_hdr` search table.
 fn check_search_table(
     layout: &Layout,
     place: InputPlace,
@@ -527,8 +528,8 @@ fn check_search_table(
     }
 }
 
-/// Adds what a file has behind its sections: what only the last or the first file has, and its thunks; or answers the first fault of
-/// these, of its copies and slots, and of the search table.
+/// Appends the part of a file that follows its sections: what only the last or the first file writes, and its thunks. Fails with the
+/// first fault of these, of the file's copied symbols and GOT and PLT entries, and of the search table.
 #[inline(never)]
 #[tactic(auto, using(wild_sections::proofs::FaultLemmas::first_of_both), unfolding(crate::specs::Stood::errors_behind, crate::specs::Stood::bytes_behind))]
 fn add_behind<A: ShardedArch, R: Threads + Sync>(
@@ -553,15 +554,15 @@ fn add_behind<A: ShardedArch, R: Threads + Sync>(
     check_search_table(resolved.layout, place, file, table)
 }
 
-/// Whether a file is known to have nothing behind its sections: in a bare output an object that writes no thunks.
+/// Fast test whether a file has nothing after its sections: an object without thunks, in an output without dynamic tables.
 fn ends_there(known: Known, file: &File) -> bool
     ensures { result ≡ (known.bare && is_plain_object file.now) }
 {
     known.bare && matches!(file.role, FileRole::Object) && !file.owns_thunk_block
 }
 
-/// Adds the bytes of the sections of a file, whose frames stand from an address on, and what it has behind them, or answers its first
-/// fault; tells where the frames behind stand.
+/// Appends the sections of a file, whose frames begin at address `at`, and what follows them; or returns its first fault. Returns the
+/// address at which the frames of the next file begin.
 #[tactic(auto, using(wild_sections::proofs::FaultLemmas::first_of_both, crate::proofs::StoodLemmas::file_faults_by, crate::proofs::StoodLemmas::file_owned_by, crate::proofs::StoodLemmas::file_frames_by))]
 fn add_file<A: ShardedArch, R: Threads + Sync>(
     by: &Workers<R>,
@@ -590,7 +591,7 @@ fn add_file<A: ShardedArch, R: Threads + Sync>(
     Ok(next)
 }
 
-/// Adds the bytes of a group's files, or answers their first fault.
+/// Appends the bytes of a group's files, or returns their first fault.
 #[tactic(auto, using(crate::proofs::StoodLemmas::files_refuse, crate::proofs::StoodLemmas::files_done, crate::proofs::StoodLemmas::framed_done), unfolding(crate::specs::Append::GroupStands, crate::specs::Pieces::group_files, wild_contents::specs::Laid::group_frames, wild_laid::specs::Laid::laid_files))]
 fn add_files<A: ShardedArch, R: Threads + Sync>(
     by: &Workers<R>,
@@ -621,8 +622,8 @@ fn add_files<A: ShardedArch, R: Threads + Sync>(
     Ok(())
 }
 
-/// Adds the bytes of a group's files, or answers its first fault: that of its files, or else of the symbols that other modules see. A
-/// bare output has no table of symbols.
+/// Appends the bytes of a group's files. Fails with the first fault of the files, or else of the group's dynamic symbols. An output
+/// without dynamic tables has no symbol table to check.
 #[tactic(auto, using(wild_sections::proofs::FaultLemmas::first_of_both), unfolding(wild_layout::specs::Faults::group_errors))]
 fn add_group_files<A: ShardedArch, R: Threads + Sync>(
     by: &Workers<R>,
@@ -648,7 +649,7 @@ fn add_group_files<A: ShardedArch, R: Threads + Sync>(
     check_symbol_tables(resolved, index, group.files.as_slice())
 }
 
-/// How many bytes of part i some groups are given, at most 2^64 - 1.
+/// The sum of some groups' shares of part i, in bytes, at most 2^64 - 1.
 fn total_given(i: usize, groups: &[Group]) -> u64
     ensures { result ≡ 0 → total (given i) groups.now ≡ 0 }
 {
@@ -659,7 +660,7 @@ fn total_given(i: usize, groups: &[Group]) -> u64
     sum
 }
 
-/// How many bytes some groups have of raw parts, so that their buffer is taken at once.
+/// The number of bytes that some groups have in raw parts: the capacity of their buffer, allocated once.
 fn room_of_files(layout: &Layout, groups: &[Group]) -> u64 {
     let mut room: u64 = 0;
     for (i, part) in layout.parts.as_slice().iter().enumerate() {
@@ -670,7 +671,7 @@ fn room_of_files(layout: &Layout, groups: &[Group]) -> u64 {
     room
 }
 
-/// How many bytes some groups write of part i, unless it is raw, at most 2^64 - 1.
+/// The number of bytes that some groups write of part i, at most 2^64 - 1; 0 for a raw part and in an omitted section.
 #[tactic(auto, using(crate::proofs::TableLemmas::written_hollow, crate::proofs::TableLemmas::written_raw, crate::proofs::TableLemmas::written_all))]
 fn total_written(layout: &Layout, i: usize, part: &Part, groups: &[Group]) -> u64
     ensures { result ≡ 0 → written layout.now part.now (total (given i) groups.now) ≡ 0 }
@@ -682,7 +683,7 @@ fn total_written(layout: &Layout, i: usize, part: &Part, groups: &[Group]) -> u6
     }
 }
 
-/// How many bytes a batch writes of tables, so that their buffer is taken at once.
+/// The number of bytes that a batch writes of tables: the capacity of their buffer, allocated once.
 fn room_of_tables(layout: &Layout, known: Known, batch: &Batch) -> u64
     requires known { IsKnown layout.now known }
     requires within { IsWithin layout.now.groups batch.now }
@@ -699,7 +700,7 @@ fn room_of_tables(layout: &Layout, known: Known, batch: &Batch) -> u64
 }
 
 impl GroupBytes {
-    /// No bytes, with room for so many of tables and of files.
+    /// No bytes yet, with capacity for `tables` bytes of tables and `files` bytes of files.
     pub(crate) fn with_room(alloc: Global, tables: usize, files: usize) -> Result<Self, AllocError>
         ensures tables { IfOk result (λ b. b.tables ≡ []) }
         ensures files { IfOk result (λ b. b.files ≡ []) }
@@ -712,7 +713,7 @@ impl GroupBytes {
     }
 }
 
-/// Adds all bytes of a group, or answers its first fault.
+/// Appends all bytes of a group, or returns its first fault.
 #[inline(never)]
 pub(crate) fn add_group<A: ShardedArch, R: Threads + Sync>(
     by: &Workers<R>,
@@ -743,7 +744,7 @@ pub(crate) fn add_group<A: ShardedArch, R: Threads + Sync>(
     Ok(())
 }
 
-/// The same, of a group that gives nothing to the tables unless `gives` says so.
+/// Appends all bytes of a group, or returns its first fault. Without `gives` the group contributes nothing to the tables.
 fn add_batch_group<A: ShardedArch, R: Threads + Sync>(
     by: &Workers<R>,
     resolved: &Resolved<A>,

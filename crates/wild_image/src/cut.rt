@@ -1,4 +1,4 @@
-//! All bytes of a group, cut into what it has of each part.
+//! Splits all bytes of a group by part.
 ghost use Rattle.std.specs.Prelude.{◌≡◌, ◌<◌, ◌≤◌, ◌++◌, ℕ, true, false, if◌then◌else◌, [], length, take, drop, map, All, IfOk, OnOk, slice_index_or};
 ghost use Rattle.wild_types.specs.declared.file.File.{File};
 ghost use Rattle.wild_types.specs.FileThunks.{thunks_of};
@@ -21,7 +21,7 @@ use wild_laid::sorted_input;
 use wild_types::{File, Group, InputSection, Layout, Merged, SortedSection, THUNK_SIZE, Thunk};
 use wild_words::Items;
 
-/// What a group gives to each part, one behind the other in these bytes.
+/// Splits the table bytes of a group, which are consecutive, by part.
 fn cut_tables(
     alloc: Global,
     layout: &Layout,
@@ -45,7 +45,7 @@ fn cut_tables(
     Ok(())
 }
 
-/// Adds the bytes of a section, the first of these, to those of its part, where it owns some, and tells what stands behind them.
+/// Appends the bytes of a section, the first of `bytes`, to its part if the section has some; returns the rest.
 fn cut_own<'b>(
     section: &InputSection,
     owns: bool,
@@ -65,7 +65,7 @@ fn cut_own<'b>(
     Ok(rest)
 }
 
-/// Adds the bytes of the sections of a file to those of their parts, and tells what stands behind them.
+/// Appends the bytes of the sections of a file to their parts; returns the rest.
 fn cut_sections<'b>(
     layout: &Layout,
     file: &File,
@@ -85,7 +85,7 @@ fn cut_sections<'b>(
     Ok(rest)
 }
 
-/// Adds the bytes of a section that is named among the sorted ones to those of its part, and tells what stands behind them.
+/// Appends the bytes of one sorted input section to its part; returns the rest.
 fn cut_sorted_section<'b>(
     layout: &Layout,
     entry: &SortedSection,
@@ -107,7 +107,7 @@ fn cut_sorted_section<'b>(
     }
 }
 
-/// Adds the bytes of the sorted sections to those of their parts, and tells what stands behind them.
+/// Appends the bytes of the sorted input sections to their parts; returns the rest.
 fn cut_sorted<'b>(
     layout: &Layout,
     bytes: &'b [u8],
@@ -126,7 +126,7 @@ fn cut_sorted<'b>(
     Ok(rest)
 }
 
-/// Adds bytes, of which there are some, to those of a part.
+/// Appends at least one byte to a part.
 #[tactic(auto, using(crate::proofs::FrontLemmas::front_part))]
 fn add_some(
     layout: &Layout,
@@ -142,7 +142,7 @@ fn add_some(
     Ok(())
 }
 
-/// The same, where there are some and the part is written.
+/// Appends bytes to a part, if there are some and the part is written.
 fn add_front(
     layout: &Layout,
     part: usize,
@@ -159,7 +159,7 @@ fn add_front(
     add_some(layout, part, own, parts)
 }
 
-/// Adds merged strings, the first of these bytes, to those of their part, and tells what stands behind them.
+/// Appends merged strings, the first of `bytes`, to their part; returns the rest.
 fn cut_merged<'b>(
     layout: &Layout,
     merged: &Merged,
@@ -177,7 +177,7 @@ fn cut_merged<'b>(
     Ok(rest)
 }
 
-/// Adds the strings that were merged to those of their parts, and tells what stands behind them.
+/// Appends all merged strings to their parts; returns the rest.
 fn cut_strings<'b>(
     layout: &Layout,
     bytes: &'b [u8],
@@ -196,7 +196,7 @@ fn cut_strings<'b>(
     Ok(rest)
 }
 
-/// Adds the output's identity, the first of these bytes, to those of its part, and tells what stands behind it.
+/// Appends the output's identity, the first of `bytes`, to its part; returns the rest.
 fn cut_identity<'b>(
     layout: &Layout,
     bytes: &'b [u8],
@@ -213,7 +213,7 @@ fn cut_identity<'b>(
     Ok(rest)
 }
 
-/// Adds what stands once to the bytes of its parts: the strings that were merged, and the output's identity; tells what stands behind it.
+/// Appends merged strings and the output's identity, which are written once, to their parts; returns the rest.
 fn cut_once<'b>(
     layout: &Layout,
     bytes: &'b [u8],
@@ -230,7 +230,7 @@ fn cut_once<'b>(
     cut_identity(layout, rest, parts)
 }
 
-/// Adds what only the last file has to the bytes of its parts, and tells what stands behind it.
+/// Appends what only the last file writes to its parts; returns the rest.
 fn cut_last<'b>(
     layout: &Layout,
     file: &File,
@@ -249,7 +249,7 @@ fn cut_last<'b>(
     Ok(bytes)
 }
 
-/// Adds what only the first file has to the bytes of its parts, and tells what stands behind it.
+/// Appends what only the first file writes to its parts; returns the rest.
 fn cut_first<'b>(
     layout: &Layout,
     file: &File,
@@ -269,7 +269,7 @@ fn cut_first<'b>(
     Ok(bytes)
 }
 
-/// Adds what only the last or the first file has to the bytes of its parts, and tells what stands behind it.
+/// Appends what only the last or only the first file writes to its parts; returns the rest.
 fn cut_ends<'b>(
     layout: &Layout,
     file: &File,
@@ -286,7 +286,7 @@ fn cut_ends<'b>(
     cut_first(layout, file, rest, parts)
 }
 
-/// Adds a thunk, the first of these bytes, to those of the primary part, and tells what stands behind it.
+/// Appends a thunk, the first of `bytes`, to the primary part; returns the rest.
 fn cut_thunk<'b>(
     layout: &Layout,
     thunk: &Thunk,
@@ -304,7 +304,7 @@ fn cut_thunk<'b>(
     Ok(rest)
 }
 
-/// Adds the thunks of a file to those of the primary part, and tells what stands behind them.
+/// Appends the thunks of a file to the primary part; returns the rest.
 fn cut_all_thunks<'b>(
     layout: &Layout,
     file: &File,
@@ -324,7 +324,7 @@ fn cut_all_thunks<'b>(
     Ok(rest)
 }
 
-/// The same, unless nothing of its section is written.
+/// Appends the thunks of a file to the primary part, unless its section is omitted; returns the rest.
 fn cut_thunks<'b>(
     layout: &Layout,
     file: &File,
@@ -343,7 +343,7 @@ fn cut_thunks<'b>(
     cut_all_thunks(layout, file, bytes, parts)
 }
 
-/// Adds the bytes of the sections of a file and its thunks to those of their parts, and tells what stands behind them.
+/// Appends the sections of a file and its thunks to their parts; returns the rest.
 fn cut_file<'b>(
     layout: &Layout,
     file: &File,
@@ -361,7 +361,7 @@ fn cut_file<'b>(
     cut_thunks(layout, file, rest, parts)
 }
 
-/// Adds the bytes of a group's files to those of their parts.
+/// Appends the bytes of a group's files to their parts.
 #[tactic(auto, unfolding(crate::specs::Pieces::group_files, crate::specs::Pieces::group_owned))]
 fn cut_files(
     layout: &Layout,
@@ -381,7 +381,7 @@ fn cut_files(
     Ok(())
 }
 
-/// Adds the bytes of a group's files to what it gives to each part: then that is all that it has.
+/// Appends the bytes of a group's files to its contributions to the tables, part by part; the result is complete.
 fn fill_parts(
     layout: &Layout,
     group: &Group,
@@ -397,7 +397,7 @@ fn fill_parts(
     Ok(())
 }
 
-/// All bytes of a group, cut into what it has of each part.
+/// Splits all bytes of a group by part.
 pub(crate) fn cut_group(
     alloc: Global,
     layout: &Layout,

@@ -1,4 +1,4 @@
-//! Whether nothing is to be filled: input sections stand one behind the other in their parts, and parts do so in their sections, up to
+//! Fast test whether an image needs no padding: input sections are consecutive in their parts, and parts in their sections, up to
 //! the last byte.
 ghost use Rattle.std.specs.Prelude.{◌≡◌, ℕ, true, replicate, IfOk};
 ghost use Rattle.std.specs.List.{list_any};
@@ -9,7 +9,8 @@ ghost use Rattle.wild_image.specs.Full.{Covers, Joins, PartFronts, SectionFronts
 use std::alloc::{AllocError, Global};
 use wild_types::{InputSection, Layout, Part, Role, SectionIndex, has_role};
 
-/// How many bytes are covered from a start on, where `front` are, and `size` at that distance from the start.
+/// The length of a covered front: the first `front` bytes are covered, and `size` bytes at `distance` from the start. A range that
+/// begins elsewhere than directly after the front is not counted.
 #[tactic(auto, using(crate::proofs::FullLemmas::joins, crate::proofs::FullLemmas::joins_nothing))]
 fn join(front: u64, distance: u64, size: u64) -> u64
     ensures { Joins front distance size result }
@@ -21,7 +22,7 @@ fn join(front: u64, distance: u64, size: u64) -> u64
     }
 }
 
-/// Adds an input section to what its part has in front, where it begins behind that.
+/// Extends the covered front of an input section's part, if the section begins directly after it.
 fn add_section(layout: &Layout, section: &InputSection, fronts: &mut [u64])
     requires owned { (k : ℕ) → section_owns layout.now k section.now ≡ true → is_owned layout.now k ≡ true }
     requires fronts { PartFronts layout.now fronts.old }
@@ -36,7 +37,7 @@ fn add_section(layout: &Layout, section: &InputSection, fronts: &mut [u64])
     }
 }
 
-/// How many bytes of each part, from its front on, input sections own.
+/// For each part, the number of bytes from its start that input sections cover.
 #[tactic(auto, using(crate::proofs::FullLemmas::fronts_none))]
 fn fronts_of_parts(alloc: Global, layout: &Layout) -> Result<Vec<u64>, AllocError>
     ensures { IfOk result (λ v. PartFronts layout.now v.items) }
@@ -52,7 +53,8 @@ fn fronts_of_parts(alloc: Global, layout: &Layout) -> Result<Vec<u64>, AllocErro
     Ok(fronts)
 }
 
-/// Whether all bytes of a part have owners: its own, or input sections own so many in front.
+/// Whether a part is covered completely: it is a table with bytes in the file, or input sections cover its first `front` bytes,
+/// which are all of it.
 fn is_whole(layout: &Layout, part: &Part, front: u64) -> bool
     requires owned { (k : ℕ) → part_owns layout.now k part.now ≡ true → is_owned layout.now k ≡ true }
     requires front { Covers (is_owned layout.now) part.now.offset front }
@@ -61,7 +63,7 @@ fn is_whole(layout: &Layout, part: &Part, front: u64) -> bool
     part.size <= front || !has_role(Role::Raw, part) && layout.takes_file_bytes(part.section)
 }
 
-/// Adds a range that has owners to what a section has in front, where it begins behind that.
+/// Extends the covered front of an output section by a covered range, if the range begins directly after it.
 fn add_range(layout: &Layout, index: SectionIndex, offset: u64, size: u64, fronts: &mut [u64])
     requires range { Covers (is_owned layout.now) offset size }
     requires fronts { SectionFronts layout.now fronts.old }
@@ -75,7 +77,7 @@ fn add_range(layout: &Layout, index: SectionIndex, offset: u64, size: u64, front
     }
 }
 
-/// Adds a part to what its section has in front, where it is whole and begins behind that.
+/// Extends the covered front of a part's section, if the part is covered completely and begins directly after it.
 fn add_part(layout: &Layout, part: &Part, front: u64, fronts: &mut [u64])
     requires owned { (k : ℕ) → part_owns layout.now k part.now ≡ true → is_owned layout.now k ≡ true }
     requires front { Covers (is_owned layout.now) part.now.offset front }
@@ -87,7 +89,7 @@ fn add_part(layout: &Layout, part: &Part, front: u64, fronts: &mut [u64])
     }
 }
 
-/// How many bytes of each section, from its front on, have owners, since whole parts stand there.
+/// For each section, the number of bytes from its start that completely covered parts cover.
 #[tactic(auto, using(crate::proofs::FullLemmas::fronts_none))]
 fn fronts_of_sections(alloc: Global, layout: &Layout, parts: &[u64]) -> Result<Vec<u64>, AllocError>
     requires { PartFronts layout.now parts.now }
@@ -100,7 +102,7 @@ fn fronts_of_sections(alloc: Global, layout: &Layout, parts: &[u64]) -> Result<V
     Ok(fronts)
 }
 
-/// Whether all bytes of each section have owners.
+/// Whether each section is covered completely.
 fn are_whole(layout: &Layout, fronts: &[u64]) -> bool
     requires { SectionFronts layout.now fronts.now }
     ensures { result ≡ true → (k : ℕ) → list_any (has_offset layout.now k) layout.now.sections ≡ true → is_owned layout.now k ≡ true }
@@ -113,7 +115,7 @@ fn are_whole(layout: &Layout, fronts: &[u64]) -> bool
     true
 }
 
-/// Whether nothing is to be filled, as far as that is seen at once. Where a section has a gap, the answer is no.
+/// Fast test whether there is no padding to fill. It may say no without need, but says no whenever a section has a gap.
 #[tactic(auto, using(crate::proofs::FullLemmas::no_gaps))]
 pub(crate) fn has_no_gaps(alloc: Global, layout: &Layout) -> Result<bool, AllocError>
     ensures { IfOk result (λ b. b ≡ true → padding layout.now ≡ replicate (image_size layout.now) 0) }

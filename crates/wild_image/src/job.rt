@@ -1,4 +1,4 @@
-//! The work of an image, cut into batches of groups.
+//! The work of writing an image, divided into batches of groups.
 ghost use Rattle.std.specs.Prelude.{◌≡◌, ◌<◌, ◌^◌, length, Ok, []};
 ghost use Rattle.wild_clauses.specs.WellFormed.{first_clause};
 ghost use Rattle.wild_layout.specs.Faults.{flat_map_from, part_errors};
@@ -20,7 +20,7 @@ use wild_relax::Arch;
 use wild_sections::Resolved;
 use wild_types::Error;
 
-/// What came of a batch: all its bytes, or its first fault; and what it counted.
+/// The result of a batch: all its bytes or its first fault, and its relocation counts.
 #[derive(Drop)]
 pub(crate) struct Outcome {
     pub(crate) bytes: Result<GroupBytes, Error>,
@@ -35,7 +35,7 @@ impl Counted for Outcome {
     }
 }
 
-/// The batches of a layout whose clauses hold and whose shares are what is needed.
+/// The batches of a layout whose clauses hold and whose shares are correct.
 #[derive(Drop)]
 pub(crate) struct GroupJob<'a, A: Arch, R> {
     pub(crate) by: Workers<'a, R>,

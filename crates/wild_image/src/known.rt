@@ -1,4 +1,4 @@
-//! What is asked once of a layout, and used for each of its groups.
+//! Properties of a layout that are computed once and used for each group.
 ghost use Rattle.std.specs.Prelude.{◌≡◌, true};
 ghost use Rattle.wild_types.specs.declared.layout.Layout.{Layout};
 ghost use Rattle.wild_laid.specs.Laid.{frames_at};
@@ -9,8 +9,9 @@ ghost use Rattle.wild_image.specs.Steps.{OthersHaveNone};
 use wild_needs::is_bare;
 use wild_types::{Group, Layout, Role, part_with};
 
-/// Whether the output is bare, and so all groups but the first and the last; whether its groups but the first are given nothing of parts
-/// that are not raw; and where its part of frames begins, 0 where it has none.
+/// What is known of a layout. `bare`: no .dynamic, no .symtab, and no symbol has a GOT or PLT entry or is imported.
+/// `inside`: `bare`, and groups other than the first and last need no tables. `none`: groups after the first have empty
+/// shares of all parts that are not raw. `frames`: the address of .eh_frame, 0 without one.
 #[derive(Clone, Copy)]
 pub(crate) struct Known {
     pub(crate) bare: bool,
@@ -20,8 +21,7 @@ pub(crate) struct Known {
 }
 
 impl Known {
-    /// What is known of an output that is bare inside where `inside` says so, and whose groups but the first are given nothing of parts
-    /// that are not raw where `none` does.
+    /// Computes these properties. `inside` and `none` come from the caller; each may be false although the property holds.
     #[tactic(auto, using(wild_needs::proofs::BareLemmas::bare_by_inside))]
     pub(crate) fn of(layout: &Layout, inside: bool, none: bool) -> Self
         requires inside { inside ≡ true → is_bare_inside layout.now ≡ true }
@@ -41,7 +41,7 @@ impl Known {
         }
     }
 
-    /// Where the frames of a group begin, modulo 2^64.
+    /// The address at which the frames of a group begin, modulo 2^64.
     pub(crate) fn frames_at(self, group: &Group) -> u64
         ensures { (l : Layout) → IsKnown l self → result ≡ frames_at l group.now }
     {

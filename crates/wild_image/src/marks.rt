@@ -1,4 +1,4 @@
-//! Which bytes of an image have an owner.
+//! Marks the bytes of an image that a part, an input section, a thunk or a merged string owns. The others are padding.
 ghost use Rattle.std.specs.Prelude.{◌≡◌, ◌≤◌, not, ◌&&◌, ◌-◌, ◌^◌, ℕ, List, min, nat_le, nat_lt, length, slice_get};
 ghost use Rattle.std.specs.List.{flat_map, list_any};
 ghost use Rattle.wild_types.specs.FileThunks.{thunks_of};
@@ -11,7 +11,7 @@ use wild_types::{
 };
 use wild_words::Bytes;
 
-/// Marks the bytes of a range.
+/// Marks the bytes from `at` to `end`.
 fn mark_range(at: usize, end: usize, taken: &mut [bool])
     requires { (at ≤ end) × (end ≤ length taken.old) }
     ensures { Marks (λ (k : ℕ). nat_le at k && nat_lt k end) taken.old taken.new }
@@ -21,7 +21,7 @@ fn mark_range(at: usize, end: usize, taken: &mut [bool])
     }
 }
 
-/// Marks so many bytes from an offset on, as far as there are any.
+/// Marks `size` bytes from file offset `at`, as far as the image has them.
 fn mark(at: u128, size: u64, taken: &mut [bool])
     ensures { Marks (is_within at size) taken.old taken.new }
 {
@@ -41,7 +41,7 @@ fn offset_in(parts: &[Part], part: usize, address: u64) -> u128
     }
 }
 
-/// Marks what a part owns itself.
+/// Marks the bytes that a part owns itself.
 fn mark_part(layout: &Layout, part: &Part, taken: &mut [bool])
     ensures { Marks (λ (k : ℕ). part_owns layout.now k part.now) taken.old taken.new }
 {
@@ -50,7 +50,7 @@ fn mark_part(layout: &Layout, part: &Part, taken: &mut [bool])
     }
 }
 
-/// Marks what an input section owns.
+/// Marks the bytes of an input section.
 fn mark_section(layout: &Layout, section: &InputSection, taken: &mut [bool])
     ensures { Marks (λ (k : ℕ). section_owns layout.now k section.now) taken.old taken.new }
 {
@@ -60,7 +60,7 @@ fn mark_section(layout: &Layout, section: &InputSection, taken: &mut [bool])
     }
 }
 
-/// Marks what a thunk owns: nothing where nothing of its section is written.
+/// Marks the bytes of a thunk, unless its section is omitted.
 fn mark_thunk(layout: &Layout, thunk: &Thunk, taken: &mut [bool])
     ensures { Marks (λ (k : ℕ). thunk_owns layout.now k thunk.now) taken.old taken.new }
 {
@@ -70,7 +70,7 @@ fn mark_thunk(layout: &Layout, thunk: &Thunk, taken: &mut [bool])
     }
 }
 
-/// Marks what a file's input sections own.
+/// Marks the bytes of a file's input sections.
 fn mark_sections(layout: &Layout, file: &File, taken: &mut [bool])
     ensures { Marks (λ (k : ℕ). list_any (section_owns layout.now k) file.now.sections) taken.old taken.new }
 {
@@ -79,7 +79,7 @@ fn mark_sections(layout: &Layout, file: &File, taken: &mut [bool])
     }
 }
 
-/// Marks what a file's input sections and the thunks that it writes own.
+/// Marks the bytes of a file's input sections and of its thunks.
 fn mark_file(layout: &Layout, file: &File, taken: &mut [bool])
     ensures { Marks (λ (k : ℕ). file_owns layout.now k file.now) taken.old taken.new }
 {
@@ -89,7 +89,7 @@ fn mark_file(layout: &Layout, file: &File, taken: &mut [bool])
     }
 }
 
-/// Marks what a group's files own.
+/// Marks the bytes of a group's files.
 fn mark_group(layout: &Layout, group: &Group, taken: &mut [bool])
     ensures { Marks (λ (k : ℕ). group_owns layout.now k group.now) taken.old taken.new }
 {
@@ -98,7 +98,7 @@ fn mark_group(layout: &Layout, group: &Group, taken: &mut [bool])
     }
 }
 
-/// Marks what the parts own themselves.
+/// Marks the bytes that the parts own themselves.
 fn mark_parts(layout: &Layout, taken: &mut [bool])
     ensures { Marks (λ (k : ℕ). list_any (part_owns layout.now k) layout.now.parts) taken.old taken.new }
 {
@@ -117,7 +117,7 @@ fn offset_of_part(parts: &[Part], part: usize) -> u64
     }
 }
 
-/// How many bytes strings have, at most 2^64 - 1.
+/// The total length of strings in bytes, at most 2^64 - 1.
 pub(crate) fn strings_size(strings: &[Bytes]) -> u64
     ensures { result ≡ min (2 ^ 64 - 1) (length (flat_map (λ (s : List ℕ). s) strings.now)) }
 {
@@ -128,7 +128,7 @@ pub(crate) fn strings_size(strings: &[Bytes]) -> u64
     size
 }
 
-/// Marks what stands at the front of a part, unless nothing of its section is written.
+/// Marks `size` bytes at the front of a part, unless its section is omitted.
 fn mark_front(layout: &Layout, part: usize, size: u64, taken: &mut [bool])
     ensures { Marks (λ (k : ℕ). not (is_hollow_part layout.now part) && is_within (offset_of_part (slice_get layout.now.parts part)) size k) taken.old taken.new }
 {
@@ -138,7 +138,7 @@ fn mark_front(layout: &Layout, part: usize, size: u64, taken: &mut [bool])
     }
 }
 
-/// Marks what merged strings own.
+/// Marks the bytes of merged strings.
 #[tactic(auto, using(crate::proofs::PaddingLemmas::marks_capped))]
 fn mark_merged(layout: &Layout, merged: &Merged, taken: &mut [bool])
     ensures { Marks (λ (k : ℕ). front_owns layout.now k merged.now.part (merged_bytes merged.now)) taken.old taken.new }
@@ -148,7 +148,7 @@ fn mark_merged(layout: &Layout, merged: &Merged, taken: &mut [bool])
     mark_front(layout, merged.part, size, taken);
 }
 
-/// Marks what stands once: the strings that were merged, and the output's identity.
+/// Marks what is written once: merged strings and the output's identity.
 #[tactic(auto, using(crate::proofs::PaddingLemmas::marks_both))]
 fn mark_once(layout: &Layout, taken: &mut [bool])
     ensures { Marks (once_owns layout.now) taken.old taken.new }
@@ -160,7 +160,7 @@ fn mark_once(layout: &Layout, taken: &mut [bool])
     mark_front(layout, identity.part, identity.bytes.len() as u64, taken);
 }
 
-/// Marks what the files of all groups own.
+/// Marks the bytes of the files of all groups.
 fn mark_groups(layout: &Layout, taken: &mut [bool])
     ensures { Marks (λ (k : ℕ). list_any (group_owns layout.now k) layout.now.groups) taken.old taken.new }
 {

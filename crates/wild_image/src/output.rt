@@ -1,4 +1,4 @@
-//! The image of a layout.
+//! Writes the image of a layout.
 ghost use Rattle.std.specs.Prelude.{◌≡◌, ◌<◌, ◌≤◌, ◌^◌, ℕ, [], length, Ok, Some, slice_get, replicate, OnOk, IfOk};
 ghost use Rattle.wild_types.specs.Faults.{Answers};
 ghost use Rattle.wild_clauses.specs.Places.{relocation_count};
@@ -32,7 +32,7 @@ use wild_sections::Resolved;
 use wild_types::{At, EntryWarning, Error, Fault, Layout, Machine};
 use wild_words::{Bytes, Items};
 
-/// An image, what is said beside it, and how many relocations of each section were read for it.
+/// An image, its warnings, and the number of relocations read for each section.
 #[derive(Drop)]
 pub struct SizedOutput {
     pub out: Bytes,
@@ -40,7 +40,7 @@ pub struct SizedOutput {
     pub counts: Items<u64>,
 }
 
-/// Refuses a layout of which a clause fails.
+/// Refuses a layout if one of its clauses fails.
 fn check_clauses(layout: &Layout, seen: Seen) -> Result<(), Error>
     requires { IsSeen layout.now seen }
     ensures { Answers result (clause_errors (first_clause layout.now)) }
@@ -57,7 +57,7 @@ fn check_clauses(layout: &Layout, seen: Seen) -> Result<(), Error>
     }
 }
 
-/// What is said beside the image.
+/// The warnings that accompany the image.
 fn warnings_of(alloc: Global, layout: &Layout) -> Result<Items<EntryWarning>, AllocError>
     ensures { IfOk result (λ w. w ≡ warnings layout.now) }
 {
@@ -67,7 +67,7 @@ fn warnings_of(alloc: Global, layout: &Layout) -> Result<Items<EntryWarning>, Al
     }
 }
 
-/// Writes all bytes of an image, or answers the first fault of the groups.
+/// Writes all bytes of an image, or returns the first fault of the groups.
 fn write_bytes<A: Arch>(
     layout: &Layout,
     batches: &[Batch],
@@ -89,8 +89,8 @@ fn write_bytes<A: Arch>(
     append_all(layout, batches, outcomes, starts, out)
 }
 
-/// The image of a layout whose clauses hold and whose shares are what is needed, or its first fault. It is told what is known, and whether
-/// the files of symbols are looked for.
+/// Writes the image of a layout whose clauses hold and whose shares are correct, or returns its first fault. `known`
+/// has been computed by the caller; `asks` is set if relocations depend on the file that defines a symbol.
 fn write_laid_out<A: ShardedArch + Sync, G: Gate + Sync, R: Threads + Sync>(
     rt: &R,
     alloc: Global,
@@ -146,8 +146,8 @@ where
     })
 }
 
-/// The image of a layout, or its first fault, by so many workers, each of which enters the gate before each batch of groups
-/// that it works on.
+/// Writes the image of a layout, or returns its first fault. `workers` threads share the work; each enters the gate before each batch
+/// of groups.
 pub fn write_gated<A: ShardedArch + Sync>(
     rt: &(impl Threads + Sync),
     alloc: Global,
@@ -173,7 +173,7 @@ where
     write_laid_out::<A, _, _>(rt, alloc, layout, known, asks, workers, gate)
 }
 
-/// The image of a layout, or its first fault, by so many workers.
+/// Writes the image of a layout, or returns its first fault. `workers` threads share the work.
 pub fn write<A: ShardedArch + Sync>(
     rt: &(impl Threads + Sync),
     alloc: Global,
@@ -192,7 +192,7 @@ where
     write_gated::<A>(rt, alloc, layout, workers, &OpenGate)
 }
 
-/// The image of a layout for the machine that it names, or its first fault, by so many workers.
+/// Writes the image of a layout for the machine that it names, or returns its first fault. `workers` threads share the work.
 pub fn write_layout(
     rt: &(impl Threads + Sync),
     alloc: Global,

@@ -1,4 +1,4 @@
-//! What a group has of each part.
+//! The bytes of one group, by part.
 ghost use Rattle.std.specs.Prelude.{◌≡◌, [], ℕ, ◌<◌, ◌+◌, ◌^◌, length, IfOk, All, Ok};
 ghost use Rattle.wild_types.specs.Faults.{Answers};
 ghost use Rattle.wild_types.specs.Lookups.{section_of};
@@ -31,15 +31,15 @@ use wild_sections::Resolved;
 use wild_types::{Error, Group, Layout};
 use wild_words::Items;
 
-/// What a group has of each part of an image, one list of bytes a part: what it gives to the tables, and behind
-/// that the bytes of its input sections and thunks; and pairs of a section and a number of relocations that were read.
+/// The bytes of a group, one list for each part of the image: its contribution to the tables, then its input sections and thunks.
+/// And pairs (section, count) of the relocations read.
 #[derive(Drop)]
 pub struct GroupPiece {
     pub parts: Items<PartBytes>,
     pub counts: Items<(u32, u64)>,
 }
 
-/// What a group has and counts, or its first fault.
+/// The bytes and counts of a group, or its first fault.
 fn piece_of<A: ShardedArch, R: Threads + Sync>(
     by: &Workers<R>,
     resolved: &Resolved<A>,
@@ -78,7 +78,7 @@ fn has_first(group: &Group) -> bool
         .any(|file| file.role.is_prelude())
 }
 
-/// The search table of frames, where the group has the first file, which writes it.
+/// The `.eh_frame_hdr` search table, if the group has the first file, which writes it.
 #[tactic(auto, using(crate::proofs::StoodLemmas::table_of_all, crate::proofs::StoodLemmas::table_of_none))]
 fn table_for<A: Arch>(
     rt: &(impl Threads + Sync),
@@ -96,8 +96,8 @@ fn table_for<A: Arch>(
     Ok(table)
 }
 
-/// What the group with that number has and counts, or its first fault. `well_formed` tells whether the clauses
-/// hold, `check_shares` whether the shares are what is needed.
+/// The bytes and counts of the group with that number, or its first fault. `well_formed` checks that the clauses hold,
+/// `check_shares` that the shares are correct.
 pub fn write_group<A: ShardedArch>(
     rt: &(impl Threads + Sync),
     alloc: Global,

@@ -1,14 +1,14 @@
--- The rewrite of an instruction that stands at a relocation.
---   info_of l r            what the rows of rewrites ask of a relocation by itself; `nameless` but for its symbol's name
---   asked_of ..            what they ask of one of some relocations, which names symbol i
---   question_of ..         of a relocation of x86-64, with the one behind it
---   question_around ..     of one of AArch64, with those of its sequence
---   choice_of l s r next   the row of x86-64 that stands, or why it is refused
---   choice_around l s i r  that of AArch64, of relocation i
---   choice l s i           by the machine
---   is_partner l s i       relocation i is the call of the sequence before it, which is rewritten as a whole
---   may_take_next n        rows of that relocation type write a whole sequence
---   may_be_partner rs i    the relocation before is of such a type
+-- The rewrite (relaxation) that applies to a relocation's instruction.
+--   info_of l r            what the rows of rewrites check of a relocation; `nameless` without its symbol's name
+--   asked_of ..            what they check of one of some relocations, whose symbol is i
+--   question_of ..         the same for x86-64, with the next relocation
+--   question_around ..     the same for AArch64, with the relocations of its sequence
+--   choice_of l s r next   the row of x86-64 that applies, or why it is refused
+--   choice_around l s i r  the same for AArch64, for relocation i
+--   choice l s i           the same by the machine
+--   is_partner l s i       relocation i is the call of the previous relocation's sequence, which is rewritten as a whole
+--   may_take_next n        rows of that relocation type rewrite a whole sequence
+--   may_be_partner rs i    the previous relocation is of such a type
 use Rattle.std.specs.Prelude.{ℕ, zero, suc, ◌+◌, ◌-◌, ◌==◌, Bool, true, false, ◌||◌, if◌then◌else◌, List, [], ◌∷◌, ◌++◌, Option, Some, None, option_to_list, option_map, unwrap_or, Result, Ok, Err, slice_get}
 use Rattle.wild_records.specs.Abi.Relocation.{r_x86_64_pc32, r_x86_64_tlsgd, r_x86_64_tlsld, r_x86_64_gotpc32_tlsdesc, r_x86_64_code_4_gotpc32_tlsdesc, r_x86_64_tlsdesc_call}
 use Rattle.wild_types.specs.declared.kind.Machine.{Machine}
@@ -44,15 +44,15 @@ abbrev pub is_getter : Layout → Option ℕ → Bool
 is_getter l None = false
 is_getter l (Some i) = unwrap_or (option_map (λ (s : Symbol). same_names s.name getter_name) (slice_get l.symbols i)) false
 
--- what the rows ask of a relocation by itself
+-- what the rows check of a relocation
 abbrev pub info_of : Layout → InputRelocation → RelocationInfo
 info_of l r = record { number = r.number; offset = r.offset; symbol = r.symbol; addend = r.addend; names_tls_get_addr = is_getter l r.symbol }
 
 abbrev pub nameless : InputRelocation → RelocationInfo
 nameless r = record { number = r.number; offset = r.offset; symbol = r.symbol; addend = r.addend; names_tls_get_addr = false }
 
--- what they ask of one of these, which names symbol i: the flags are those of its definition, and the value is the address
--- that the layout has
+-- what they check of one of these relocations, whose symbol is i: the flags are those of its definition, and the value is its
+-- address in the layout
 abbrev pub asked_of : Layout → Item → ℕ → List RelocationInfo → ℕ → Question
 asked_of l s i infos at = record {
   relocations = infos;
@@ -68,7 +68,7 @@ asked_of l s i infos at = record {
 
 -- ---- x86-64
 
--- a relocation, if there is one, and the one behind it
+-- a relocation, if there is one, and the next one
 abbrev pub infos_of : Layout → Option InputRelocation → Option InputRelocation → List RelocationInfo
 infos_of l r next = option_to_list (option_map (info_of l) r) ++ option_to_list (option_map (info_of l) next)
 
@@ -79,17 +79,17 @@ question_of l s r i next = asked_of l s i (infos_of l (Some r) next) 0
 abbrev pub is_thread_type : ℕ → Bool
 is_thread_type n = n == r_x86_64_tlsgd || (n == r_x86_64_tlsld || (n == r_x86_64_gotpc32_tlsdesc || (n == r_x86_64_code_4_gotpc32_tlsdesc || n == r_x86_64_tlsdesc_call)))
 
--- no row would find a merged string by another addend, and none is thread-local storage
+-- for a merged string no row applies, as the row's addend would find another string; thread-local types are refused
 abbrev pub choice_merged : InputRelocation → Result (Option Row) UnknownSequence
 choice_merged r = if is_thread_type r.number then Err (record { number = r.number; written = info_by written.Nothing }) else Ok None
 
--- by the machine
+-- the same by the machine
 abbrev pub merged_on : Machine → InputRelocation → Result (Option Row) UnknownSequence
 merged_on machine.X86_64 r = choice_merged r
 merged_on machine.AArch64 r = Ok None
 
--- the row that stands, or why it is refused. S of an IFUNC is its stub in any case, so the row that says so for R_X86_64_PC32 has
--- nothing to do here
+-- the row that applies, or why it is refused. S of an IFUNC is always its stub, so the row for this case of R_X86_64_PC32 is not
+-- needed here
 unfoldable pub choice_by : Layout → Item → InputRelocation → Option InputRelocation → Option ℕ → Result (Option Row) UnknownSequence
 choice_by l s r next None = Ok None
 choice_by l s r next (Some i) = if r.number == r_x86_64_pc32 then Ok None else if names_merged l (Some i) then choice_merged r else chosen_x86_64 (question_of l s r i next)
@@ -99,15 +99,15 @@ choice_of l s r next = choice_by l s r next r.symbol
 
 -- ---- AArch64
 
--- relocation i; without one, a relocation that does nothing
+-- relocation i; if there is none, a relocation that does nothing
 abbrev pub info_at : List InputRelocation → ℕ → RelocationInfo
 info_at rs i = unwrap_or (option_map nameless (slice_get rs i)) no_relocation
 
--- those from relocation i on that a sequence may have: the same for each relocation of it
+-- the relocations from i on that a sequence may have; the same for each relocation of the sequence
 abbrev pub infos_from : List InputRelocation → ℕ → List RelocationInfo
 infos_from rs i = info_at rs i ∷ info_at rs (i + 1) ∷ info_at rs (i + 2) ∷ info_at rs (i + 3) ∷ []
 
--- the relocation with which a sequence begins that relocation i is of, by its type
+-- the index of the first relocation of the sequence that relocation i belongs to, by its type
 abbrev pub first_of : InputRelocation → ℕ → ℕ
 first_of r i = i - words_before r.number
 
@@ -131,30 +131,30 @@ abbrev pub choice_at : Layout → Item → ℕ → Option InputRelocation → Re
 choice_at l s i None = Ok None
 choice_at l s i (Some r) = choice_on l.machine l s i r
 
--- that of relocation i
+-- the row for relocation i
 abbrev pub choice : Layout → Item → ℕ → Result (Option Row) UnknownSequence
 choice l s i = choice_at l s i (slice_get s.relocations i)
 
 -- ---- sequences
 
--- the row writes a whole sequence
+-- the row rewrites a whole sequence
 abbrev pub takes_next : Result (Option Row) UnknownSequence → Bool
 takes_next (Ok (Some row)) = is_skip (rewrite_of row).next
 takes_next other = false
 
--- the relocation before it takes it along
+-- the previous relocation's row includes it
 abbrev pub is_partner : Layout → Item → ℕ → Bool
 is_partner l s zero = false
 is_partner l s (suc i) = takes_next (choice l s i)
 
--- rows of that relocation type write a whole sequence; on AArch64 each word has its own relocation
+-- rows of that relocation type rewrite a whole sequence; on AArch64 each word has its own relocation
 abbrev pub may_take_next : ℕ → Bool
 may_take_next n = n == r_x86_64_tlsgd || n == r_x86_64_tlsld
 
 abbrev pub takes_along : Option InputRelocation → Bool
 takes_along r = unwrap_or (option_map (λ (x : InputRelocation). may_take_next x.number) r) false
 
--- the relocation before is of such a type
+-- the previous relocation is of such a type
 abbrev pub may_be_partner : List InputRelocation → ℕ → Bool
 may_be_partner rs zero = false
 may_be_partner rs (suc i) = takes_along (slice_get rs i)

@@ -1,8 +1,8 @@
--- What a group gives to the parts.
---   whole_bytes l r   what stands once in an image, by role; nothing for the other roles
---   own_bytes l r f   what a file gives to a part that a loader reads
---   content l r g     the bytes that a group gives to a part of that role: the headers and the names are the
---                     prelude's; the input sections of a raw part stand by themselves
+-- What a group contributes to the parts.
+--   whole_bytes l r   a table that the image has once, by role; empty for the other roles
+--   own_bytes l r f   what a file contributes to a part that a loader reads
+--   content l r g     the bytes that a group contributes to a part of that role: the first file's group has the headers and
+--                     the names; the input sections of a raw part are not among them
 use Rattle.std.specs.Prelude.{ℕ, ◌-◌, ◌*◌, Bool, true, false, ◌&&◌, List, [], ◌∷◌, ◌++◌, length, map, if◌then◌else◌, Option, Some, None, slice_get}
 use Rattle.std.specs.List.{flat_map, list_any}
 use Rattle.wild_types.specs.declared.part.Role.{Role}
@@ -44,7 +44,7 @@ use Rattle.wild_layout.specs.SearchTable.{search_table}
 use Rattle.wild_layout.specs.SlotBytes.{slot_bytes, header_bytes, block_bytes}
 use Rattle.wild_headers.specs.Headers.{file_header_bytes, program_header_bytes, section_header_bytes, names_of}
 
--- what stands once in an image, by role; nothing for the other roles
+-- a table that the image has once, by role; empty for the other roles
 abbrev pub whole_bytes : Layout → Role → List ℕ
 whole_bytes l role.FileHeader = file_header_bytes l
 whole_bytes l role.ProgramHeaders = program_header_bytes l
@@ -56,7 +56,7 @@ whole_bytes l other = []
 
 -- ---- what a loader reads
 
--- the room of the last file in the dynamic section: what is left of the last group's share behind the entries of its libraries
+-- the size of the last file's room in the dynamic section: the last group's share minus its DT_NEEDED entries
 abbrev pub room_behind : Layout → Option Group → ℕ
 room_behind l None = 0
 room_behind l (Some g) = share_of l (length l.groups - 1) role.Dynamic - dynamic_entry_size * length (needed_entries l g)
@@ -73,15 +73,15 @@ abbrev pub gnu_bytes : Layout → Option GnuHash → List ℕ
 gnu_bytes l None = []
 gnu_bytes l (Some h) = gnu_table (gnu_header h) (map gnu_hash_of l.dynsyms)
 
--- the last file has them, where the output has dynamic symbols
+-- the last file has them, if the output has dynamic symbols
 abbrev pub of_last : Layout → File → List ℕ → List ℕ
 of_last l f bytes = if needs_dynsym l.kind && is_epilogue f.role then bytes else []
 
--- the longer section indexes of the local symbols, or of the others, where a part has them
+-- the extended section indexes of the local symbols, or of the others, if there is a part for them
 abbrev pub indexes_of : Layout → Role → Bool → File → List ℕ
 indexes_of l r local f = if has_long l r then index_bytes (long_indexes local (file_table l f)) else []
 
--- the frames of a section that stands as it does, with their fields
+-- the frames of a placed section, relocated
 unfoldable pub frame_bytes_of : Layout → File → InputSection → List ℕ
 frame_bytes_of l f s = if is_frame s.slot then item_bytes l (item_of l f s) else []
 
@@ -89,13 +89,13 @@ frame_bytes_of l f s = if is_frame s.slot then item_bytes l (item_of l f s) else
 abbrev pub end_of_frames : Layout → List ℕ
 end_of_frames l = if l.options.terminator then terminator else []
 
--- the frames of a file whose sections are as they stand, and behind those of the last file what ends them
+-- the frames of a file with placed sections; the terminator follows those of the last file
 unfoldable pub frames_bytes : Layout → File → List ℕ
 frames_bytes l f = flat_map (frame_bytes_of l f) f.sections ++ of_last_file f (end_of_frames l)
 
--- entries with addends and words of packed relocations; strings, each with a zero behind it; versions of symbols, and those that
--- the output defines; hash tables; longer section indexes (gABI, "Relocation", "Relative Relocation Table", "String Table", "Hash
--- Table", "Symbol Table"; LSB, "Symbol Versioning"); frames; notes
+-- by role: RELA entries and RELR words; strings, each with a zero; versions of symbols, and those that the output defines; hash tables;
+-- extended section indexes (gABI, "Relocation", "Relative Relocation Table", "String Table", "Hash Table", "Symbol Table"; LSB,
+-- "Symbol Versioning"); frames; notes
 abbrev pub own_bytes : Layout → Role → File → List ℕ
 own_bytes l role.RelaDynRelative f = rela_bytes (file_entries l f)
 own_bytes l role.RelaDynGeneral f = rela_bytes (file_generals l f)
@@ -113,21 +113,21 @@ own_bytes l role.BuildId f = of_last_file f (build_id_note l.build_id)
 own_bytes l role.Property f = of_last_file f (property_note l.properties)
 own_bytes l other f = []
 
--- the bytes that a file gives to a part of that role
+-- the bytes that a file contributes to a part of that role
 abbrev pub file_content : Layout → Role → File → List ℕ
 file_content l r f = (if is_prelude f.role then whole_bytes l r ++ header_bytes l r else []) ++ own_bytes l r f ++ slot_bytes l r f
 
--- the entries of a group in the dynamic section: those of its libraries, and all others where it has the last file (gABI,
+-- the entries of a group in the dynamic section: DT_NEEDED of its libraries, and all others for the group of the last file (gABI,
 -- "Dynamic Section")
 abbrev pub dynamic_of : Layout → Group → List ℕ
 dynamic_of l g = entries_bytes (needed_entries l g) ++ (if list_any (λ (f : File). is_epilogue f.role) g.files then dynamic_bytes l (dynamic_room l) else [])
 
--- the words of the sorted sections, which are the last file's, stand behind those of the block of its group
+-- the RELR words of the sorted input sections, which the last file writes, follow those of its group's GOT words
 abbrev pub last_words : Layout → Group → List ℕ
 last_words l g = if has_last g then word_bytes (sorted_words l) else []
 
--- what is told of the files of a group together: the words that pack its block of slots, its symbols of the two tables, the versions
--- that are needed of its libraries, and its entries of the dynamic section
+-- what depends on all files of the group together: the RELR words of its GOT words, its symbols in the two tables, the versions needed
+-- of its libraries, and its entries of the dynamic section
 abbrev pub group_bytes : Layout → Role → Group → List ℕ
 group_bytes l role.RelrDyn g = block_bytes l role.RelrDyn g ++ last_words l g
 group_bytes l role.Dynsym g = symbol_bytes (group_symbols l g)
@@ -137,7 +137,7 @@ group_bytes l role.SymtabLocal g = symbol_bytes (table_entries l true g)
 group_bytes l role.SymtabGlobal g = symbol_bytes (table_entries l false g)
 group_bytes l r g = block_bytes l r g
 
--- the bytes that a group gives to a part of that role: those of its files, with their sections as they stand, and then those of all
--- together
+-- the bytes that a group contributes to a part of that role: those of its files, with placed sections, and then those that depend on all
+-- its files together
 abbrev pub content : Layout → Role → Group → List ℕ
 content l r g = flat_map (file_content l r) (laid_files l g) ++ group_bytes l r g

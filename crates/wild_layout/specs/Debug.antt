@@ -1,9 +1,8 @@
--- What the relocations of sections that debuggers read write there (DWARF, "Relocation"): values as the output is linked, which no loader
--- changes.
---   tombstone l s            what stands for an address that the output has not (DWARF, "Tombstone Values")
---   debug_decided l s r      what is decided of a relocation of such a section
---   debug_rule l to s        how wide each field is, and what its bytes become; a fault has the place of the relocation's offset
---   debug_bytes l s          the bytes of the section, with its relocations one after another
+-- What the relocations of debug sections write (DWARF, "Relocation"): values as the output is linked, which no loader changes.
+--   tombstone l s            the value that replaces an address which the output does not have (DWARF, "Tombstone Values")
+--   debug_decided l s r      the decision on a relocation of such a section
+--   debug_rule l to s        the width of each field, and its bytes after the relocation; a fault has the place of the relocation's offset
+--   debug_bytes l s          the bytes of the section, with its relocations applied one after another
 use Rattle.std.specs.Prelude.{ℕ, ◌-◌, ◌^◌, ◌==◌, ◌||◌, Bool, true, false, if◌then◌else◌, List, [], bytes_eq, codes, length, Option, Some, None, Result, Ok, Err}
 use Rattle.std.specs.Int.{w64, cast_unsigned}
 use Rattle.wild_types.specs.declared.fault.At.{At}
@@ -33,32 +32,33 @@ use Rattle.wild_layout.specs.Decide.{field}
 abbrev pub is_list_section : List ℕ → Bool
 is_list_section name = bytes_eq name (codes ".debug_loc") || bytes_eq name (codes ".debug_ranges")
 
--- what stands for the address of what was left out
+-- the value that replaces the address of a discarded symbol
 abbrev pub tombstone : Layout → InputSection → ℕ
 tombstone l s =
     if l.options.new_tombstones
     then (if is_list_section s.name then 2 ^ 64 - 2 else 2 ^ 64 - 1)
     else (if is_list_section s.name then 1 else 0)
 
--- as much of it as the field has, or a value in the field's range
+-- the tombstone in the field: -1 and -2 are truncated to it, 0 and 1 are range-checked
 abbrev pub tombstone_field : Layout → InputSection → RelocationKindInfo → Result Decision Fault
 tombstone_field l s row = if l.options.new_tombstones then Ok (Field row.size (tombstone l s)) else field row (tombstone l s)
 
 -- ---- values
 
--- S + A, or what S lacks
+-- S + A, or the fault of S
 abbrev pub added_to : InputRelocation → RelocationKindInfo → Result ℕ Fault → Result Decision Fault
 added_to r row (Err f) = Err f
 added_to r row (Ok a) = field row (sum a r.addend)
 
--- of a symbol with an address: that, its offset in the thread-local data, or its offset from the thread pointer; no other value is told there
+-- of a symbol with an address: the address, its offset in the thread-local data, or its offset from the thread pointer; other kinds are
+-- refused
 abbrev pub valued : Layout → InputRelocation → ℕ → RelocationKindInfo → RelocationKind → Result Decision Fault
 valued l r i row kinds.Absolute = added_to r row (address_for l r)
 valued l r i row kinds.DtpOff = added_to r row (behind l.tls.start (raw_address l (Some i)))
 valued l r i row kinds.TpOff = added_to r row (pointer_offset l (Some i))
 valued l r i row other = Err (faults.UnsupportedRelocation r.number)
 
--- of one without: the merged string's, or the tombstone, whatever the kind
+-- of a symbol without an address: the merged string's address, or the tombstone, whatever the kind
 abbrev pub unvalued : Layout → InputSection → InputRelocation → ℕ → RelocationKindInfo → Result Decision Fault
 unvalued l s r i row = if names_merged l (Some i) then added_to r row (address_for l r) else tombstone_field l s row
 
@@ -66,7 +66,7 @@ abbrev pub by_address : Layout → InputSection → InputRelocation → ℕ → 
 by_address l s r i row None = unvalued l s r i row
 by_address l s r i row (Some v) = valued l r i row row.kind
 
--- without a symbol: A, where an address is asked for
+-- without a symbol: A, if the kind is an absolute address
 abbrev pub unnamed : InputRelocation → RelocationKindInfo → RelocationKind → Result Decision Fault
 unnamed r row kinds.Absolute = field row (cast_unsigned w64 r.addend)
 unnamed r row other = Err (faults.UnsupportedRelocation r.number)
@@ -83,18 +83,18 @@ abbrev pub debug_with : Layout → InputSection → InputRelocation → Option R
 debug_with l s r None = Err (faults.UnsupportedRelocation r.number)
 debug_with l s r (Some row) = debug_by l s r row row.kind
 
--- what is decided of a relocation of a section that debuggers read
+-- the decision on a relocation of a debug section
 unfoldable pub debug_decided : Layout → InputSection → InputRelocation → Result Decision Fault
 debug_decided l s r = debug_with l s r (row_of l.machine r.number)
 
--- of a relocation, where it is there
+-- the same, if there is a relocation
 abbrev pub debug_decided_at : Layout → InputSection → Option InputRelocation → Result Decision Fault
 debug_decided_at l s None = Ok Nothing
 debug_decided_at l s (Some r) = debug_decided l s r
 
 -- ---- bytes
 
--- the bytes of a field, as it was decided
+-- the bytes of a decided field
 abbrev pub debug_field : Decision → List ℕ → List ℕ
 debug_field (Field size v) old = size_written size v old
 debug_field other old = old
@@ -107,7 +107,7 @@ abbrev pub width_by : Option RelocationKindInfo → Option ℕ
 width_by None = None
 width_by (Some row) = Some (field_width row)
 
--- how wide fields are, and what their bytes become
+-- the width of each field, and its bytes after the relocation
 abbrev pub debug_rule : Layout → (ℕ → At) → InputSection → Rule
 debug_rule l to s = record { sized = λ r. width_by (row_of l.machine r.number); written = λ r old. debug_written to r (debug_decided l s r) old }
 

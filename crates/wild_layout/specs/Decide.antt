@@ -1,14 +1,14 @@
--- What is decided of each relocation of an item: what it writes, or why it is refused.
---   field row v            the value v in the row's field, where that takes it
---   reached l s r row v    the same, or for a branch that it is too far for, the distance to its thunk
---   moved_to l s r a       the address a plus A, which moves, at the place
---   left_to ..             the field is left to an entry with an index in the dynamic symbol table
---   sized_to ..            where that stores an own symbol's size, it has to fit the field
---   chosen_to ..           or to one with a resolver
---   decide_by l s r t      what is decided of a relocation with that treatment
---   decided l s r          what is decided of a relocation that keeps its instruction
---   rewritten_to l s r row what is decided of one whose instruction is rewritten by a row
---   decide l s i           what is decided of relocation i of item s
+-- The decision on each relocation of an item: what it writes, or why it is refused.
+--   field row v            the value v in the row's field, or the fault that it is out of range
+--   reached l s r row v    the same; for a branch whose target is out of range, the distance to its thunk
+--   moved_to l s r a       the address a plus A, which moves with the load bias
+--   left_to ..             the dynamic linker fills the field, by an entry with an index in the dynamic symbol table
+--   sized_to ..            the same for a symbol's size; if the symbol is not interposable, its size must fit the field
+--   chosen_to ..           the same for an IFUNC, by an entry with its resolver
+--   decide_by l s r t      the decision on a relocation with that treatment
+--   decided l s r          the decision on a relocation whose instruction is not rewritten
+--   rewritten_to l s r row the decision on a relocation whose instruction a row rewrites
+--   decide l s i           the decision on relocation i of item s
 use Rattle.std.specs.Prelude.{ℕ, ◌+◌, ◌-◌, ◌%◌, ◌^◌, ◌==◌, ◌||◌, ◌&&◌, not, Bool, true, false, Option, Some, None, Result, Ok, Err, if◌then◌else◌, slice_get}
 use Rattle.std.specs.Int.{w64, cast_unsigned}
 use Rattle.wild_types.specs.declared.fault.Fault.{Fault}
@@ -46,55 +46,55 @@ use Rattle.wild_layout.specs.Merged.{address_for}
 use Rattle.wild_layout.specs.Values.{value_in, term_at}
 use Rattle.wild_layout.specs.Thunks.{thunk_for}
 
--- a value in the row's field, where it is in range
+-- a value in the row's field, if it is in range
 abbrev pub field : RelocationKindInfo → ℕ → Result Decision Fault
 field row v = if allows row v then Ok (Field row.size v) else Err (faults.OutOfRange v)
 
--- the addend as an entry has it, modulo 2^64
+-- the addend as a RELA entry has it, modulo 2^64
 abbrev pub added : InputRelocation → ℕ
 added r = cast_unsigned w64 r.addend
 
--- the distance to a thunk, which has nothing to add to its target
+-- the distance to a thunk; an addend other than 0 is refused
 abbrev pub carried : InputRelocation → RelocationKindInfo → ℕ → Result Decision Fault
 carried r row distance = if contains row.range distance then (if added r == 0 then field row distance else Err (faults.ThunkAddend r.addend)) else Err (faults.ThunkOutOfRange distance)
 
--- from place p, instead of the value v
+-- the same for a thunk, from place p; without a thunk the fault has the value v
 abbrev pub carried_by : InputRelocation → RelocationKindInfo → ℕ → ℕ → Option Thunk → Result Decision Fault
 carried_by r row p v None = Err (faults.NoThunk v)
 carried_by r row p v (Some t) = carried r row (less t.address p)
 
--- a value; a branch out of whose range it is goes by the thunk of its symbol's definition in the item's block ("ELF for the Arm 64-bit
--- Architecture", "Call and Jump relocations")
+-- a value in the field; a branch whose target is out of range uses the thunk of its symbol's definition in the item's block ("ELF for
+-- the Arm 64-bit Architecture", "Call and Jump relocations")
 unfoldable pub reached : Layout → Item → InputRelocation → RelocationKindInfo → ℕ → Result Decision Fault
 reached l s r row v = if row.thunkable && not (contains row.range v) then carried_by r row (place_of s.address r) v (thunk_for l s.thunk_block r.symbol) else field row v
 
--- the row's value, for what A is added to
+-- the row's value, for the term that A is added to
 abbrev pub field_for : Layout → Item → InputRelocation → RelocationKindInfo → Result ℕ Fault → Result Decision Fault
 field_for l s r row (Err f) = Err f
 field_for l s r row (Ok a) = reached l s r row (value_in l row a r.addend (place_of s.address r))
 
--- an address that moves with the base: packed, or listed as an entry
+-- an address that moves with the load bias: packed, or with a RELATIVE entry
 abbrev pub moved_to : Layout → Item → InputRelocation → Result ℕ Fault → Result Decision Fault
 moved_to l s r (Err f) = Err f
 moved_to l s r (Ok a) = Ok (Moved (sum a r.addend) (packs l (place_of s.address r)))
 
--- the field is left to an entry of that number, which names symbol i by its index in the dynamic symbol table
+-- the dynamic linker fills the field, by an entry of that type that names symbol i by its index in the dynamic symbol table
 abbrev pub left_to : RelocationSize → ℕ → InputRelocation → ℕ → Option ℕ → Result Decision Fault
 left_to size number r i None = Err (faults.MissingResolution missing.DynamicSymbol i)
 left_to size number r i (Some index) = Ok (Left size number index (added r))
 
--- a size is left so; that of an own symbol is known, and with A it has to fit the row's field, also where an entry stores it
+-- the same for a size; if the symbol is not interposable, its size plus A must fit the row's field, although an entry stores it
 abbrev pub sized_to : Layout → InputRelocation → RelocationKindInfo → ℕ → Result Decision Fault → Result Decision Fault
 sized_to l r row i (Err f) = Err f
 sized_to l r row i (Ok d) = if is_replaceable l.kind (flags_at l i) || allows row (sum (symbol_size l i) r.addend) then Ok d else Err (faults.OutOfRange (sum (symbol_size l i) r.addend))
 
--- to one with the address of a resolver, as it was decided of the symbol, to whose answer nothing can be added (x86-64 psABI, "Relocation Types",
--- R_X86_64_IRELATIVE)
+-- the dynamic linker fills the field with the resolver's answer, by an entry with the resolver's address; an addend other than 0 is
+-- refused (x86-64 psABI, "Relocation Types", R_X86_64_IRELATIVE)
 abbrev pub chosen_to : Layout → InputRelocation → Result ℕ Fault → Result Decision Fault
 chosen_to l r (Err f) = Err f
 chosen_to l r (Ok resolver) = if added r == 0 then Ok (Left (ByteSize Eight) (type_of l.machine Irelative) 0 resolver) else Err (faults.IfuncAddend r.addend)
 
--- what is decided of a relocation, by its treatment
+-- the decision on a relocation, by its treatment
 abbrev pub decide_by : Layout → Item → InputRelocation → Treatment → Result Decision Fault
 decide_by l s r treatments.Nothing = Ok Nothing
 decide_by l s r (treatments.Value row) = field_for l s r row (term_at l r row (place_of s.address r))
@@ -105,28 +105,28 @@ decide_by l s r (treatments.Extent row i) = sized_to l r row i (left_to row.size
 decide_by l s r treatments.Recompile = Err (faults.RecompileWithPic r.number)
 decide_by l s r treatments.Unsupported = Err (faults.UnsupportedRelocation r.number)
 
--- the same, by the relocation, where it keeps its instruction
+-- the decision on a relocation whose instruction is not rewritten
 unfoldable pub decided : Layout → Item → InputRelocation → Result Decision Fault
 decided l s r = decide_by l s r (treatment l s.flags r)
 
--- ---- instructions that are rewritten
+-- ---- rewritten instructions
 
--- where the field of a rewritten instruction begins in its item, and its address
+-- the offset of a rewritten instruction's field in its item, and its address
 abbrev pub field_at : Row → InputRelocation → ℕ
 field_at row r = r.offset - (rewrite_of row).back + (rewrite_of row).field
 
 abbrev pub place_to : Item → InputRelocation → Row → ℕ
 place_to s r row = (s.address + field_at row r) % 2 ^ 64
 
--- the value that the row writes, for what A is added to, at the field's new place and with its new addend; a row that keeps the
--- bytes around the field has that alone
+-- the value that the row writes, for the term that A is added to, at the field's new place and with its new addend; a row that keeps
+-- the instruction's bytes writes the field only
 abbrev pub value_to : Layout → Item → InputRelocation → Row → Result ℕ Fault → Result Decision Fault
 value_to l s r row (Err f) = Err f
 value_to l s r row (Ok a) =
     let v = value_in l (info_written row) a ((rewrite_of row).addend r.addend) (place_to s r row) in
     if keeps_bytes row then reached l s r (info_written row) v else (if allows (info_written row) v then Ok (Rewritten row v) else Err (faults.OutOfRange v))
 
--- what is needed of the symbol to write so at place p; a kind without a value needs nothing
+-- the term of the written instruction's formula at place p; 0 if the formula has no value
 abbrev pub term_to : Layout → InputRelocation → RelocationKindInfo → ℕ → Result ℕ Fault
 term_to l r info p = if has_no_value info.kind then Ok 0 else term_at l r info p
   where
@@ -137,7 +137,7 @@ term_to l r info p = if has_no_value info.kind then Ok 0 else term_at l r info p
 abbrev pub rewritten_to : Layout → Item → InputRelocation → Row → Result Decision Fault
 rewritten_to l s r row = value_to l s r row (term_to l r (info_written row) (place_to s r row))
 
--- a row stands without its sequence: what it needs of the symbol is asked first
+-- the sequence is unknown; a fault of the symbol is reported first
 abbrev pub refused_with : Layout → Item → InputRelocation → UnknownSequence → Result Decision Fault
 refused_with l s r e = refused_by (term_to l r e.written (place_of s.address r))
   where
@@ -145,7 +145,7 @@ refused_with l s r e = refused_by (term_to l r e.written (place_of s.address r))
     refused_by (Err f) = Err f
     refused_by (Ok a) = Err (faults.UnknownSequence e.number)
 
--- what is decided of a relocation, by the row that stands
+-- the decision on a relocation, by the row that applies
 abbrev pub decide_with : Layout → Item → InputRelocation → Result (Option Row) UnknownSequence → Result Decision Fault
 decide_with l s r (Ok None) = decided l s r
 decide_with l s r (Ok (Some row)) = rewritten_to l s r row
@@ -157,6 +157,6 @@ abbrev pub decide_at : Layout → Item → ℕ → Option InputRelocation → Re
 decide_at l s i None = Ok Nothing
 decide_at l s i (Some r) = decide_with l s r (choice_on l.machine l s i r)
 
--- what is decided of relocation i of an item: the call of a sequence that is rewritten is written with it
+-- the decision on relocation i of an item; nothing for a sequence's call, which is written with the sequence
 unfoldable pub decide : Layout → Item → ℕ → Result Decision Fault
 decide l s i = if is_partner l s i then Ok Partner else decide_at l s i (slice_get s.relocations i)

@@ -1,9 +1,9 @@
--- The entries that name symbols and resolvers: those of fields that are left to a loader, and those of symbols that are copied
--- into the output (x86-64 psABI, "Relocation Types"; aaelf64, "Dynamic relocations").
---   left_entry l at flags r  the entry of a relocation, of bytes at an address, whose field is left to one; of what a symbol lacks it has 0
---   section_generals l s   those of an input section, in the order of the relocations
---   copy_entry l i         the entry by which a loader copies symbol i
---   file_generals l f      those of a file: copies, and then fields
+-- The entries of `.rela.dyn` that name symbols and resolvers: those of fields that the dynamic linker fills, and COPY relocations
+-- (x86-64 psABI, "Relocation Types"; aaelf64, "Dynamic relocations").
+--   left_entry l at flags r  the entry of a relocation, of bytes at an address, whose field the dynamic linker fills; 0 for what a symbol lacks
+--   section_generals l s   the entries of an input section, in the order of the relocations
+--   copy_entry l i         the COPY entry of symbol i
+--   file_generals l f      the entries of a file: copied symbols, and then fields
 use Rattle.std.specs.Prelude.{ℕ, ◌%◌, ◌^◌, List, ◌++◌, map, Some, unwrap_or}
 use Rattle.std.specs.Int.{w64, cast_signed}
 use Rattle.std.specs.List.{flat_map}
@@ -26,7 +26,7 @@ use Rattle.wild_layout.specs.Moved.{or_zero}
 use Rattle.wild_layout.specs.SymbolValues.{raw_address}
 use Rattle.wild_layout.specs.SlotValues.{index_of, decided_address}
 
--- an entry for a place, with an addend modulo 2^64; r_info has the low 32 bits of number and index (gABI, "Relocation",
+-- an entry for a place, with an addend modulo 2^64; r_info has the low 32 bits of type and index (gABI, "Relocation",
 -- ELF64_R_INFO)
 abbrev pub entry_for : ℕ → ℕ → ℕ → ℕ → Rela
 entry_for place number symbol addend = record { offset = place; number = number % 2 ^ 32; symbol = symbol % 2 ^ 32; addend = cast_signed w64 addend }
@@ -44,14 +44,14 @@ left_by l at r other = entry_for (place_of at r) 0 0 0
 abbrev pub left_entry : Layout → ℕ → ℕ → InputRelocation → Rela
 left_entry l at flags r = left_by l at r (treatment l flags r)
 
--- those of an input section
+-- the entries of an input section
 unfoldable pub section_generals : Layout → InputSection → List Rela
 section_generals l s = map (left_entry l s.address s.flags) (left_relocations l s)
 
--- the entry by which a loader copies a symbol's bytes to its address
+-- the COPY entry for a symbol's address
 abbrev pub copy_entry : Layout → ℕ → Rela
 copy_entry l i = entry_for (or_zero (raw_address l (Some i))) (type_of l.machine Copy) (index_or_zero l i) 0
 
--- those of a file whose sections are as they stand
+-- the entries of a file with placed sections
 unfoldable pub file_generals : Layout → File → List Rela
 file_generals l f = map (copy_entry l) (copies_of f) ++ flat_map (section_generals l) (processed l f)

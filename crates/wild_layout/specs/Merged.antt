@@ -1,9 +1,9 @@
--- Strings that were merged: where what a section symbol of a merged section and an addend tell stands in the output (gABI, "Section
--- Header": SHF_MERGE, SHF_STRINGS).
---   merged_strings l i     the strings of the merged section that symbol i is the section symbol of
+-- Merged strings: the address of the byte that a section symbol of a merged section and an addend name (gABI, "Section Header":
+-- SHF_MERGE, SHF_STRINGS).
+--   merged_strings l i     the strings of the merged section whose section symbol is i
 --   string_place ss x      the address of byte x of the input section
 --   names_merged l symbol  the symbol is such a section symbol
---   address_for l r        S of a relocation: where that is such a symbol, what with A gives the string's place
+--   address_for l r        S of a relocation; for such a symbol S + A is the address of the string's byte
 use Rattle.std.specs.Prelude.{ℕ, ◌+◌, ◌-◌, ◌%◌, ◌^◌, ◌==◌, ◌&&◌, Bool, false, not, if◌then◌else◌, nat_le, List, [], ◌∷◌, Option, Some, None, option_and_then, option_map, is_some, Result, Ok, Err, slice_get}
 use Rattle.std.specs.Option.{option_or}
 use Rattle.std.specs.Int.{w64, cast_unsigned}
@@ -27,7 +27,7 @@ use Rattle.wild_slot.specs.Treatment.{flags_at}
 use Rattle.wild_layout.specs.SymbolValues.{less, sum, address_or}
 use Rattle.wild_layout.specs.SlotValues.{address_of}
 
--- the symbol stands for its section (gABI, "Symbol Table": STT_SECTION)
+-- the symbol is a section symbol (gABI, "Symbol Table": STT_SECTION)
 abbrev pub is_section_symbol : Symbol → Bool
 is_section_symbol s = s.info % 16 == stt_section
 
@@ -42,14 +42,14 @@ abbrev pub strings_at : Place → File → Option (List MergedString)
 strings_at (at.Section k) f = option_and_then strings_of (slice_get f.sections k)
 strings_at other f = None
 
--- the strings of the merged section of a file that the symbol, one of the file's, is the section symbol of
+-- the strings of the merged section of a file, if the symbol, one of the file's, is its section symbol
 abbrev pub strings_in : File → Symbol → Option (List MergedString)
 strings_in f s = if is_section_symbol s then strings_at s.place f else None
 
 abbrev pub strings_told : List File → ℕ → Symbol → Option (List MergedString)
 strings_told files i s = option_and_then (λ f. strings_in f s) (file_of files i)
 
--- the value is the output's own, and moves with it
+-- the output defines the value, which moves with the load bias
 abbrev pub is_plain_own : ValueFlags → Bool
 is_plain_own f = not (interposable f) && (not (has_flag f dynamic) && (not (has_flag f absolute) && (not (has_flag f ifunc) && not (has_flag f undefined_weak))))
 
@@ -66,7 +66,7 @@ abbrev pub string_before : List MergedString → ℕ → Option MergedString
 string_before [] x = None
 string_before (s ∷ ss) x = option_or (string_before ss x) (if nat_le s.offset x then Some s else None)
 
--- the address of byte x of the input section: as far behind the string's as it is in the input
+-- the address of byte x of the input section: its distance from its string's start is kept
 abbrev pub string_place : List MergedString → ℕ → Option ℕ
 string_place ss x = option_map (λ (s : MergedString). (s.address + (x - s.offset)) % 2 ^ 64) (string_before ss x)
 
@@ -74,11 +74,11 @@ abbrev pub symbol_value : Option Symbol → ℕ
 symbol_value None = 0
 symbol_value (Some s) = s.value
 
--- what the symbol's value and the addend tell, read as a byte of the input section
+-- the symbol's value plus the addend: an offset in the input section
 abbrev pub merged_byte : Layout → ℕ → InputRelocation → ℕ
 merged_byte l i r = sum (symbol_value (slice_get l.symbols i)) r.addend
 
--- so much less than the string's place that A gives that
+-- the string's address minus A
 abbrev pub without_addend : InputRelocation → Result ℕ Fault → Result ℕ Fault
 without_addend r (Err f) = Err f
 without_addend r (Ok a) = Ok (less a (cast_unsigned w64 r.addend))

@@ -1,7 +1,7 @@
--- The addresses of a movable output that a loader adds its base to, with their values.
---   moved_value l r       S + A, as the layout has it; A where the symbol has no address
---   section_entries l s   the entries with addends of an input section; file_entries l f those of a file
---   file_words l f        the words of packed relocations of a file: those of its input sections, one behind the other
+-- The addresses of a position-independent output that a loader adds its load bias to, with their values.
+--   moved_value l r       S + A in the layout; A if the symbol has no address
+--   section_entries l s   the RELATIVE entries of an input section; file_entries l f those of a file
+--   file_words l f        the RELR words of a file: those of its input sections, consecutively
 use Rattle.std.specs.Prelude.{ℕ, List, Option, option_map, Result, Ok, Err}
 use Rattle.std.specs.List.{flat_map}
 use Rattle.wild_records.specs.declared.relocations.Rela.{Rela}
@@ -20,22 +20,22 @@ abbrev pub or_zero : Result ℕ Fault → ℕ
 or_zero (Ok a) = a
 or_zero (Err f) = 0
 
--- S + A, as the layout has it
+-- S + A in the layout
 abbrev pub moved_value : Layout → InputRelocation → ℕ
 moved_value l r = sum (or_zero (address_for l r)) r.addend
 
--- the entry of a relocation whose address is listed (x86-64 psABI, "Relocation Types", R_X86_64_RELATIVE)
+-- the RELATIVE entry of a relocation, if its address is not packed (x86-64 psABI, "Relocation Types", R_X86_64_RELATIVE)
 abbrev pub listed_entry : Layout → InputSection → InputRelocation → Option Rela
 listed_entry l s r = option_map (λ place. relative_entry l place (moved_value l r)) (listed_place l s r)
 
--- those of an input section, in the order of the relocations
+-- the entries of an input section, in the order of the relocations
 unfoldable pub section_entries : Layout → InputSection → List Rela
 section_entries l s = moved_of l s (listed_entry l s)
 
--- those of a file whose sections are as they stand
+-- the entries of a file with placed sections
 abbrev pub file_entries : Layout → File → List Rela
 file_entries l f = flat_map (section_entries l) (processed l f)
 
--- the words of such a file; each input section's are a run of their own
+-- the RELR words of such a file; each input section is packed separately
 abbrev pub file_words : Layout → File → List ℕ
 file_words l f = flat_map (words_of l) f.sections

@@ -1,5 +1,5 @@
--- Notes of GNU (gABI, "Note Section"; the Linux Extensions to gABI, "Program Property").
---   build_id_note id      the note that tells which build the output is
+-- GNU notes (gABI, "Note Section"; the Linux Extensions to gABI, "Program Property").
+--   build_id_note id      the build id note
 --   property_note ps      the note of the output's properties
 use Rattle.std.specs.Prelude.{ℕ, ◌+◌, List, [], ◌∷◌, ◌++◌, length, Option, Some, None}
 use Rattle.std.specs.List.{flat_map}
@@ -16,7 +16,7 @@ use Rattle.wild_types.specs.declared.layout.PropertyValue.TheVariants as values
 abbrev pub gnu_name : List ℕ
 gnu_name = 71 ∷ 78 ∷ 85 ∷ 0 ∷ []
 
--- a note of that type
+-- a GNU note of that type
 abbrev pub gnu_note : ℕ → List ℕ → List ℕ
 gnu_note kind description = spell (note_header_fields (record { name_size = length gnu_name; descriptor_size = length description; kind = kind })) ++ (gnu_name ++ description)
 
@@ -32,7 +32,7 @@ value_bytes (values.PointerAuthentication platform version) = word 4 16 ++ (word
 abbrev pub property_bytes : Property → List ℕ
 property_bytes p = word 4 p.ptype ++ value_bytes p.value
 
--- the note of the properties, where there are some
+-- the note of the properties; empty if there are none
 abbrev pub property_note : List Property → List ℕ
 property_note [] = []
 property_note (p ∷ ps) = gnu_note nt_gnu_property_type_0 (flat_map property_bytes (p ∷ ps))

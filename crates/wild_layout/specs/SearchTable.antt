@@ -1,8 +1,8 @@
 -- The search table of the frames of all files (LSB, "The .eh_frame_hdr section").
---   code_of l fs k         where the code begins that an FDE is of
+--   code_of l fs k         the start address of the code that an FDE describes
 --   layout_fdes l          the FDEs that are kept, in the order of the files, each with its address
---   search_table l         the table, where the option asks for one
---   search_table_faults l  what is too far from it
+--   search_table l         the table, if the option requires one
+--   search_table_faults l  the faults of frames too far from it
 use Rattle.std.specs.Prelude.{ℕ, not, ◌&&◌, if◌then◌else◌, List, [], ◌∷◌, ◌++◌, map}
 use Rattle.std.specs.List.{flat_map}
 use Rattle.wild_types.specs.declared.fault.Fault.{Fault}
@@ -28,16 +28,16 @@ use Rattle.wild_laid.specs.Laid.{entry_relocations, file_frames, frames_at, behi
 use Rattle.wild_layout.specs.SymbolValues.{sum, raw_address}
 use Rattle.wild_layout.specs.Moved.{or_zero}
 
--- S + A of the relocation that stands where the code's address does
+-- S + A of the first relocation
 abbrev pub code_at : Layout → List InputRelocation → ℕ
 code_at l [] = 0
 code_at l (r ∷ rs) = sum (or_zero (raw_address l r.symbol)) r.addend
 
--- where the code begins that an FDE is of (LSB, PC Begin): that is its first relocation
+-- the start address of the code that an FDE describes (LSB, PC Begin), by its first relocation
 abbrev pub code_of : Layout → Frames → KeptEntry → ℕ
 code_of l fs k = code_at l (entry_relocations fs k)
 
--- an FDE of frames that stand from an address on
+-- an FDE of frames that begin at an address
 abbrev pub fde_at : Layout → Frames → ℕ → KeptEntry → Fde
 fde_at l fs at k = record { code = code_of l fs k; address = behind at k.to }
 
@@ -61,7 +61,7 @@ layout_fdes l = flat_map (group_fdes l) l.groups
 abbrev pub address_of_role : Layout → Role → ℕ
 address_of_role l r = part_address (part_with r l.parts)
 
--- the table, where the option asks for one
+-- the table, if the option requires one
 unfoldable pub search_table : Layout → List ℕ
 search_table l = if l.options.eh_frame_hdr then table_of (address_of_role l role.EhFrameHdr) (address_of_role l role.EhFrame) (layout_fdes l) else []
 
@@ -69,6 +69,6 @@ abbrev pub fault_of : TableError → Fault
 fault_of (table_error.FrameOffsetOverflow v) = faults.FrameOffsetOverflow v
 fault_of table_error.OutOfMemory = faults.OutOfMemory
 
--- what is too far from it, where it is written
+-- the faults of frames too far from it, if it is written
 unfoldable pub search_table_faults : Layout → List Fault
 search_table_faults l = if l.options.eh_frame_hdr && not (is_hollow_role l role.EhFrameHdr) then map fault_of (table_errors (address_of_role l role.EhFrameHdr) (address_of_role l role.EhFrame) (layout_fdes l)) else []

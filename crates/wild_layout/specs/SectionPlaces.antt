@@ -1,8 +1,8 @@
--- Where input sections and parts lie.
---   SectionLies l s  an input section's bytes and fields lie in its part, and that in the image
---   HasWords m s     a section whose words are reversed has whole words, and a relocation for none or one of them each
---   FrontLies l k bs bytes at the front of part k lie in it
---   PartLies l i p   the groups' shares are the part's size; one that is not raw lies in the image
+-- Places of input sections and parts.
+--   SectionLies l s  an input section's bytes and fields are within its part, which is within the image
+--   HasWords m s     a reversed section consists of whole words, and each relocation applies to one of them
+--   FrontLies l k bs bytes at the front of part k are within it
+--   PartLies l i p   the groups' shares add up to the part's size; a part that is not raw is within the image
 use Rattle.std.specs.Prelude.{◌≡◌, ℕ, ◌+◌, ◌%◌, ◌^◌, ◌<◌, ◌≤◌, true, ◌⊎◌, List, length, All, slice_get, false, Some}
 use Rattle.wild_types.specs.declared.kind.Machine.{Machine}
 use Rattle.wild_types.specs.declared.part.Part.{Part}
@@ -21,15 +21,15 @@ use Rattle.wild_types.specs.Parts.{has_role}
 use Rattle.wild_layout.specs.Content.{content}
 use Rattle.wild_layout.specs.Image.{offset_in}
 
--- the relocation writes no field, or one that lies in n bytes
+-- the relocation writes no field, or one that is within n bytes
 abbrev pub FieldLies : Machine → ℕ → InputRelocation → Type 0
 FieldLies m n r = (field_bytes m r.number ≡ 0) ⊎ (r.offset + field_bytes m r.number ≤ n)
 
--- parts of the file that share no byte
+-- the file ranges of two parts are disjoint
 abbrev pub RangesApart : Part → Part → Type 0
 RangesApart p q = (p.offset + p.size ≤ q.offset) ⊎ (q.offset + q.size ≤ p.offset)
 
--- part k is raw, takes file bytes, and has room for n bytes at the address
+-- part k is raw, has bytes in the file, and has room for n bytes at the address
 pub record HasRoom (l : Layout) (k at n : ℕ) (p : Part) : Type 0 where
   pub listed : slice_get l.parts k ≡ Some p
   pub raw : p.role ≡ role.Raw
@@ -37,11 +37,11 @@ pub record HasRoom (l : Layout) (k at n : ℕ) (p : Part) : Type 0 where
   pub from : p.address ≤ at
   pub to : at + n ≤ p.address + p.size
 
--- it has room for the input section
+-- the part has room for the input section
 abbrev pub StandsIn : Layout → InputSection → Part → Type 0
 StandsIn l s p = HasRoom l s.part s.address s.size p
 
--- an input section that owns bytes lies in its part, and those bytes in the image
+-- an input section with bytes in the image is within its part, and these bytes are within the image
 pub record OwnerLies (l : Layout) (s : InputSection) : Type 0 where
   pub part : s.part < length l.parts
   pub stands : (p : Part) × StandsIn l s p
@@ -55,19 +55,19 @@ pub record SectionLies (l : Layout) (s : InputSection) : Type 0 where
   pub owner : is_filled l s ≡ true → OwnerLies l s
   pub part : s.part < length l.parts
 
--- the relocation has a word of 8 bytes, of n
+-- the relocation's field is an aligned word of 8 bytes, within n bytes
 pub record IsWord (m : Machine) (n : ℕ) (r : InputRelocation) : Type 0 where
   pub begins : r.offset % 8 ≡ 0
   pub wide : field_bytes m r.number ≡ 8
   pub within : r.offset + 8 ≤ n
 
--- words of 8 bytes, in which each relocation has one
+-- the section consists of words of 8 bytes, and each relocation applies to one
 pub record HasWords (m : Machine) (s : InputSection) : Type 0 where
   pub whole : s.size % 8 ≡ 0
   pub bytes : length s.bytes ≡ s.size
   pub fields : All (IsWord m s.size) s.relocations
 
--- bytes at the front of a raw part lie in it, and unless nothing of its section is written in the image
+-- bytes at the front of a raw part are within it, and within the image unless its section is omitted
 pub record FrontLies (l : Layout) (k : ℕ) (bs : List ℕ) : Type 0 where
   pub part : Part
   pub listed : slice_get l.parts k ≡ Some part
@@ -76,8 +76,8 @@ pub record FrontLies (l : Layout) (k : ℕ) (bs : List ℕ) : Type 0 where
   pub within : length bs ≤ part.size
   pub ends : 1 ≤ length bs → is_hollow_at l part.section ≡ false → part.offset + length bs ≤ image_size l
 
--- the groups' shares of a part are its size; of one that is not raw each share is what the group gives to it, and
--- unless nothing of its section is written the part lies in the image
+-- the groups' shares add up to the part's size. If the part is not raw, each share is the size of the group's content, and the part
+-- is within the image unless its section is omitted
 pub record PartLies (l : Layout) (i : ℕ) (p : Part) : Type 0 where
   pub low : p.offset + p.size ≤ 2 ^ 62
   pub address : p.address + p.size ≤ 2 ^ 62

@@ -1,12 +1,12 @@
--- What the slots and stubs of a file's symbols give to the parts (x86-64 psABI, "Global Offset Table (GOT)", "Procedure
+-- What the GOT and PLT entries of a file's symbols contribute to the parts (x86-64 psABI, "Global Offset Table (GOT)", "Procedure
 -- Linkage Table").
---   slot_words_of part l f       the words of a part
---   slot_entries_of part l f     the entries of a part, each with the place of its word
---   stubs_of l f                 the stubs
---   flat_places_of l f           the places that are packed by words of their own
---   slot_bytes l r f             the bytes that all of these are, by role
---   header_bytes l r             those of what stands once
---   block_bytes l r g            those of the words that pack a group's block of slots
+--   slot_words_of part l f       the GOT words of a part
+--   slot_entries_of part l f     the dynamic relocations of a part, each with the place of its word
+--   stubs_of l f                 the PLT stubs
+--   flat_places_of l f           the places that have a RELR word of their own
+--   slot_bytes l r f             the bytes of all these, by role
+--   header_bytes l r             the bytes that a part has once
+--   block_bytes l r g            the bytes of the RELR words of a group's run of GOT words
 use Rattle.std.specs.Prelude.{ℕ, if◌then◌else◌, List, [], unwrap_or}
 use Rattle.std.specs.List.{flat_map}
 use Rattle.wild_records.specs.declared.relocations.Rela.{Rela}
@@ -31,11 +31,11 @@ use Rattle.wild_tables.specs.Entries.{rela_bytes}
 
 -- ---- by symbol
 
--- the entries of a symbol in a part
+-- the dynamic relocations of a symbol's GOT words in a part
 abbrev pub symbol_entries : EntryPart → Layout → Symbol → List Rela
 symbol_entries part l s = slot_entries part l.machine l.options.relr (slots_at s) (slots_of l s).words
 
--- its stub, which jumps to its first slot
+-- its PLT stub, which jumps to the address in its first GOT word
 abbrev pub stub_bytes : Layout → Symbol → List ℕ
 stub_bytes l s = if (slots_of l s).has_stub then (stub_in l (slots_at s) (unwrap_or (plt_of s) 0)).bytes else []
 
@@ -56,7 +56,7 @@ stubs_of l f = flat_map (stub_bytes l) (own_symbols l f)
 unfoldable pub flat_places_of : Layout → File → List ℕ
 flat_places_of l f = flat_map (flat_in l) (own_symbols l f)
 
--- the bytes of a file's slots and stubs in the part of a role
+-- the bytes of a file's GOT and PLT entries in the part of a role
 abbrev pub slot_bytes : Layout → Role → File → List ℕ
 slot_bytes l role.Got f = word_bytes (slot_words_of words.Got l f)
 slot_bytes l role.GotRelr f = word_bytes (slot_words_of words.Block l f)
@@ -67,9 +67,9 @@ slot_bytes l role.RelaDynGeneral f = rela_bytes (slot_entries_of entries.General
 slot_bytes l role.RelrDyn f = word_bytes (flat_places_of l f)
 slot_bytes l other f = []
 
--- ---- what stands once, and blocks
+-- ---- what a part has once, and runs of GOT words
 
--- the entries of the pair of the output's own thread-local data
+-- the dynamic relocations of the GOT pair for the output's own thread-local data
 abbrev pub storage_entries : Layout → List Rela
 storage_entries l = slot_entries entries.General l.machine l.options.relr (unwrap_or l.tlsld 0) (storage_words l)
 

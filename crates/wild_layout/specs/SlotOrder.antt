@@ -1,9 +1,9 @@
--- Where a layout's slots and stubs stand, and what is known of the symbols that have them (x86-64 psABI, "Global Offset Table
--- (GOT)", "Procedure Linkage Table"; ELF Handling For Thread-Local Storage).
---   SlotsFollow l        slots and stubs follow each other
---   FlagsAgree l s       a symbol's flags agree with its slots and its stub
---   EachAgrees l         so it is with each definition, and with each symbol that has a resolution
---   HasSlotsInOrder l    the symbols' slots and stubs follow each other, and so do the files
+-- The order of a layout's GOT and PLT entries, and the flags of the symbols that have them (x86-64 psABI, "Global Offset Table (GOT)",
+-- "Procedure Linkage Table"; ELF Handling For Thread-Local Storage).
+--   SlotsFollow l        GOT words and PLT stubs are consecutive
+--   FlagsAgree l s       a symbol's flags agree with its GOT entries and its stub
+--   EachAgrees l         this holds for each definition, and for each symbol that has a resolution
+--   HasSlotsInOrder l    GOT words, PLT stubs and files are in order, and the flags agree
 --   SlotsAreInOrder      the law
 use Rattle.std.specs.Prelude.{◌≡◌, ℕ, ◌+◌, ◌*◌, true, Some, None, Ok, All, is_some, slice_get}
 use Rattle.wild_types.specs.declared.part.Part.{Part}
@@ -18,16 +18,16 @@ use Rattle.wild_clauses.specs.SlotFlags.{dynamic_is_interposable, stub_has_slot,
 use Rattle.wild_types.specs.ResolvedFlags.{HaveTheirFlags}
 use Rattle.wild_clauses.specs.WellFormed.{first_clause}
 
--- each slot is the next free word of its part, and each stub the next free stub; slots stand at multiples of 8, the pair of the
--- output's own thread-local data behind the reserved words, and a block of slots not at address 0
+-- GOT words and PLT stubs are assigned consecutively in their parts. GOT words are at multiples of 8, the pair for the output's own
+-- thread-local data follows the reserved words, and a run of GOT words does not begin at address 0
 pub record SlotsFollow (l : Layout) : Type 0 where
   pub placed : slots_astray l ≡ None
   pub even : All (λ (s : Symbol). slot_is_even s ≡ true) l.symbols
   pub pair : (at : ℕ) → l.tlsld ≡ Some at → at ≡ start_of l role.Got + word_size * l.got_header
   pub based : All (λ (p : Part). block_has_base p ≡ true) l.parts
 
--- a symbol of another module may be replaced by any; a resolver is the output's own, and moves with it; a stub has a slot; what
--- has a slot for thread-local data is no function; a second slot is in no block
+-- a symbol of another module is interposable; an IFUNC is defined by the output and moves with the load bias; a symbol with a stub has a
+-- GOT entry; one with a thread-local GOT entry is no function; a second GOT entry is not in a run of GOT words
 pub record FlagsAgree (l : Layout) (s : Symbol) : Type 0 where
   pub interposable : dynamic_is_interposable s ≡ true
   pub stub : stub_has_slot s ≡ true
@@ -36,12 +36,12 @@ pub record FlagsAgree (l : Layout) (s : Symbol) : Type 0 where
   pub moves : resolver_moves s ≡ true
   pub second : second_slot_fits l s ≡ true
 
--- so it is with the definition of each symbol, and with each symbol that has a resolution
+-- this holds for the definition of each symbol, and for each symbol that has a resolution
 pub record EachAgrees (l : Layout) : Type 0 where
   pub defined : (i : ℕ) (s : Symbol) → slice_get l.symbols (canonical l i) ≡ Some s → FlagsAgree l s
   pub resolved : (i : ℕ) (s : Symbol) → slice_get l.symbols i ≡ Some s → is_some s.resolution ≡ true → FlagsAgree l s
 
--- slots and stubs follow each other, flags and slots agree, and the first file is the only one that writes what stands once
+-- GOT words and PLT stubs are consecutive, flags agree, and the first file is the only one that writes what the image has once
 pub record HasSlotsInOrder (l : Layout) : Type 0 where
   pub slots : SlotsFollow l
   pub flags : EachAgrees l
@@ -50,6 +50,6 @@ pub record HasSlotsInOrder (l : Layout) : Type 0 where
 
 -- ---- law
 
--- so it is in a layout whose clauses hold, and whose resolutions have their symbols' flags
+-- this holds in a layout whose clauses hold, and whose resolutions have their symbols' flags
 abbrev pub SlotsAreInOrder : Type 0
 SlotsAreInOrder = (l : Layout) → first_clause l ≡ Ok tt → HaveTheirFlags l → HasSlotsInOrder l

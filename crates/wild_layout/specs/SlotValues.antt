@@ -1,8 +1,8 @@
--- Stubs and slots of symbols (x86-64 psABI, "Procedure Linkage Table", "Global Offset Table (GOT)").
---   address_of l r        S: the address of the symbol, or of its stub where a resolver chooses it
+-- GOT and PLT entries of symbols (x86-64 psABI, "Procedure Linkage Table", "Global Offset Table (GOT)").
+--   address_of l r        S: the address of the symbol, or of its stub for an IFUNC
 --   index_of l i          the index of the symbol in the dynamic symbol table
---   stub_of l i           L: the address of the symbol's stub
---   slot_of l sort i      G: where the slot of that sort stands
+--   stub_of l i           L: the address of the symbol's PLT stub
+--   slot_of l sort i      G: the address of the symbol's GOT entry of that sort
 use Rattle.std.specs.Prelude.{ℕ, ◌+◌, ◌%◌, ◌^◌, ◌||◌, Bool, if◌then◌else◌, Option, Some, None, Result, Ok, option_and_then, option_map}
 use Rattle.wild_types.specs.declared.fault.Fault.{Fault}
 use Rattle.wild_types.specs.declared.fault.Missing.TheVariants as missing
@@ -18,7 +18,7 @@ use Rattle.wild_reloc.specs.declared.expression.SlotSort.{SlotSort}
 use Rattle.wild_reloc.specs.declared.expression.SlotSort.TheVariants as sorts
 use Rattle.wild_layout.specs.SymbolValues.{definition_of, address_or, raw_address}
 
--- what was decided of the symbol's definition
+-- the resolution of the symbol's definition
 abbrev pub resolution_of : Layout → ℕ → Option Resolution
 resolution_of l i = option_and_then (λ (s : Symbol). s.resolution) (definition_of l i)
 
@@ -26,14 +26,14 @@ resolution_of l i = option_and_then (λ (s : Symbol). s.resolution) (definition_
 abbrev pub index_of : Layout → ℕ → Option ℕ
 index_of l i = option_and_then (λ (r : Resolution). r.dynamic_symbol_index) (resolution_of l i)
 
--- the address that was decided of the symbol, or that it has none
+-- the address in the symbol's resolution, or the fault that it has none
 abbrev pub decided_address : Layout → ℕ → Result ℕ Fault
 decided_address l i = address_or missing.Address i (option_map (λ (r : Resolution). r.raw_value) (resolution_of l i))
 
 abbrev pub stub_of : Layout → ℕ → Option ℕ
 stub_of l i = option_and_then (λ (r : Resolution). r.plt_address) (resolution_of l i)
 
--- a resolver chooses the function that the symbol names: its address is its stub's
+-- the symbol is an IFUNC: its address is its stub's
 abbrev pub is_chosen : Layout → ℕ → Bool
 is_chosen l i = has_flag (flags_at l i) ifunc
 
@@ -42,7 +42,7 @@ abbrev pub address_of : Layout → Option ℕ → Result ℕ Fault
 address_of l None = Ok 0
 address_of l (Some i) = if is_chosen l i then address_or missing.Stub i (stub_of l i) else raw_address l (Some i)
 
--- L: the address of the symbol's stub
+-- L: the address of the symbol's PLT stub
 abbrev pub stub_address : Layout → Option ℕ → Result ℕ Fault
 stub_address l None = Ok 0
 stub_address l (Some i) = address_or missing.Stub i (stub_of l i)
@@ -56,8 +56,8 @@ behind_word b at = if b then (at + 8) % 2 ^ 64 else at
 abbrev pub behind_pair : Bool → ℕ → ℕ
 behind_pair b at = if b then (at + 16) % 2 ^ 64 else at
 
--- where the slot of a sort stands among those of a symbol with these flags, whose first is there: the one that references to an
--- address use is the second where there are two; the pair of a module stands behind the offset, and the descriptor behind both
+-- the address of a GOT entry of a sort, for a symbol with these flags whose first GOT entry is at `at`. References to an address use the
+-- second entry if there are two; the module pair follows the offset, and the descriptor follows both
 abbrev pub slot_among : SlotSort → ValueFlags → ℕ → Option ℕ
 slot_among sorts.Offset f at = if has_flag f got_tls_offset then Some at else None
 slot_among sorts.Pair f at = if has_flag f got_tls_module then Some (behind_word (has_flag f got_tls_offset) at) else None
@@ -68,7 +68,7 @@ abbrev pub slot_decided : SlotSort → Option Resolution → Option ℕ
 slot_decided sort None = None
 slot_decided sort (Some r) = option_and_then (slot_among sort r.flags) r.got_address
 
--- G, by the sort: the pair of the output's own data stands once
+-- G, by the sort; the pair for the output's own data exists once
 abbrev pub slot_of : Layout → SlotSort → ℕ → Option ℕ
 slot_of l sorts.OwnPair i = l.tlsld
 slot_of l sort i = slot_decided sort (resolution_of l i)

@@ -1,7 +1,7 @@
--- Values of symbols and places, as relocations take them.
+-- Values of symbols and places, as relocation formulas use them.
 --   sum s a               S + A
 --   displacement s a p    S + A - P
---   thread_pointer m t    where the thread pointer stands beside the thread-local data
+--   thread_pointer m t    the address of the thread pointer, relative to the thread-local data
 use Rattle.std.specs.Prelude.{ℕ, ℤ, ◌+◌, ◌-◌, ◌%◌, ◌^◌, ◌&&◌, Bool, true, false, if◌then◌else◌, Option, Some, None, Result, Ok, Err, option_map, unwrap_or, slice_get}
 use Rattle.std.specs.Int.{w64, cast_unsigned}
 use Rattle.wild_types.specs.declared.kind.Machine.{Machine}
@@ -32,11 +32,11 @@ displacement s a p = (sum s a + (2 ^ 64 - p)) % 2 ^ 64
 abbrev pub less : ℕ → ℕ → ℕ
 less a b = storage.less a b
 
--- where the thread pointer stands
+-- the address of the thread pointer
 abbrev pub thread_pointer : Machine → Tls → ℕ
 thread_pointer m t = storage.thread_pointer m t
 
--- where offsets in a module's thread storage are counted from: code of x86-64 executables is rewritten to count from the
+-- the address that offsets in a module's thread-local storage are relative to: code of x86-64 executables is rewritten to use the
 -- thread pointer (x86-64 psABI, "Thread-Local Storage", local dynamic to local exec)
 abbrev pub storage_start : Layout → ℕ
 storage_start l = if is_x86_64 l.machine && is_executable l.kind then thread_pointer l.machine l.tls else l.tls.start
@@ -56,16 +56,16 @@ is_nowhere other = false
 abbrev pub is_undefined : Layout → ℕ → Bool
 is_undefined l i = unwrap_or (option_map (λ (s : Symbol). is_nowhere s.place) (definition_of l i)) false
 
--- how many bytes the symbol's definition has
+-- the size of the symbol's definition in bytes
 abbrev pub symbol_size : Layout → ℕ → ℕ
 symbol_size l i = unwrap_or (option_map (λ (s : Symbol). s.size) (definition_of l i)) 0
 
--- an address, or what symbol i lacks
+-- an address, or the fault that symbol i has none of this kind
 abbrev pub address_or : Missing → ℕ → Option ℕ → Result ℕ Fault
 address_or what i None = Err (faults.MissingResolution what i)
 address_or what i (Some a) = Ok a
 
--- the address that was decided of the symbol, or where it stands; 0 without a symbol
+-- the address of the symbol, by its resolution or by its place; 0 without a symbol
 abbrev pub raw_address : Layout → Option ℕ → Result ℕ Fault
 raw_address l None = Ok 0
 raw_address l (Some i) = address_or missing.Address i (raw_value l i)

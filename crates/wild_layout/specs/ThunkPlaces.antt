@@ -1,5 +1,5 @@
--- Where thunks lie.
---   ThunkLies l t   a thunk's bytes lie in the primary part and in the image, and loaded segments carry each to its address
+-- Places of thunks.
+--   ThunkLies l t   a thunk's bytes are within the primary part and the image, and PT_LOAD segments load each to its address
 --   IsOwned l b     a file writes the thunks of a block
 use Rattle.std.specs.Prelude.{◌≡◌, ℕ, ◌+◌, ◌<◌, ◌≤◌, List, Contains}
 use Rattle.wild_types.specs.declared.kind.Machine.TheVariants as machine
@@ -20,7 +20,7 @@ pub record ThunkLies (l : Layout) (t : Thunk) : Type 0 where
   pub ends : thunk_offset l t + thunk_size ≤ image_size l
   pub carried : (k : ℕ) → k < thunk_size → (h : Segment) × CarriesByte l h (thunk_offset l t + k) (t.address + k)
 
--- a file of a group writes the thunks of the block, which are AArch64's
+-- a file of a group writes the thunks of the block; thunks exist on AArch64 only
 pub record IsOwned (l : Layout) (b : List Thunk) : Type 0 where
   pub group : Group
   pub file : File

@@ -1,8 +1,8 @@
-//! What is decided of a relocation.
+//! The decision on a relocation: what it writes.
 use wild_relax::Row;
 use wild_reloc::RelocationSize;
 
-/// What a relocation writes into the bytes of its section, and what it leaves to a loader.
+/// What a relocation writes into the bytes of its section, and what it leaves to the dynamic linker.
 #[derive(Clone, Copy)]
 pub enum Decision {
     /// Nothing.
@@ -12,13 +12,13 @@ pub enum Decision {
         size: RelocationSize,
         value: u64,
     },
-    /// The address `value`, which moves with the base, in 8 bytes: where it is packed it stands there and a loader adds the
-    /// base to it; else 0 does, and a loader stores the sum of base and value by an entry.
+    /// The address `value`, which moves with the load bias, in 8 bytes. If it is packed in `.relr.dyn` it is written there, and the loader
+    /// adds the load bias; otherwise 0 is written, and the loader stores the sum by a RELATIVE entry.
     Moved {
         value: u64,
         packed: bool,
     },
-    /// 0 into a field of that size, which a loader fills by an entry of that number, with an index in the dynamic symbol
+    /// 0 into a field of that size, which the dynamic linker fills by an entry of type `number`, with an index in the dynamic symbol
     /// table (0: none) and an addend.
     Left {
         size: RelocationSize,
@@ -27,11 +27,11 @@ pub enum Decision {
         /// Modulo 2^64.
         addend: u64,
     },
-    /// All bytes of the input's instruction, as the row writes them, with a value in the field; 0 where the row has none.
+    /// The whole instruction of the input, as the row writes it, with a value in its field; the value is 0 if the row has none.
     Rewritten {
         row: Row,
         value: u64,
     },
-    /// Nothing: the relocation is that of the call of a sequence, which is written with the relocation before.
+    /// Nothing: the relocation is that of a sequence's call, which is written with the previous relocation.
     Partner,
 }

@@ -1,4 +1,4 @@
-//! The bytes of a layout's input sections, and the addends of their relocations, have their types' ranges.
+//! Proves that the bytes of a layout's input sections, and the addends of their relocations, are in their types' ranges.
 ghost use Rattle.std.specs.Prelude.{All, ℕ, ◌^◌, ◌<◌};
 ghost use Rattle.wild_types.specs.declared.file.File.{File};
 ghost use Rattle.wild_layout.specs.Numbers.{AddendFits, InputNumbers, InputsFit};
@@ -66,7 +66,7 @@ fn groups_fit(groups: &[Group])
     }
 }
 
-/// The input sections of a layout have bytes, and their relocations add signed numbers of 64 bits.
+/// The bytes of input sections are below 256, and addends are signed numbers of 64 bits.
 pub(crate) fn inputs_fit(layout: &Layout)
     ensures { InputsFit layout.now.groups }
 {

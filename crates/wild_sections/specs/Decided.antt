@@ -1,11 +1,11 @@
--- What the decisions on a section's relocations make.
---   decided_sites s rs ds   what the relocations write, as they were decided
---   decided_extents rs os ds   where that stands in the input, whose relocations are os
---   ascends reach es        each extent begins where those before it end, or behind
---   put_decision old r d    bytes after one relocation was written over them
---   reach_behind n r d      where what a relocation writes ends, if it begins at n or behind; none where it begins before
---   DecisionsLie n rs ds    what the relocations write lies in n bytes
---   IsNext l s i n e a b    relocation i was decided and written behind n
+-- The effect of the decisions on a section's relocations.
+--   decided_sites s rs ds   what the decided relocations write
+--   decided_extents rs os ds   the bytes of the input that they write; os are the relocations in the input
+--   ascends reach es        each extent begins at the end of the previous ones or after it
+--   put_decision old r d    the bytes with one decided relocation written over them
+--   reach_behind n r d      the end of what a relocation writes, if it begins at n or after it; otherwise None
+--   DecisionsLie n rs ds    what the relocations write is within n bytes
+--   IsNext l s i n e a b    relocation i is decided, and written if it begins at n or after it
 --   AreDecided l s ds       the decisions are those of the section's relocations
 use Rattle.std.specs.Prelude.{◌≡◌, ℕ, ◌+◌, ◌-◌, ◌≤◌, Bool, true, false, ◌&&◌, nat_le, nat_lt, if◌then◌else◌, max, List, [], ◌∷◌, ◌++◌, length, Option, Some, None, Ok, option_to_list, slice_get, slice_range}
 use Rattle.std.specs.List.{flat_map, range_with_len}
@@ -24,17 +24,17 @@ use Rattle.wild_relax.specs.Linked.{pattern_size, keeps_bytes, fits_in, template
 use Rattle.wild_layout.specs.Decide.{decide}
 use Rattle.wild_layout.specs.Sites.{Written, written_by, template_start, site_of, sites}
 
--- what relocations write, as they were decided
+-- what the decided relocations write
 unfoldable pub decided_sites : Item → List InputRelocation → List Decision → List Piece
 decided_sites s [] ds = []
 decided_sites s (r ∷ rs) [] = []
 decided_sites s (r ∷ rs) (d ∷ ds) = site_of s r (Ok d) ++ decided_sites s rs ds
 
--- where a field of that size stands
+-- the bytes of a field of that size
 abbrev pub field_extent : ℕ → RelocationSize → Extent
 field_extent at size = record { start = at; end = at + size_width size }
 
--- where the instruction of a row stands in the input, whose relocation is there at an offset
+-- the bytes of the instruction of a row in the input, whose relocation is at an offset there
 abbrev pub template_extent : ℕ → InputRelocation → Row → Extent
 template_extent from r row = record { start = template_start row r + from - r.offset; end = template_start row r + from - r.offset + pattern_size row }
 
@@ -42,7 +42,7 @@ abbrev pub written_extent : ℕ → Option Written → Option Extent
 written_extent at None = None
 written_extent at (Some w) = Some (field_extent at w.size)
 
--- where one stands that writes something, and is at an offset in the input
+-- the bytes of the input that a decided relocation writes, which is at an offset there
 abbrev pub decided_extent : ℕ → InputRelocation → Decision → Option Extent
 decided_extent from r (Rewritten row v) = Some (template_extent from r row)
 decided_extent from r d = written_extent from (written_by d)
@@ -51,20 +51,20 @@ abbrev pub extent_by : Option InputRelocation → Option InputRelocation → Opt
 extent_by (Some o) (Some r) (Some d) = option_to_list (decided_extent o.offset r d)
 extent_by _ _ _ = []
 
--- the same of the relocation in a place
+-- the same for the relocation with an index
 abbrev pub extent_at : List InputRelocation → List InputRelocation → List Decision → ℕ → List Extent
 extent_at rs os ds i = extent_by (slice_get os i) (slice_get rs i) (slice_get ds i)
 
--- where they stand in the input
+-- the bytes of the input that they write
 unfoldable pub decided_extents : List InputRelocation → List InputRelocation → List Decision → List Extent
 decided_extents rs os ds = flat_map (extent_at rs os ds) (range_with_len 0 (length ds))
 
--- each begins where those before it end, or behind
+-- each begins at the end of the previous ones or after it
 unfoldable pub ascends : ℕ → List Extent → Bool
 ascends reach [] = true
 ascends reach (e ∷ es) = nat_le reach e.start && ascends (max reach e.end) es
 
--- bytes after a field was written over them
+-- the bytes with a field written over them
 abbrev pub put_field : List ℕ → ℕ → RelocationSize → ℕ → List ℕ
 put_field old at size v = place at (size_written size v (slice_range old at (at + size_width size))) old
 
@@ -72,16 +72,16 @@ abbrev pub put_written : List ℕ → ℕ → Option Written → List ℕ
 put_written old at None = old
 put_written old at (Some w) = put_field old at w.size w.value
 
--- bytes after the instruction of a row was written over them
+-- the bytes with the instruction of a row written over them
 abbrev pub put_template : List ℕ → ℕ → Row → ℕ → List ℕ
 put_template old at row v = place at (template_of row v (slice_range old at (at + pattern_size row))) old
 
--- bytes after one relocation was written over them
+-- the bytes with one decided relocation written over them
 abbrev pub put_decision : List ℕ → InputRelocation → Decision → List ℕ
 put_decision old r (Rewritten row v) = put_template old (template_start row r) row v
 put_decision old r d = put_written old r.offset (written_by d)
 
--- where a field ends that begins at `reach` or behind; none where it begins before
+-- the end of a field that begins at `reach` or after it; otherwise None
 abbrev pub reach_of_field : ℕ → ℕ → RelocationSize → Option ℕ
 reach_of_field reach at size = if nat_lt at reach then None else Some (at + size_width size)
 
@@ -89,11 +89,11 @@ abbrev pub reach_of : ℕ → ℕ → Option Written → Option ℕ
 reach_of reach at None = Some reach
 reach_of reach at (Some w) = reach_of_field reach at w.size
 
--- the same of the instruction of a row
+-- the same for the instruction of a row
 abbrev pub reach_of_template : ℕ → ℕ → Row → Option ℕ
 reach_of_template reach at row = if nat_lt at reach then None else Some (at + pattern_size row)
 
--- the same of what a relocation writes
+-- the same for what a relocation writes
 abbrev pub reach_behind : ℕ → InputRelocation → Decision → Option ℕ
 reach_behind reach r (Rewritten row v) = reach_of_template reach (template_start row r) row
 reach_behind reach r d = reach_of reach r.offset (written_by d)
@@ -102,22 +102,22 @@ abbrev pub WrittenLies : ℕ → ℕ → Option Written → Type 0
 WrittenLies n at None = Unit {0}
 WrittenLies n at (Some w) = at + size_width w.size ≤ n
 
--- the row writes a whole instruction, as one of the table does, which lies in n bytes
+-- the row writes a whole instruction, as one of the table does, which is within n bytes
 pub record TemplateLies (n : ℕ) (r : InputRelocation) (row : Row) : Type 0 where
   pub changes : keeps_bytes row ≡ false
   pub fits : fits_in row ≡ true
   pub ends : template_start row r + pattern_size row ≤ n
 
--- what a relocation writes lies in n bytes
+-- what a relocation writes is within n bytes
 abbrev pub DecisionLies : ℕ → InputRelocation → Decision → Type 0
 DecisionLies n r (Rewritten row v) = TemplateLies n r row
 DecisionLies n r d = WrittenLies n r.offset (written_by d)
 
--- what the relocations write does
+-- what the relocations write is within n bytes
 abbrev pub DecisionsLie : ℕ → List InputRelocation → List Decision → Type 0
 DecisionsLie n rs ds = (i : ℕ) (r : InputRelocation) (d : Decision) → slice_get rs i ≡ Some r → slice_get ds i ≡ Some d → DecisionLies n r d
 
--- relocation i was decided and written, where its bytes begin at `reach` or behind
+-- relocation i is decided, and written if its bytes begin at `reach` or after it
 pub record IsNext (l : Layout) (s : Item) (i reach : ℕ) (next : Option ℕ) (old new : List ℕ) : Type 0 where
   pub relocation : InputRelocation
   pub listed : slice_get s.relocations i ≡ Some relocation

@@ -1,7 +1,7 @@
--- The files of symbols, as far as the dynamic symbol table tells of them.
---   home_of l place f   the role of a symbol's file, and the header index of the section in which the symbol stands
---   home_in l i f       the same for symbol i, as one of file f
---   HasHomes l homes    a table of these for all symbols, where the output has a dynamic symbol table
+-- The files of symbols, as the dynamic symbol table needs them.
+--   home_of l place f   the role of a symbol's file, and the header index of the section that the symbol is in
+--   home_in l i f       the same for symbol i of file f
+--   HasHomes l homes    a table of these for all symbols, if the output has a dynamic symbol table
 use Rattle.std.specs.Prelude.{◌≡◌, ℕ, ◌<◌, true, List, length, Option, Some, None, slice_get, slice_index_or}
 use Rattle.wild_types.specs.declared.symbol.Place.{Place}
 use Rattle.wild_types.specs.declared.symbol.Place.TheVariants as at
@@ -15,7 +15,7 @@ use Rattle.wild_symbols.specs.DynamicFields.{role_of}
 use Rattle.wild_sections.specs.declared.home.Home.{Home}
 use Rattle.wild_symbols.specs.SymbolNumbers.{found}
 
--- of a symbol at a place in a file
+-- the same for a symbol at a place in a file
 abbrev pub home_of : Layout → Place → Option File → Home
 home_of l place f = record { role = role_of f; section = output_section l f place }
 
@@ -23,11 +23,11 @@ abbrev pub place_or : Option Symbol → Place
 place_or None = at.Undefined
 place_or (Some s) = s.place
 
--- of symbol i, as one of file f
+-- the same for symbol i of file f
 abbrev pub home_in : Layout → ℕ → File → Home
 home_in l i f = home_of l (place_or (slice_get l.symbols i)) (Some f)
 
--- the table of these, where there is a dynamic symbol table
+-- the table of these, if there is a dynamic symbol table
 pub record HasHomes (l : Layout) (homes : List (Option Home)) : Type 0 where
   pub count : needs_dynsym l.kind ≡ true → length homes ≡ length l.symbols
   pub all : needs_dynsym l.kind ≡ true → (k : ℕ) → k < length homes → slice_index_or homes k None ≡ found (home_in l) (files_of l.groups) k

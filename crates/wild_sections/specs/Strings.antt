@@ -1,7 +1,7 @@
--- Strings that were merged, as the writer looks for them.
---   offsets_ascend reach ss   each string begins where the one in front of it does, or behind
---   later last s x            string s where it begins at byte x or before it, else the one in front of it
---   all_ascend l              the strings of each section are in the order of their offsets
+-- Merged strings, as the writer searches them.
+--   offsets_ascend reach ss   the strings are sorted by offset, and the first begins at `reach` or after it
+--   later last s x            string s if it begins at byte x or before it, otherwise the previous one
+--   all_ascend l              the strings of each section are sorted by offset
 use Rattle.std.specs.Prelude.{ℕ, Bool, true, false, ◌&&◌, nat_le, if◌then◌else◌, List, [], ◌∷◌, Option, Some}
 use Rattle.std.specs.List.{list_all}
 use Rattle.wild_types.specs.declared.input.InputSection.{InputSection}
@@ -10,7 +10,7 @@ use Rattle.wild_types.specs.declared.file.File.{File}
 use Rattle.wild_types.specs.declared.file.Group.{Group}
 use Rattle.wild_types.specs.declared.layout.Layout.{Layout}
 
--- the strings stand in the order of their offsets, from a reach on
+-- the strings are sorted by offset, and the first begins at `reach` or after it
 abbrev pub offsets_ascend : ℕ → List MergedString → Bool
 offsets_ascend reach [] = true
 offsets_ascend reach (s ∷ ss) = nat_le reach s.offset && offsets_ascend s.offset ss
@@ -18,7 +18,7 @@ offsets_ascend reach (s ∷ ss) = nat_le reach s.offset && offsets_ascend s.offs
 abbrev pub section_ascends : InputSection → Bool
 section_ascends s = offsets_ascend 0 s.strings
 
--- the strings of each section are in order
+-- the strings of each section are sorted by offset
 abbrev pub all_ascend : Layout → Bool
 all_ascend l = list_all (λ (g : Group). list_all (λ (f : File). list_all section_ascends f.sections) g.files) l.groups
 

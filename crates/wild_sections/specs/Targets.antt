@@ -1,7 +1,7 @@
--- The table of what distances of x86-64 are counted to, in outputs that do not move.
+-- The table of symbol addresses for S + A - P of x86-64, in outputs that are not position-independent.
 --   has_targets l      the output is one
---   target_of l i      the address of symbol i, where nothing but the symbol tells S
---   HasTargets l ts    the table of these for all symbols; of another output nothing is kept
+--   target_of l i      the address of symbol i, if S depends on the symbol only
+--   HasTargets l ts    the table of these for all symbols; empty for other outputs
 use Rattle.std.specs.Prelude.{◌≡◌, ℕ, ◌<◌, ◌&&◌, ◌||◌, not, Bool, true, false, if◌then◌else◌, List, map, length, Option, Some, None, slice_get}
 use Rattle.std.specs.List.{range_with_len}
 use Rattle.wild_types.specs.declared.kind.Machine.{Machine}
@@ -18,16 +18,16 @@ abbrev pub is_x86_64 : Machine → Bool
 is_x86_64 machine.X86_64 = true
 is_x86_64 machine.AArch64 = false
 
--- S + A - P is written whatever the symbol is
+-- S + A - P is written for every symbol
 abbrev pub has_targets : Layout → Bool
 has_targets l = is_x86_64 l.machine && not (is_position_independent l.kind)
 
--- the symbol may stand for merged strings
+-- the symbol may be the section symbol of merged strings
 abbrev pub may_be_merged : Bool → Option Symbol → Bool
 may_be_merged asks None = asks
 may_be_merged asks (Some s) = asks && is_section_symbol s
 
--- no resolver chooses the symbol's address, and no addend
+-- None for an IFUNC, and if the address may depend on the addend
 abbrev pub target_of : Layout → ℕ → Option ℕ
 target_of l i = if is_chosen l i || may_be_merged (asks_owners l) (slice_get l.symbols i) then None else raw_value l i
 
@@ -35,7 +35,7 @@ pub record HasTargets (l : Layout) (targets : List (Option ℕ)) : Type 0 where
   pub all : targets ≡ map (target_of l) (range_with_len 0 (length targets))
   pub some : (i : ℕ) → i < length targets → has_targets l ≡ true
 
--- symbol i has that target
+-- symbol i has that address in the table
 pub record IsTarget (l : Layout) (i a : ℕ) : Type 0 where
   pub output : has_targets l ≡ true
   pub is : target_of l i ≡ Some a

@@ -1,4 +1,4 @@
-//! Which rewrite of instructions stands at a relocation. Rows are asked of four relocations at most, which stand on the stack.
+//! Which rewrite (relaxation) applies to the instruction of a relocation. A row sees at most four relocations, which are on the stack.
 ghost use Rattle.std.specs.Prelude.{◌≡◌, ◌<◌, ◌+◌, length, slice_get};
 ghost use Rattle.wild_relax.specs.Relaxation.{chosen_of};
 ghost use Rattle.wild_layout.specs.Choice.{same_names, is_getter, info_of, nameless, asked_of, infos_of, info_at, question_around, is_thread_type, merged_on, choice, takes_next, is_partner, may_take_next, may_be_partner};
@@ -16,11 +16,11 @@ use wild_relax::{
 use wild_slot::flags_at;
 use wild_types::{InputRelocation, ItemRef, Layout, Machine, SymbolIndex};
 
-/// The function that tells the address of a thread-local symbol ("ELF Handling For Thread-Local Storage", "Run-Time Handling
+/// The function that returns the address of a thread-local symbol ("ELF Handling For Thread-Local Storage", "Run-Time Handling
 /// of TLS").
 const GETTER: [u8; 14] = *b"__tls_get_addr";
 
-/// Whether two names are one.
+/// Whether two names are equal.
 fn same_names(one: &[u8], other: &[u8]) -> bool
     ensures { result ≡ same_names one.now other.now }
 {
@@ -31,7 +31,7 @@ fn same_names(one: &[u8], other: &[u8]) -> bool
     }
 }
 
-/// Whether the symbol that a relocation names is that function.
+/// Whether a relocation's symbol is that function.
 fn is_getter(layout: &Layout, symbol: Option<SymbolIndex>) -> bool
     ensures { result ≡ is_getter layout.now symbol }
 {
@@ -44,7 +44,7 @@ fn is_getter(layout: &Layout, symbol: Option<SymbolIndex>) -> bool
     }
 }
 
-/// What the rows ask of a relocation by itself, but for its symbol's name.
+/// What the rows check of a relocation, without its symbol's name.
 #[inline]
 fn nameless(relocation: &InputRelocation) -> RelocationInfo
     ensures { result ≡ nameless relocation.now }
@@ -61,7 +61,7 @@ fn nameless(relocation: &InputRelocation) -> RelocationInfo
     }
 }
 
-/// What the rows ask of a relocation by itself.
+/// What the rows check of a relocation.
 fn info_of(layout: &Layout, relocation: &InputRelocation) -> RelocationInfo
     ensures { result ≡ info_of layout.now relocation.now }
 {
@@ -71,7 +71,7 @@ fn info_of(layout: &Layout, relocation: &InputRelocation) -> RelocationInfo
     }
 }
 
-/// What they ask of the relocation in that place; without one, of a relocation that does nothing.
+/// What they check of the relocation with that index; if there is none, of a relocation that does nothing.
 fn info_at(relocations: &[InputRelocation], index: usize) -> RelocationInfo
     ensures { result ≡ info_at relocations.now index }
 {
@@ -81,7 +81,7 @@ fn info_at(relocations: &[InputRelocation], index: usize) -> RelocationInfo
     }
 }
 
-/// The row that stands at one of these relocations, which names that symbol, or why it is refused.
+/// The row that applies to the relocation at `at` of `relocations`, or why it is refused.
 fn asked<A: Arch>(
     resolved: &Resolved<A>,
     item: &ItemRef,
@@ -110,7 +110,7 @@ fn asked<A: Arch>(
     }
 }
 
-/// Whether rows of that relocation type write a whole sequence, whose call has the next relocation.
+/// Whether rows of that relocation type may rewrite a whole sequence, including the call of the next relocation.
 #[inline(always)]
 pub(crate) fn may_take_next(number: u32) -> bool
     ensures { result ≡ may_take_next number }
@@ -118,7 +118,7 @@ pub(crate) fn may_take_next(number: u32) -> bool
     number == R_X86_64_TLSGD || number == R_X86_64_TLSLD
 }
 
-/// The row that stands at a relocation, with the next one in sight.
+/// The row that applies to a relocation, which may depend on the next one.
 fn choice_with_next<A: Arch>(
     resolved: &Resolved<A>,
     item: &ItemRef,
@@ -145,7 +145,8 @@ fn choice_with_next<A: Arch>(
     }
 }
 
-/// The row that stands at that relocation, with those of its sequence in sight: from the first on, so that each is asked of the same.
+/// The row that applies to a relocation of a sequence. The row sees the sequence from its first relocation on, so that each of its
+/// relocations is checked in the same way.
 fn choice_around<A: Arch>(
     resolved: &Resolved<A>,
     item: &ItemRef,
@@ -178,7 +179,7 @@ fn is_thread_type(number: u32) -> bool
         || number == R_X86_64_TLSDESC_CALL
 }
 
-/// No row would find a merged string by another addend, and none is thread-local storage.
+/// The answer for a merged string: no row applies, as the row's addend would find another string. Thread-local types are refused.
 fn choice_merged(
     machine: Machine,
     relocation: &InputRelocation,
@@ -196,8 +197,8 @@ fn choice_merged(
     }
 }
 
-/// The row that stands at a relocation of an item, or why it is refused. Others and names are looked at where a row of the type
-/// asks for them.
+/// The row that applies to a relocation of an item, or why it is refused. Reads other relocations and names only if a row of the type
+/// depends on them.
 pub(crate) fn choice<A: Arch>(
     resolved: &Resolved<A>,
     item: &ItemRef,
@@ -226,7 +227,7 @@ pub(crate) fn choice<A: Arch>(
     }
 }
 
-/// Whether a row writes a whole sequence.
+/// Whether a row rewrites a whole sequence.
 fn takes_next(choice: Result<Option<Row>, UnknownSequence>) -> bool
     ensures { result ≡ takes_next choice }
 {
@@ -236,7 +237,7 @@ fn takes_next(choice: Result<Option<Row>, UnknownSequence>) -> bool
     }
 }
 
-/// Whether the relocation before is of a type whose rows may take this one along.
+/// Whether rows for the previous relocation's type may include this relocation.
 #[inline(always)]
 pub(crate) fn may_be_partner(relocations: &[InputRelocation], index: usize) -> bool
     requires index { index < length relocations.now }
@@ -245,7 +246,7 @@ pub(crate) fn may_be_partner(relocations: &[InputRelocation], index: usize) -> b
     index > 0 && may_take_next(relocations[index - 1].number)
 }
 
-/// Whether a relocation of an item is the call of the sequence before it, which is rewritten as a whole.
+/// Whether a relocation of an item is the call of the previous relocation's sequence, which is rewritten as a whole.
 pub(crate) fn is_partner<A: Arch>(resolved: &Resolved<A>, item: &ItemRef, index: usize) -> bool
     requires index { index < length item.now.relocations.now }
     ensures { result ≡ is_partner resolved.now.layout.now (item_now item.now) index }

@@ -1,4 +1,4 @@
-//! The most common relocations, which are decided without a look at anything else.
+//! Fast path for the most common relocation type, R_X86_64_PC32, in outputs that are not position-independent.
 ghost use Rattle.std.specs.Prelude.{◌≡◌, ℕ, true, false, Ok, Some, slice_get};
 ghost use Rattle.wild_records.specs.Abi.Relocation.{r_x86_64_pc32};
 ghost use Rattle.wild_reloc.specs.declared.info.RelocationSize.TheVariants.{ByteSize};
@@ -23,10 +23,10 @@ use wild_relax::Arch;
 use wild_reloc::{RelocationSize, Width};
 use wild_types::{Fault, InputRelocation, ItemRef};
 
-/// The type of most relocations of x86-64 code. It is asked for first, so that where it is met its row is known.
+/// The most common type in x86-64 code. It is tested first, so that its row needs no search.
 const COMMON: u32 = R_X86_64_PC32;
 
-/// The value, where it is one in a field of four bytes.
+/// The value of a decision that writes a four-byte field.
 #[inline(always)]
 fn in_four(decided: Result<Decision, Fault>) -> Option<u64>
     ensures { (value : ℕ) → result ≡ Some value → decided ≡ Ok (Field (ByteSize Four) value) }
@@ -42,7 +42,7 @@ fn in_four(decided: Result<Decision, Fault>) -> Option<u64>
     }
 }
 
-/// The distance from a relocation to an address, where it is in the range of a field of four bytes.
+/// The distance from a relocation to an address, if it fits in a signed four-byte field.
 #[inline(always)]
 fn near(target: u64, start: u64, relocation: &InputRelocation) -> Option<u64>
     ensures is { (value : ℕ) → result ≡ Some value → value ≡ displacement target relocation.now.addend (place_of start relocation.now) }
@@ -56,7 +56,7 @@ fn near(target: u64, start: u64, relocation: &InputRelocation) -> Option<u64>
     }
 }
 
-/// The value of a relocation that has the most common type, where its symbol alone tells it.
+/// The value of a relocation of the most common type, if the address of its symbol is in the table of targets.
 #[inline(always)]
 fn value_to_target<A: Arch>(
     resolved: &Resolved<A>,
@@ -72,7 +72,7 @@ fn value_to_target<A: Arch>(
     near(target, item.address, relocation)
 }
 
-/// The same by the row of the type, of any symbol.
+/// The value of a relocation of the most common type for any symbol, by the row of the type.
 #[inline(never)]
 fn value_by_row<A: Arch>(
     resolved: &Resolved<A>,
@@ -91,7 +91,7 @@ fn value_by_row<A: Arch>(
     }
 }
 
-/// The value, where it is one in a field of four bytes, of a relocation that has the most common type.
+/// The value of a relocation of the most common type, if it is written to a four-byte field.
 #[inline(always)]
 fn value_of_common<A: Arch>(
     resolved: &Resolved<A>,
@@ -109,8 +109,8 @@ fn value_of_common<A: Arch>(
     }
 }
 
-/// The value in a field of four bytes that is decided of a relocation of the most common type, in an output that does
-/// not move; none where something else is to be done.
+/// The value of a relocation of the most common type, for a four-byte field; None if the general path has to decide, as in a
+/// position-independent output.
 #[inline(always)]
 pub(crate) fn common_value<A: Arch>(
     resolved: &Resolved<A>,

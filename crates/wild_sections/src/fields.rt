@@ -1,4 +1,4 @@
-//! The writing of one relocation, as it was decided: its field, 0 where that is left to a loader, or a whole instruction.
+//! Writes one decided relocation: its field (0 if a dynamic relocation fills it), or a whole instruction.
 ghost use Rattle.std.specs.Prelude.{◌≡◌, ℕ, ◌+◌, ◌≤◌, Some, length, if◌then◌else◌};
 ghost use Rattle.wild_words.specs.Words.{word, place};
 ghost use Rattle.wild_reloc.specs.declared.info.RelocationSize.TheVariants.{ByteSize};
@@ -14,7 +14,7 @@ use wild_reloc::RelocationSize;
 use wild_types::InputRelocation;
 use wild_words::put;
 
-/// What stands in the field of an address that moves: the address where it is packed, and 0 beside an entry.
+/// The content of the field of a RELATIVE relocation: the address if it is packed in `.relr.dyn`, otherwise 0.
 #[inline]
 fn standing(value: u64, packed: bool) -> u64
     ensures { result ≡ (if packed then value else 0) }
@@ -22,7 +22,7 @@ fn standing(value: u64, packed: bool) -> u64
     if packed { value } else { 0 }
 }
 
-/// Where the instruction of a row begins.
+/// The offset at which the instruction of a row begins.
 #[inline]
 pub(crate) fn template_start(row: Row, relocation: &InputRelocation) -> u64
     ensures { result ≡ template_start row relocation.now }
@@ -30,7 +30,7 @@ pub(crate) fn template_start(row: Row, relocation: &InputRelocation) -> u64
     relocation.offset.saturating_sub(row.pattern_field())
 }
 
-/// Writes a whole instruction by its row, with a value in the field.
+/// Writes the whole instruction of a row, with a value in its field.
 fn write_template(relocation: &InputRelocation, row: Row, value: u64, room: &mut [u8])
     requires lies { TemplateLies (length room.old) relocation.now row }
     ensures { room.new ≡ put_template room.old (template_start row relocation.now) row value }
@@ -39,7 +39,7 @@ fn write_template(relocation: &InputRelocation, row: Row, value: u64, room: &mut
     row.write_template(value, room, start as usize);
 }
 
-/// Writes a relocation over the bytes of its section, as it was decided.
+/// Writes a decided relocation over the bytes of its section.
 #[inline]
 pub(crate) fn write_decision(relocation: &InputRelocation, decision: Decision, room: &mut [u8])
     requires lies { DecisionLies (length room.old) relocation.now decision }
@@ -57,7 +57,7 @@ pub(crate) fn write_decision(relocation: &InputRelocation, decision: Decision, r
     }
 }
 
-/// Writes a field, where it begins at `reach` or behind: where it ends then; none where it begins before.
+/// Writes a field if it begins at `reach` or after it, and returns its end; otherwise None.
 #[inline]
 fn field_behind(
     reach: u64,
@@ -77,7 +77,7 @@ fn field_behind(
     Some(offset + size.width() as u64)
 }
 
-/// Writes a whole instruction, where it begins at `reach` or behind: where it ends then; none where it begins before.
+/// Writes a whole instruction if it begins at `reach` or after it, and returns its end; otherwise None.
 fn template_behind(
     reach: u64,
     relocation: &InputRelocation,
@@ -97,7 +97,7 @@ fn template_behind(
     Some(start + row.pattern_size() as u64)
 }
 
-/// The four low bytes of a value, into the room.
+/// Writes the four low bytes of a value.
 #[inline(always)]
 #[tactic(auto, using(crate::proofs::FourLemmas::low_four))]
 fn put_four(value: u64, room: &mut [u8], at: usize)
@@ -108,7 +108,7 @@ fn put_four(value: u64, room: &mut [u8], at: usize)
     put(room, at, &low.to_le_bytes());
 }
 
-/// Writes a field of four bytes, where it begins at `reach` or behind: where it ends then; none where it begins before.
+/// Writes a four-byte field if it begins at `reach` or after it, and returns its end; otherwise None.
 #[inline(always)]
 pub(crate) fn four_behind(reach: u64, offset: u64, value: u64, room: &mut [u8]) -> Option<u64>
     requires lies { offset + 4 ≤ length room.old }
@@ -122,8 +122,7 @@ pub(crate) fn four_behind(reach: u64, offset: u64, value: u64, room: &mut [u8]) 
     Some(offset + 4)
 }
 
-/// Writes a relocation, where its field begins at `reach` or behind: where it ends then; none where it begins
-/// before.
+/// Writes a decided relocation if its field or instruction begins at `reach` or after it, and returns its end; otherwise None.
 #[inline]
 pub(crate) fn write_behind(
     reach: u64,

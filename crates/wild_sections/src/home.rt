@@ -1,4 +1,4 @@
-//! The file of a symbol, as far as the dynamic symbol table tells of it.
+//! What the dynamic symbol table needs to know of a symbol's file and section.
 ghost use Rattle.std.specs.Prelude.{◌≡◌, None, Some, slice_get};
 ghost use Rattle.wild_needs.specs.DynamicSymbols.{section_of_input, output_section};
 ghost use Rattle.wild_sections.specs.Homes.{home_of, home_in};
@@ -6,15 +6,14 @@ ghost use Rattle.wild_sections.specs.Homes.{home_of, home_in};
 use crate::placed::Told;
 use wild_types::{File, FileRole, Layout, Place, SectionIndex};
 
-/// What the file of a symbol is, and the header index of the output section in which the symbol stands, 0 where there is
-/// none.
+/// The role of a symbol's file, and the header index of the output section that the symbol is in, 0 if there is none.
 #[derive(Clone, Copy)]
 pub struct Home {
     pub role: FileRole,
     pub section: SectionIndex,
 }
 
-/// The header index of the output section of an input section; 0 where there is none.
+/// The header index of the output section of an input section; 0 if there is none.
 fn section_of_input(layout: &Layout, file: &File, place: usize) -> SectionIndex
     ensures { result ≡ section_of_input layout.now (slice_get file.now.sections place) }
 {
@@ -24,7 +23,7 @@ fn section_of_input(layout: &Layout, file: &File, place: usize) -> SectionIndex
     }
 }
 
-/// The header index of the output section of a place in a file; 0 where there is none.
+/// The header index of the output section of a place in a file; 0 if there is none.
 pub fn section_in_file(layout: &Layout, file: &File, place: Place) -> SectionIndex
     ensures { result ≡ output_section layout.now (Some file.now) place }
 {
@@ -36,7 +35,7 @@ pub fn section_in_file(layout: &Layout, file: &File, place: Place) -> SectionInd
 }
 
 impl Home {
-    /// That of a symbol of a file.
+    /// These of a symbol of a file.
     fn in_file(layout: &Layout, file: &File, place: Place) -> Home
         ensures { result ≡ home_of layout.now place (Some file.now) }
     {
@@ -46,7 +45,7 @@ impl Home {
         }
     }
 
-    /// That of a symbol that no file has.
+    /// These of a symbol that is in no file.
     pub(crate) fn without_file(place: Place) -> Home
         ensures { (layout : Layout) → result ≡ home_of layout place None }
     {

@@ -1,5 +1,5 @@
-//! Addresses of stubs and slots, by which relocations reach a symbol (x86-64 psABI, "Procedure Linkage Table", "Global
-//! Offset Table (GOT)").
+//! Addresses of PLT stubs and GOT entries that relocations use (x86-64 psABI, "Procedure Linkage Table", "Global Offset
+//! Table (GOT)").
 ghost use Rattle.std.specs.Prelude.{◌≡◌};
 ghost use Rattle.wild_layout.specs.SymbolValues.{address_or};
 ghost use Rattle.wild_layout.specs.SlotValues.{resolution_of, index_of, decided_address, stub_of, is_chosen, stub_address, has_second_slot, behind_word, behind_pair, slot_among, slot_decided, slot_of, slot_address};
@@ -8,7 +8,7 @@ use wild_reloc::SlotSort;
 use wild_slot::{flags_at, next_word};
 use wild_types::{Fault, Layout, Missing, Resolution, SymbolIndex, ValueFlags, has_thread_slot};
 
-/// An address, or what the symbol lacks.
+/// An address, or the fault that the symbol has none of this kind.
 #[inline]
 pub(crate) fn address_or(
     what: Missing,
@@ -26,7 +26,7 @@ pub(crate) fn address_or(
     }
 }
 
-/// What was decided of the symbol's definition.
+/// The resolution of the symbol's definition.
 pub(crate) fn resolution_of(layout: &Layout, symbol: SymbolIndex) -> Option<Resolution>
     ensures { result ≡ resolution_of layout.now symbol }
 {
@@ -46,7 +46,7 @@ pub fn index_of(layout: &Layout, symbol: SymbolIndex) -> Option<u64>
     }
 }
 
-/// The address that was decided of a symbol, its resolver's where a resolver chooses it; or that none was.
+/// The address in the symbol's resolution, that of the resolver for an IFUNC; or the fault that it has none.
 pub fn decided_address(layout: &Layout, symbol: SymbolIndex) -> Result<u64, Fault>
     ensures { result ≡ decided_address layout.now symbol }
 {
@@ -57,7 +57,7 @@ pub fn decided_address(layout: &Layout, symbol: SymbolIndex) -> Result<u64, Faul
     address_or(Missing::Address, symbol, decided)
 }
 
-/// Whether a resolver chooses the function that the symbol names.
+/// Whether the symbol is an IFUNC: a resolver chooses the function at load time.
 #[inline]
 pub(crate) fn is_chosen(layout: &Layout, symbol: SymbolIndex) -> bool
     ensures { result ≡ is_chosen layout.now symbol }
@@ -65,7 +65,7 @@ pub(crate) fn is_chosen(layout: &Layout, symbol: SymbolIndex) -> bool
     flags_at(layout, symbol).is_ifunc()
 }
 
-/// Where the symbol's stub stands.
+/// The address of the symbol's PLT stub.
 pub fn stub_of(layout: &Layout, symbol: SymbolIndex) -> Option<u64>
     ensures { result ≡ stub_of layout.now symbol }
 {
@@ -75,7 +75,7 @@ pub fn stub_of(layout: &Layout, symbol: SymbolIndex) -> Option<u64>
     }
 }
 
-/// The address of the stub of the symbol that a relocation names, 0 where it names none; or that it has no stub.
+/// The address of the PLT stub of a relocation's symbol, 0 without a symbol. Fails if the symbol has no stub.
 pub(crate) fn stub_address(layout: &Layout, symbol: Option<SymbolIndex>) -> Result<u64, Fault>
     ensures { result ≡ stub_address layout.now symbol }
 {
@@ -85,28 +85,28 @@ pub(crate) fn stub_address(layout: &Layout, symbol: Option<SymbolIndex>) -> Resu
     }
 }
 
-/// Whether references to the address use a slot of their own.
+/// Whether references to the symbol's address use a second GOT entry.
 fn has_second_slot(flags: ValueFlags) -> bool
     ensures { result ≡ has_second_slot flags }
 {
     flags.needs_ifunc_got_for_address() || flags.needs_canonical_plt_got_for_address()
 }
 
-/// The place, behind a word where there is one.
+/// The place after a word, if there is one at `place`.
 fn behind_word(word: bool, place: u64) -> u64
     ensures { result ≡ behind_word word place }
 {
     if word { next_word(place) } else { place }
 }
 
-/// The place, behind a pair of words where there is one.
+/// The place after a pair of words, if there is one at `place`.
 fn behind_pair(pair: bool, place: u64) -> u64
     ensures { result ≡ behind_pair pair place }
 {
     if pair { place.wrapping_add(16) } else { place }
 }
 
-/// Where the slot of a sort stands among those of a symbol with these flags, whose first is there.
+/// The address of the GOT entry of a sort, for a symbol with these flags whose first GOT entry is at `first`.
 fn slot_among(sort: SlotSort, flags: ValueFlags, first: u64) -> Option<u64>
     ensures { result ≡ slot_among sort flags first }
 {
@@ -124,7 +124,7 @@ fn slot_among(sort: SlotSort, flags: ValueFlags, first: u64) -> Option<u64>
     }
 }
 
-/// Where the slot of a sort stands, as it was decided.
+/// The address of the GOT entry of a sort, by a resolution.
 fn slot_decided(sort: SlotSort, resolution: Option<Resolution>) -> Option<u64>
     ensures { result ≡ slot_decided sort resolution }
 {
@@ -132,7 +132,7 @@ fn slot_decided(sort: SlotSort, resolution: Option<Resolution>) -> Option<u64>
     slot_among(sort, resolution.flags, resolution.got_address?)
 }
 
-/// Where the symbol's slot of a sort stands; the pair of the output's own thread-local data stands once.
+/// The address of the symbol's GOT entry of a sort. The pair for the output's own thread-local data exists once, for all symbols.
 fn slot_of(layout: &Layout, sort: SlotSort, symbol: SymbolIndex) -> Option<u64>
     ensures { result ≡ slot_of layout.now sort symbol }
 {
@@ -142,7 +142,7 @@ fn slot_of(layout: &Layout, sort: SlotSort, symbol: SymbolIndex) -> Option<u64>
     }
 }
 
-/// The address of that slot of the symbol that a relocation names, 0 where it names none; or that it has no slot.
+/// The address of that GOT entry of a relocation's symbol, 0 without a symbol. Fails if the symbol has no such entry.
 pub(crate) fn slot_address(
     layout: &Layout,
     sort: SlotSort,

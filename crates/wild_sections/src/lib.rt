@@ -1,4 +1,4 @@
-//! What the relocations of an input section write: each decided, and its field filled in.
+//! Applies the relocations of an input section: decides each, and writes its field.
 #![tactic(auto)]
 
 mod choice;

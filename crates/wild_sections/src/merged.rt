@@ -1,5 +1,5 @@
-//! Strings that were merged: which symbols stand for some, and where a byte of their input section went (gABI, "Section Header":
-//! SHF_MERGE, SHF_STRINGS).
+//! Merged strings: which section symbols refer to them, and where a byte of their input section is in the output (gABI, "Section
+//! Header": SHF_MERGE, SHF_STRINGS).
 ghost use Rattle.std.specs.Prelude.{◌≡◌, Bool, true, option_map, option_copied};
 ghost use Rattle.wild_types.specs.declared.file.File.{File};
 ghost use Rattle.wild_types.specs.declared.file.Group.{Group};
@@ -13,7 +13,7 @@ use wild_types::{
     File, Group, InputSection, MergedString, Place, Slot, Symbol, Test, ValueFlags, all_pass,
 };
 
-/// The section is none of merged strings.
+/// A test of input sections: the section does not consist of merged strings.
 pub(crate) struct IsUnmerged;
 
 impl Test<InputSection> for IsUnmerged {
@@ -44,10 +44,10 @@ impl Test<Group> for IsUnmerged {
     }
 }
 
-/// The strings of a section stand in the order of their offsets.
+/// A test of input sections: the section's strings are sorted by offset.
 pub(crate) struct StringsAscend;
 
-/// Whether these do.
+/// Whether strings are sorted by offset.
 fn offsets_ascend(strings: &[MergedString]) -> bool
     ensures { result ≡ offsets_ascend 0 strings.now }
 {
@@ -89,7 +89,7 @@ impl Test<Group> for StringsAscend {
     }
 }
 
-/// Whether a symbol's value is the output's own, and moves with it.
+/// Whether a symbol's value is defined by the output and moves with the load bias.
 pub(crate) fn is_plain_own(flags: ValueFlags) -> bool
     ensures { result ≡ is_plain_own flags }
 {
@@ -100,14 +100,14 @@ pub(crate) fn is_plain_own(flags: ValueFlags) -> bool
         && !flags.is_undefined_weak()
 }
 
-/// Whether the symbol stands for its section.
+/// Whether the symbol is a section symbol (STT_SECTION).
 pub(crate) fn is_section_symbol(symbol: &Symbol) -> bool
     ensures { result ≡ is_section_symbol symbol.now }
 {
     symbol.info % 16 == STT_SECTION
 }
 
-/// The merged section of a file that the symbol, one of the file's, is the section symbol of.
+/// The merged section of a file, if the symbol, one of the file's, is its section symbol.
 pub(crate) fn merged_section<'f>(file: &'f File, symbol: &Symbol) -> Option<&'f InputSection>
     ensures { option_map (λ (s : InputSection). s.strings) (option_copied result) ≡ strings_in file.now symbol.now }
 {
@@ -123,7 +123,7 @@ pub(crate) fn merged_section<'f>(file: &'f File, symbol: &Symbol) -> Option<&'f 
     }
 }
 
-/// The string, where it begins at that byte or before it, else the one in front of it.
+/// The string if it begins at `byte` or before it, otherwise the previous one.
 fn later(last: Option<MergedString>, string: MergedString, byte: u64) -> Option<MergedString>
     ensures { result ≡ later last string byte }
 {
@@ -134,7 +134,7 @@ fn later(last: Option<MergedString>, string: MergedString, byte: u64) -> Option<
     }
 }
 
-/// The last of the strings that begins at that byte or before it. Time n.
+/// The last of the strings that begins at `byte` or before it. Time n.
 fn walk_to(strings: &[MergedString], byte: u64) -> Option<MergedString>
     ensures { result ≡ string_before strings.now byte }
 {
@@ -145,7 +145,7 @@ fn walk_to(strings: &[MergedString], byte: u64) -> Option<MergedString>
     last
 }
 
-/// The same of strings in the order of their offsets. Time log n.
+/// The same for strings that are sorted by offset. Time log n.
 fn halve_to(strings: &[MergedString], byte: u64) -> Option<MergedString>
     requires { offsets_ascend 0 strings.now ≡ true }
     ensures { result ≡ string_before strings.now byte }
@@ -157,8 +157,8 @@ fn halve_to(strings: &[MergedString], byte: u64) -> Option<MergedString>
     Some(strings[count - 1])
 }
 
-/// Where a byte of the input section went whose strings these are: as far behind the last string that begins at it or before it as
-/// it is in the input.
+/// The address of a byte of a merged input section: its distance from the start of its string is kept. Its string is the last one that
+/// begins at the byte or before it.
 pub(crate) fn string_place(strings: &[MergedString], ascends: bool, byte: u64) -> Option<u64>
     requires { ascends ≡ true → offsets_ascend 0 strings.now ≡ true }
     ensures { result ≡ string_place strings.now byte }

@@ -1,4 +1,4 @@
-//! Where an item comes from, for its faults.
+//! Where in the input an item comes from, for error messages.
 ghost use Rattle.std.specs.Prelude.{◌≡◌};
 ghost use Rattle.wild_layout.specs.Faults.{at_offset};
 ghost use Rattle.wild_sections.specs.Origins.{ending_errors};
@@ -8,8 +8,8 @@ use crate::place::InputPlace;
 use wild_frames::BadFrame;
 use wild_types::{Error, Fault, InputRelocation};
 
-/// What an item is made of: the input section, its relocations as that has them, one for each of the item's, and what ended its
-/// frames (LSB, "The .eh_frame section").
+/// The input of an item: the section's place, its input relocations, one for each of the item's, and the fault at which its frames
+/// end, if any (LSB, "The .eh_frame section").
 #[derive(Clone, Copy)]
 pub struct Origin<'a> {
     pub place: InputPlace,
@@ -17,7 +17,7 @@ pub struct Origin<'a> {
     pub ending: Option<BadFrame>,
 }
 
-/// The fault that ended the frames, if there is one.
+/// Returns the fault at which the frames end, if there is one.
 pub(crate) fn check_ending(origin: &Origin) -> Result<(), Error>
     ensures { Answers result (ending_errors origin.now.place origin.now.ending) }
 {

@@ -1,4 +1,4 @@
-//! The least byte of the input that two relocations write.
+//! Detects relocations whose fields overlap in the input, and reports the lowest such byte.
 ghost use Rattle.std.specs.Prelude.{◌≡◌, ◌<◌, length, IfOk, option_to_list};
 ghost use Rattle.wild_words.specs.Extents.{least_extent};
 ghost use Rattle.wild_sections.specs.Decided.{field_extent, template_extent, decided_extent, extent_at, decided_extents, ascends};
@@ -12,7 +12,7 @@ use wild_reloc::RelocationSize;
 use wild_types::InputRelocation;
 use wild_words::{Extent, least_shared};
 
-/// Where a field stands.
+/// The bytes of a field.
 #[inline]
 fn field_extent(offset: u64, size: RelocationSize) -> Extent
     ensures { result ≡ field_extent offset size }
@@ -23,7 +23,7 @@ fn field_extent(offset: u64, size: RelocationSize) -> Extent
     }
 }
 
-/// Where the instruction of a row stands, whose relocation is at that offset.
+/// The bytes of the instruction of a row, whose relocation is at that offset.
 fn template_extent(offset: u64, relocation: &InputRelocation, row: Row) -> Extent
     ensures { result ≡ template_extent offset relocation.now row }
 {
@@ -35,7 +35,7 @@ fn template_extent(offset: u64, relocation: &InputRelocation, row: Row) -> Exten
     }
 }
 
-/// Where a relocation writes that is at that offset in the input; none where it writes nothing.
+/// The bytes of the input that a relocation at that offset writes; None if it writes nothing.
 #[inline]
 fn extent_of(offset: u64, relocation: &InputRelocation, decision: Decision) -> Option<Extent>
     ensures { result ≡ decided_extent offset relocation.now decision }
@@ -50,7 +50,7 @@ fn extent_of(offset: u64, relocation: &InputRelocation, decision: Decision) -> O
     }
 }
 
-/// The same of the relocation in that place.
+/// The bytes of the input that the relocation with that index writes.
 #[inline]
 fn extent_at(
     relocations: &[InputRelocation],
@@ -67,7 +67,7 @@ fn extent_at(
     extent_of(origin.offset, &relocations[index], decisions[index])
 }
 
-/// Whether each field begins where those before it end, or behind.
+/// Whether the fields are sorted and disjoint: each begins at the end of the previous ones or after it.
 #[tactic(auto, unfolding(crate::specs::Decided::ascends, crate::specs::Decided::decided_extents))]
 fn is_ascending(
     relocations: &[InputRelocation],
@@ -90,7 +90,7 @@ fn is_ascending(
     true
 }
 
-/// Where the fields are.
+/// The bytes of the input that the relocations write.
 #[tactic(auto, unfolding(crate::specs::Decided::decided_extents))]
 fn extents_of(
     alloc: Global,
@@ -111,7 +111,7 @@ fn extents_of(
     Ok(extents)
 }
 
-/// The least byte of the input that two relocations write. Fields in order are seen once; others are sorted.
+/// The lowest byte of the input that two relocations write. If the fields are sorted, one pass is enough; otherwise they are sorted.
 #[tactic(auto, using(crate::proofs::DecidedLemmas::ascending_shares_none))]
 pub(crate) fn shared_byte(
     alloc: Global,

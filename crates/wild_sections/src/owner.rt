@@ -1,18 +1,18 @@
-//! Where the file of a symbol is, for layouts with merged sections.
+//! Which file a symbol belongs to, for layouts with merged sections and for relocatable outputs.
 ghost use Rattle.std.specs.Prelude.{◌≡◌, ℕ, ◌<◌, length, None, slice_index_or, option_copied};
 ghost use Rattle.std.specs.Option.{option_or};
 ghost use Rattle.wild_sections.specs.Owners.{owned_by, owner_in, owner_among, file_at};
 
 use wild_types::{File, Group, Layout};
 
-/// A group, and the place of a file in it.
+/// A file: the number of its group, and its index in the group.
 #[derive(Clone, Copy)]
 pub struct Owner {
     pub group: usize,
     pub file: usize,
 }
 
-/// Notes the file for its symbols that no earlier file has.
+/// Records the file for each of its symbols that no earlier file has.
 fn own_file(owner: Owner, file: &File, owners: &mut [Option<Owner>])
     ensures { (k : ℕ) → k < length owners.old → slice_index_or owners.new k None
         ≡ option_or (slice_index_or owners.old k None) (owned_by owner file.now k) }
@@ -25,7 +25,7 @@ fn own_file(owner: Owner, file: &File, owners: &mut [Option<Owner>])
     }
 }
 
-/// Notes the files of a group.
+/// Records the files of a group.
 fn own_files(group: usize, files: &[File], owners: &mut [Option<Owner>])
     ensures { (k : ℕ) → k < length owners.old → slice_index_or owners.new k None
         ≡ option_or (slice_index_or owners.old k None) (owner_in group 0 files.now k) }
@@ -35,7 +35,7 @@ fn own_files(group: usize, files: &[File], owners: &mut [Option<Owner>])
     }
 }
 
-/// Notes the files of all groups.
+/// Records the files of all groups.
 pub(crate) fn own_groups(groups: &[Group], owners: &mut [Option<Owner>])
     ensures { (k : ℕ) → k < length owners.old → slice_index_or owners.new k None
         ≡ option_or (slice_index_or owners.old k None) (owner_among 0 groups.now k) }
@@ -46,7 +46,7 @@ pub(crate) fn own_groups(groups: &[Group], owners: &mut [Option<Owner>])
     }
 }
 
-/// The file in that place.
+/// The file with that position.
 pub(crate) fn file_at(layout: &Layout, owner: Owner) -> Option<&File>
     ensures { option_copied result ≡ file_at layout.now owner }
 {

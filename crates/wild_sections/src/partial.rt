@@ -1,4 +1,4 @@
-//! What tables of relocations and groups of a relocatable object hold (gABI, "Relocation", "Section Groups").
+//! The content of relocation tables and section groups of a relocatable output (gABI, "Relocation", "Section Groups").
 ghost use Rattle.std.specs.Prelude.{◌≡◌, ◌+◌, ◌*◌, ◌<◌, ◌≤◌, true, length, take, option_and_then, option_copied};
 ghost use Rattle.wild_words.specs.Words.{place, word};
 ghost use Rattle.wild_words.specs.Record.{spell};
@@ -18,7 +18,7 @@ use wild_symbols::named_index;
 use wild_types::{File, InputRelocation, InputSection, Place, SectionIndex, Symbol, SymbolIndex};
 use wild_words::put;
 
-/// Where an input section begins in its output section; one that the object keeps by itself begins it.
+/// The offset of an input section in its output section; 0 for a section that is kept as an output section of its own.
 fn base_of(section: &InputSection) -> u64
     ensures { result ≡ base_of section.now }
 {
@@ -28,7 +28,7 @@ fn base_of(section: &InputSection) -> u64
     }
 }
 
-/// Where the section of a section symbol begins in its output section.
+/// The offset in its output section of a section symbol's section; 0 if there is none.
 fn shift_of(section: Option<&InputSection>) -> u64
     ensures { result ≡ shift_of (option_copied section.entry) }
 {
@@ -48,7 +48,7 @@ fn section_at(place: Place, file: &File) -> Option<&InputSection>
     }
 }
 
-/// Whether a symbol stands for its section.
+/// Whether a symbol is a section symbol (STT_SECTION).
 fn is_section_type(symbol: &Symbol) -> bool
     ensures { result ≡ is_section_type symbol.now }
 {
@@ -56,7 +56,7 @@ fn is_section_type(symbol: &Symbol) -> bool
 }
 
 impl<'a, A: Arch> Resolved<'a, A> {
-    /// The input section of the file of a symbol of a relocatable object at a place.
+    /// The input section at a place in the symbol's file, for a relocatable output.
     fn section_in_its_file(&self, index: SymbolIndex, place: Place) -> Option<&'a InputSection>
         requires partial { is_partial_link self.now.layout.now.kind ≡ true }
         requires known { index < length self.now.layout.now.symbols }
@@ -68,7 +68,7 @@ impl<'a, A: Arch> Resolved<'a, A> {
         }
     }
 
-    /// The input section that a symbol of a relocatable object stands in.
+    /// The input section that a symbol is in, for a relocatable output.
     fn symbol_section(&self, index: SymbolIndex) -> Option<&'a InputSection>
         requires { is_partial_link self.now.layout.now.kind ≡ true }
         ensures { option_copied result ≡ symbol_section self.now.layout.now index }
@@ -79,7 +79,7 @@ impl<'a, A: Arch> Resolved<'a, A> {
         }
     }
 
-    /// The same, where the output is a relocatable object.
+    /// The input section that a symbol is in, if the output is relocatable.
     pub fn section_within(&self, index: SymbolIndex) -> Option<&'a InputSection>
         ensures { is_partial_link self.now.layout.now.kind ≡ true → option_copied result ≡ symbol_section self.now.layout.now index }
     {
@@ -90,7 +90,7 @@ impl<'a, A: Arch> Resolved<'a, A> {
         }
     }
 
-    /// So much the addend of a relocation counts more from the output's section symbol than from the input's.
+    /// What is added to a relocation's addend if it is redirected from the input's section symbol to the output's; otherwise 0.
     fn shift(&self, symbol: Option<SymbolIndex>) -> u64
         requires { is_partial_link self.now.layout.now.kind ≡ true }
         ensures { result ≡ shift self.now.layout.now symbol }
@@ -104,7 +104,7 @@ impl<'a, A: Arch> Resolved<'a, A> {
         }
     }
 
-    /// The entry of a relocation of a relocatable object, whose offset is counted in the output section.
+    /// The RELA entry of a relocation in a relocatable output. Its offset is that of the relocation, already in the output section.
     pub fn rela_of(&self, relocation: &InputRelocation) -> Rela
         requires { is_partial_link self.now.layout.now.kind ≡ true }
         ensures { result ≡ rela_of self.now.layout.now relocation.now }
@@ -120,7 +120,7 @@ impl<'a, A: Arch> Resolved<'a, A> {
     }
 }
 
-/// Puts an entry at an offset.
+/// Writes an entry at an offset.
 fn put_rela(out: &mut [u8], at: usize, entry: Rela)
     requires { at + rela_size ≤ length out.old }
     ensures { out.new ≡ place at (spell (rela_fields entry)) out.old }
@@ -130,7 +130,7 @@ fn put_rela(out: &mut [u8], at: usize, entry: Rela)
     put(out, at, &bytes);
 }
 
-/// The bytes of a table of relocations, which stands with the relocations of its target. No memory.
+/// Writes a relocation table that is placed with the relocations of its target section. Allocates nothing.
 #[tactic(auto, using(crate::proofs::PartialLemmas::entries))]
 pub fn write_rela_section<A: Arch>(resolved: &Resolved<A>, section: &InputSection, out: &mut [u8])
     requires partial { is_partial_link resolved.now.layout.now.kind ≡ true }
@@ -142,14 +142,14 @@ pub fn write_rela_section<A: Arch>(resolved: &Resolved<A>, section: &InputSectio
     }
 }
 
-/// As many of the bytes as a word of flags has.
+/// The first bytes, as many as a flag word has.
 fn flags_of(bytes: &[u8]) -> &[u8]
     ensures { result.now ≡ take 4 bytes.now }
 {
     &bytes[..bytes.len().min(4)]
 }
 
-/// Puts the header index of a section that a group has at an offset.
+/// Writes the header index of a group member at an offset.
 #[tactic(auto, using(wild_words::proofs::WordLemmas::low_word_4))]
 fn put_member(out: &mut [u8], at: usize, member: SectionIndex)
     requires { at + 4 ≤ length out.old }
@@ -159,7 +159,7 @@ fn put_member(out: &mut [u8], at: usize, member: SectionIndex)
     put(out, at, &bytes[..4]);
 }
 
-/// The bytes of a group: its flags as they are, and the sections that its members stand in.
+/// Writes a section group: its flags, copied, and the header indexes of its members' output sections.
 #[tactic(auto, using(crate::proofs::PartialLemmas::members), unfolding(wild_layout::specs::Partial::group_words))]
 pub fn write_group_section(section: &InputSection, out: &mut [u8])
     requires { length out.old ≡ length (group_words section.now) }

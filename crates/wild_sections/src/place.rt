@@ -1,10 +1,10 @@
-//! Where an input section stands, for the places of faults.
+//! The place of an input section, for error messages.
 ghost use Rattle.std.specs.Prelude.{◌≡◌};
 ghost use Rattle.wild_layout.specs.Faults.{at_file, at_offset, at_section};
 
 use wild_types::At;
 
-/// An input section: its group, the place of its file in that, and its own place in the file.
+/// An input section: the number of its group, the index of its file in the group, and its index in the file.
 #[derive(Clone, Copy)]
 pub struct InputPlace {
     pub group: usize,

@@ -1,5 +1,5 @@
-//! What the first of the files that have a symbol tells of it, for all symbols. Where the files' ranges of symbols ascend,
-//! each symbol is seen once.
+//! Tables of what the first file with a symbol says of it, for all symbols. If the files' symbol ranges ascend, each symbol is visited
+//! once.
 ghost use Rattle.std.specs.Prelude.{◌≡◌, ℕ, ◌<◌, [], ◌∷◌, length, None, slice_index_or};
 ghost use Rattle.std.specs.Option.{option_or};
 ghost use Rattle.wild_types.specs.Lookups.{files_of};
@@ -8,16 +8,16 @@ ghost use Rattle.wild_sections.specs.Placed.{stands_in};
 
 use wild_types::{File, Layout, Place, Symbol};
 
-/// What a file tells of a symbol.
+/// A property of a symbol in a file.
 pub(crate) trait Told: Copy {
     ghost use Rattle.std.specs.Prelude.{◌≡◌, ℕ};
     ghost use Rattle.wild_types.specs.declared.file.File.{File};
     ghost use Rattle.wild_types.specs.declared.layout.Layout.{Layout};
 
-    // What a file tells of the symbol of that number
+    // The property of symbol `index` in a file
     ghost told: { Layout → ℕ → File → Self };
 
-    /// What a file tells of the symbol of that number.
+    /// The property of symbol `index` in a file.
     fn tell(layout: &Layout, index: usize, file: &File) -> Self
         ensures { result ≡ told layout.now index file.now };
 }
@@ -37,7 +37,7 @@ fn stands_in(layout: &Layout, file: &File, symbol: &Symbol) -> Option<u64>
     }
 }
 
-/// An address; none where the symbol has none in its file.
+/// The property "address": None if the symbol has no address in the file.
 impl Told for Option<u64> {
     ghost use Rattle.wild_sections.specs.Placed.{address_in};
 
@@ -52,7 +52,7 @@ impl Told for Option<u64> {
     }
 }
 
-/// Places the symbols of a file that no earlier file has.
+/// Records the symbols of a file that no earlier file has.
 fn place_file<T: Told>(layout: &Layout, file: &File, placed: &mut [Option<T>])
     ensures { (k : ℕ) → k < length placed.old → slice_index_or placed.new k None
         ≡ option_or (slice_index_or placed.old k None) (found (T.told layout.now) (file.now ∷ []) k) }
@@ -64,7 +64,7 @@ fn place_file<T: Told>(layout: &Layout, file: &File, placed: &mut [Option<T>])
     }
 }
 
-/// Places the symbols of some files.
+/// Records the symbols of some files.
 fn place_files<T: Told>(layout: &Layout, files: &[File], placed: &mut [Option<T>])
     ensures { (k : ℕ) → k < length placed.old → slice_index_or placed.new k None
         ≡ option_or (slice_index_or placed.old k None) (found (T.told layout.now) files.now k) }
@@ -74,7 +74,7 @@ fn place_files<T: Told>(layout: &Layout, files: &[File], placed: &mut [Option<T>
     }
 }
 
-/// Places all symbols.
+/// Records the symbols of all files.
 pub(crate) fn place_groups<T: Told>(layout: &Layout, placed: &mut [Option<T>])
     ensures { (k : ℕ) → k < length placed.old → slice_index_or placed.new k None
         ≡ option_or (slice_index_or placed.old k None) (found (T.told layout.now) (files_of layout.now.groups) k) }

@@ -1,4 +1,4 @@
-//! What is decided of one relocation that keeps its instruction.
+//! Decides a relocation whose instruction is not rewritten.
 ghost use Rattle.std.specs.Prelude.{◌≡◌, true, false, None};
 ghost use Rattle.wild_types.specs.Kinds.{is_position_independent};
 ghost use Rattle.wild_types.specs.Rows.{row_of};
@@ -25,10 +25,10 @@ use wild_reloc::{
 use wild_slot::{Treatment, flags_at, is_replaceable, row_treatment, suited, type_of};
 use wild_types::{Fault, InputRelocation, ItemRef, Layout, Machine, Missing, SymbolIndex};
 
-/// The field of an address that moves.
+/// The field of an address in memory, 8 bytes.
 pub(crate) const ADDRESS: RelocationSize = RelocationSize::ByteSize(Width::Eight);
 
-/// A value in the field of a row, where that takes it.
+/// A value in the field of a row, or the fault that it is out of range.
 #[inline]
 pub fn field(row: &RelocationKindInfo, value: u64) -> Result<Decision, Fault>
     ensures { result ≡ field row.now value }
@@ -43,7 +43,7 @@ pub fn field(row: &RelocationKindInfo, value: u64) -> Result<Decision, Fault>
     }
 }
 
-/// The value of a row in its field.
+/// Computes the value of a row and puts it in the field.
 #[inline]
 fn field_for<A: Arch>(
     resolved: &Resolved<A>,
@@ -59,7 +59,7 @@ fn field_for<A: Arch>(
     reached(resolved, item, relocation, row, value)
 }
 
-/// An address that moves with the base: packed, or listed as an entry.
+/// An address that moves with the load bias: packed in `.relr.dyn`, or with a RELATIVE entry.
 #[inline]
 fn moved_to<A: Arch>(
     resolved: &Resolved<A>,
@@ -75,14 +75,14 @@ fn moved_to<A: Arch>(
     })
 }
 
-/// The addend as an entry has it, modulo 2^64.
+/// The addend as a RELA entry has it, modulo 2^64.
 pub fn added(relocation: &InputRelocation) -> u64
     ensures { result ≡ added relocation.now }
 {
     relocation.addend.cast_unsigned()
 }
 
-/// The field is left to an entry of that number, which names the symbol by its index in the dynamic symbol table.
+/// The dynamic linker fills the field, by an entry of type `number` that names the symbol by its index in the dynamic symbol table.
 fn left_to(
     layout: &Layout,
     size: RelocationSize,
@@ -106,7 +106,7 @@ fn left_to(
     }
 }
 
-/// The field of a size is left so; that of an own symbol is known, and has to fit the field.
+/// The dynamic linker fills the field with the symbol's size. If the symbol is not interposable, its size is known and must fit.
 fn sized_to(
     layout: &Layout,
     relocation: &InputRelocation,
@@ -124,7 +124,7 @@ fn sized_to(
     }
 }
 
-/// The field is left to an entry with the address of a resolver, to whose answer nothing can be added.
+/// The dynamic linker fills the field by an IRELATIVE entry with the resolver's address. An addend other than 0 is refused.
 fn chosen_to(
     layout: &Layout,
     relocation: &InputRelocation,
@@ -146,7 +146,7 @@ fn chosen_to(
     })
 }
 
-/// The same, where the row is an S + A - P of x86-64, which goes by no thunk.
+/// The value S + A - P for a row of x86-64 without thunks.
 #[inline]
 #[tactic(auto, unfolding(wild_layout::specs::Decide::reached))]
 pub(crate) fn distance_for<A: Arch>(
@@ -166,7 +166,7 @@ pub(crate) fn distance_for<A: Arch>(
     field(row, displacement(address, relocation.addend, place))
 }
 
-/// Whether the row is an S + A - P of x86-64 in an output that does not move, so that its value is written whatever the symbol is.
+/// Whether the row is S + A - P of x86-64 in an output that is not position-independent: its value is written for every symbol.
 #[inline]
 pub(crate) fn is_fixed_distance(layout: &Layout, row: &RelocationKindInfo) -> bool
     ensures kind { result ≡ true → row.now.kind ≡ Relative }
@@ -182,7 +182,7 @@ pub(crate) fn is_fixed_distance(layout: &Layout, row: &RelocationKindInfo) -> bo
         && !layout.kind.is_position_independent()
 }
 
-/// What is decided of a relocation that keeps its instruction.
+/// Decides a relocation whose instruction is not rewritten.
 #[inline(always)]
 pub(crate) fn decided<A: Arch>(
     resolved: &Resolved<A>,
@@ -203,7 +203,7 @@ pub(crate) fn decided<A: Arch>(
     }
 }
 
-/// The same, by the row of its type, where that takes the relocation.
+/// The same, by the row of its type if that accepts the relocation.
 #[tactic(auto, unfolding(wild_layout::specs::Decide::decided, wild_slot::specs::Treatment::treatment))]
 fn decided_by<A: Arch>(
     resolved: &Resolved<A>,

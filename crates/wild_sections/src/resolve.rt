@@ -1,4 +1,4 @@
-//! The value that a relocation writes.
+//! Computes the value that a relocation writes.
 ghost use Rattle.std.specs.Prelude.{◌≡◌};
 ghost use Rattle.wild_layout.specs.SymbolValues.{sum, displacement, less, storage_start, is_undefined, symbol_size, raw_address};
 ghost use Rattle.wild_layout.specs.SlotValues.{address_of};
@@ -14,8 +14,8 @@ use wild_reloc::{RelocationKindInfo, Taken, Term};
 use wild_slot::{flags_at, page_of, thread_pointer};
 use wild_types::{Fault, InputRelocation, Layout, Machine, Missing, Place, SymbolIndex};
 
-/// The address that was decided of the symbol that a relocation names, or where that stands, 0 where it names none; or
-/// that it has no address.
+/// The address of a relocation's symbol: by its resolution, or by its place in its section; 0 without a symbol. Fails if the symbol has
+/// no address.
 #[inline]
 pub fn raw_address<A: Arch>(
     resolved: &Resolved<A>,
@@ -29,8 +29,7 @@ pub fn raw_address<A: Arch>(
     }
 }
 
-/// The address of the symbol that a relocation names, that of its stub where a resolver chooses it, 0 where it names
-/// none; or what the symbol lacks.
+/// The address of a relocation's symbol, that of its PLT stub for an IFUNC; 0 without a symbol. Fails if the symbol has neither.
 #[inline]
 pub(crate) fn address_of<A: Arch>(
     resolved: &Resolved<A>,
@@ -44,7 +43,7 @@ pub(crate) fn address_of<A: Arch>(
     }
 }
 
-/// The byte of a merged section that a symbol's value and an addend tell.
+/// The offset in a merged section that a section symbol and an addend name.
 fn merged_byte(layout: &Layout, symbol: SymbolIndex, relocation: &InputRelocation) -> u64
     ensures { result ≡ merged_byte layout.now symbol relocation.now }
 {
@@ -55,8 +54,8 @@ fn merged_byte(layout: &Layout, symbol: SymbolIndex, relocation: &InputRelocatio
     sum(value, relocation.addend)
 }
 
-/// S of a relocation in a layout with merged sections: where the symbol is the section symbol of one, so much less than the string's
-/// place that A gives that.
+/// S of a relocation in a layout with merged sections. For the section symbol of a merged section, S is the string's address minus A, so
+/// that S + A is the address.
 #[inline(never)]
 #[tactic(auto, unfolding(wild_layout::specs::Merged::address_for))]
 fn address_among<A: Arch>(
@@ -102,7 +101,7 @@ pub fn sum(symbol: u64, addend: i64) -> u64
     symbol.wrapping_add_signed(addend)
 }
 
-/// An address, or 0 where there is none.
+/// The address, or 0 if there is none.
 #[inline]
 pub fn or_zero(address: Result<u64, Fault>) -> u64
     ensures { result ≡ or_zero address }
@@ -113,7 +112,7 @@ pub fn or_zero(address: Result<u64, Fault>) -> u64
     }
 }
 
-/// S + A of a relocation whose address moves; A where the symbol has no address.
+/// S + A of a relocation whose address moves with the load bias; A if the symbol has no address.
 #[inline]
 pub fn moved_value<A: Arch>(resolved: &Resolved<A>, relocation: &InputRelocation) -> u64
     ensures { result ≡ moved_value resolved.now.layout.now relocation.now }
@@ -132,7 +131,7 @@ pub(crate) fn displacement(symbol: u64, addend: i64, place: u64) -> u64
     sum(symbol, addend).wrapping_sub(place)
 }
 
-/// One address less another.
+/// The difference of two addresses.
 #[inline]
 pub(crate) fn less(address: u64, start: u64) -> u64
     ensures { result ≡ less address start }
@@ -140,7 +139,7 @@ pub(crate) fn less(address: u64, start: u64) -> u64
     address.wrapping_sub(start)
 }
 
-/// Where offsets in a module's thread storage are counted from.
+/// The address that offsets in the module's thread-local storage are relative to.
 fn storage_start(layout: &Layout) -> u64
     ensures { result ≡ storage_start layout.now }
 {
@@ -161,7 +160,7 @@ fn is_undefined(layout: &Layout, symbol: SymbolIndex) -> bool
     }
 }
 
-/// How many bytes the symbol's definition has.
+/// The size of the symbol's definition in bytes.
 pub(crate) fn symbol_size(layout: &Layout, symbol: SymbolIndex) -> u64
     ensures { result ≡ symbol_size layout.now symbol }
 {
@@ -171,7 +170,7 @@ pub(crate) fn symbol_size(layout: &Layout, symbol: SymbolIndex) -> u64
     }
 }
 
-/// How many bytes the symbol that a relocation names has.
+/// The size of a relocation's symbol in bytes.
 fn size_of(layout: &Layout, symbol: Option<SymbolIndex>) -> u64
     ensures { result ≡ size_of layout.now symbol }
 {
@@ -181,7 +180,7 @@ fn size_of(layout: &Layout, symbol: Option<SymbolIndex>) -> u64
     }
 }
 
-/// An address, as far as there is one, counted from a start.
+/// The offset of an address from a start, or the fault that there is no address.
 #[inline]
 pub fn behind(start: u64, address: Result<u64, Fault>) -> Result<u64, Fault>
     ensures { result ≡ behind start address }
@@ -192,7 +191,7 @@ pub fn behind(start: u64, address: Result<u64, Fault>) -> Result<u64, Fault>
     }
 }
 
-/// The offset of a symbol from the thread pointer; an undefined one has none, and counts as 0.
+/// The offset of a symbol from the thread pointer; 0 for an undefined symbol, which has none.
 pub fn pointer_offset<A: Arch>(
     resolved: &Resolved<A>,
     symbol: Option<SymbolIndex>,
@@ -209,7 +208,7 @@ pub fn pointer_offset<A: Arch>(
     behind(pointer, raw_address(resolved, symbol))
 }
 
-/// What A is added to; or what the symbol lacks.
+/// The term of a row's formula that A is added to: GOT, Z, S, L, G, or an offset. Fails if the symbol lacks it.
 #[inline]
 fn term_value<A: Arch>(
     resolved: &Resolved<A>,
@@ -234,7 +233,7 @@ fn term_value<A: Arch>(
     }
 }
 
-/// The same of a relocation, whose addend tells of merged strings where S is.
+/// The same for a relocation. In S of a merged string, the addend selects the string.
 #[inline]
 fn term_by<A: Arch>(
     resolved: &Resolved<A>,
@@ -249,7 +248,7 @@ fn term_by<A: Arch>(
     }
 }
 
-/// The sum of what A is added to and A, less what is taken from it.
+/// The term plus A, minus what the formula subtracts (P, GOT, or a page).
 #[inline]
 fn value_less(layout: &Layout, taken: Taken, term: u64, addend: i64, place: u64) -> u64
     ensures { result ≡ value_less layout.now taken term addend place }
@@ -263,7 +262,7 @@ fn value_less(layout: &Layout, taken: Taken, term: u64, addend: i64, place: u64)
     }
 }
 
-/// The value that a row writes, for what A is added to, with that addend at that place.
+/// The value that a row writes, for a term, an addend and a place.
 #[inline]
 pub(crate) fn value_in(
     layout: &Layout,
@@ -277,7 +276,7 @@ pub(crate) fn value_in(
     value_less(layout, row.taken(), term, addend, place)
 }
 
-/// Whether nothing defines the symbol, which is weak, and no stub goes on to what another module has for it.
+/// Whether the symbol is weak and undefined, and has no PLT stub that another module's definition might serve.
 fn is_absent(layout: &Layout, symbol: Option<SymbolIndex>) -> bool
     ensures { result ≡ is_absent layout.now symbol }
 {
@@ -288,7 +287,7 @@ fn is_absent(layout: &Layout, symbol: Option<SymbolIndex>) -> bool
     flags.is_undefined_weak() && !flags.needs_plt()
 }
 
-/// Whether P, or its page, is taken.
+/// Whether the formula subtracts P, or its page.
 fn is_place(taken: Taken) -> bool
     ensures { result ≡ is_place taken }
 {
@@ -302,7 +301,7 @@ fn is_symbol(term: Term) -> bool
     matches!(term, Term::Symbol | Term::Stub)
 }
 
-/// Whether the place itself stands for the symbol, which is not there.
+/// Whether an undefined weak symbol resolves to the place itself (AArch64).
 #[inline]
 fn is_own_place(layout: &Layout, relocation: &InputRelocation, row: &RelocationKindInfo) -> bool
     ensures { result ≡ is_own_place layout.now.machine layout.now relocation.now row.now }
@@ -317,14 +316,14 @@ fn is_own_place(layout: &Layout, relocation: &InputRelocation, row: &RelocationK
     }
 }
 
-/// What stands for a symbol that is not there, at that place: a distance is A, and a branch goes on behind itself.
+/// The address used for an undefined weak symbol at that place: the distance is then A, and a branch goes to the next instruction.
 fn undefined_weak_target(number: u32, place: u64) -> u64
     ensures { result ≡ undefined_weak_target number place }
 {
     place.wrapping_add(if is_branch(number) { 4 } else { 0 })
 }
 
-/// What A is added to, by a row, at that place; or what the symbol lacks.
+/// The term of a row's formula at that place. Fails if the symbol lacks it.
 #[inline]
 pub(crate) fn term_at<A: Arch>(
     resolved: &Resolved<A>,

@@ -1,5 +1,5 @@
-//! What is decided of the relocations of an item: of one whose instruction is rewritten by the row that stands, of the call
-//! that a rewritten sequence takes along nothing, and of each other by itself.
+//! Decides each relocation of an item: one whose instruction a row rewrites, the call that is part of a rewritten sequence (nothing is
+//! written for it), and any other.
 ghost use Rattle.std.specs.Prelude.{◌≡◌, ◌<◌, length, Ok};
 ghost use Rattle.wild_layout.specs.Decide.{place_to, value_to, term_to, rewritten_to, refused_with, decide};
 ghost use Rattle.wild_types.specs.Item.{item_now};
@@ -22,7 +22,7 @@ fn place_to(item: &ItemRef, relocation: &InputRelocation, row: Row) -> u64
     ((item.address as u128 + offset) % (1 << 64)) as u64
 }
 
-/// The value that the row writes, at the field's new place; a row that keeps the bytes around the field has that alone.
+/// Writes the row's value at the field's new place. A row that keeps the instruction's bytes writes the field only.
 fn value_to<A: Arch>(
     resolved: &Resolved<A>,
     item: &ItemRef,
@@ -49,7 +49,7 @@ fn value_to<A: Arch>(
     }
 }
 
-/// What is needed of the symbol to write so at that place; a kind without a value needs nothing.
+/// The term of the written instruction's formula at that place; 0 if the formula has no value.
 fn term_to<A: Arch>(
     resolved: &Resolved<A>,
     relocation: &InputRelocation,
@@ -64,7 +64,7 @@ fn term_to<A: Arch>(
     }
 }
 
-/// What is decided of a relocation whose instruction a row rewrites.
+/// Decides a relocation whose instruction a row rewrites.
 fn rewritten_to<A: Arch>(
     resolved: &Resolved<A>,
     item: &ItemRef,
@@ -78,7 +78,7 @@ fn rewritten_to<A: Arch>(
     value_to(resolved, item, relocation, row, term)
 }
 
-/// A row stands without its sequence: what it lacks of the symbol comes first.
+/// Refuses a relocation whose sequence is unknown. A fault of the symbol is reported first.
 fn refused_with<A: Arch>(
     resolved: &Resolved<A>,
     item: &ItemRef,
@@ -94,7 +94,7 @@ fn refused_with<A: Arch>(
     })
 }
 
-/// What is decided of a relocation of an item.
+/// Decides a relocation of an item.
 #[tactic(auto, unfolding(wild_layout::specs::Decide::decide))]
 pub(crate) fn decide<A: Arch>(
     resolved: &Resolved<A>,

@@ -1,4 +1,4 @@
-//! The bytes of items: input bytes with their relocations.
+//! Writes items: input bytes with their relocations applied.
 ghost use Rattle.std.specs.Prelude.{◌≡◌, [], length, Ok, None, OnOk, IfOk, IfErr, All, true, slice_get, ◌<◌, ◌^◌};
 ghost use Rattle.std.specs.List.{flat_map, range_with_len};
 ghost use Rattle.wild_words.specs.Overlay.{overlay, AreApart};
@@ -25,7 +25,7 @@ use wild_layout::Decision;
 use wild_relax::Arch;
 use wild_types::{Error, Fault, ItemRef, Part};
 
-/// What is decided of a relocation of an item of the section at that place, or its fault.
+/// Decides a relocation of an item of the section at that place, or returns its fault.
 #[inline(always)]
 fn decide_at<A: Arch>(
     resolved: &Resolved<A>,
@@ -49,7 +49,7 @@ fn decide_at<A: Arch>(
     }
 }
 
-/// What is decided of each relocation of an item, or the first fault of one.
+/// Decides all relocations of an item, or returns the first fault.
 fn decide_all<A: Arch>(
     alloc: Global,
     resolved: &Resolved<A>,
@@ -68,7 +68,7 @@ fn decide_all<A: Arch>(
     Ok(decisions)
 }
 
-/// Refuses an item of which two relocations write one byte of the input.
+/// Refuses an item if two of its relocations write the same byte of the input.
 fn check_overlap(
     alloc: Global,
     origin: &Origin,
@@ -88,8 +88,8 @@ fn check_overlap(
     }
 }
 
-/// Writes the relocations of an item over its bytes, as they were decided. What each writes stands apart from the
-/// others, so that it is made of the item's own bytes.
+/// Writes the decided relocations of an item over its bytes. Their fields are disjoint, so each instruction is made from the item's own
+/// bytes.
 fn write_decisions(item: &ItemRef, decisions: &[Decision], room: &mut [u8])
     requires count { length decisions.now ≡ length item.now.relocations.now }
     requires bytes { room.old ≡ item.now.bytes.now }
@@ -103,8 +103,7 @@ fn write_decisions(item: &ItemRef, decisions: &[Decision], room: &mut [u8])
     }
 }
 
-/// Decides a relocation and writes it, where its bytes begin at `reach` or behind: where they end then; none where they
-/// begin before.
+/// Decides a relocation and writes it if its bytes begin at `reach` or after it; returns their end, otherwise None.
 #[inline(never)]
 fn write_decided<A: Arch>(
     resolved: &Resolved<A>,
@@ -127,8 +126,8 @@ fn write_decided<A: Arch>(
     Ok(write_behind(reach, relocation, decision, room))
 }
 
-/// Writes the relocations of an item over its bytes, as long as what each writes begins where those before it
-/// end, or behind: tells whether all did, or answers the first fault of a relocation.
+/// Writes the relocations of an item over its bytes, as long as the bytes of each begin at the end of the previous ones or after it.
+/// Returns whether all did, or the first fault of a relocation.
 fn write_ascending<A: Arch>(
     resolved: &Resolved<A>,
     origin: &Origin,
@@ -146,7 +145,7 @@ fn write_ascending<A: Arch>(
     let relocations = item.relocations;
     let targets = resolved.targets();
     let mut reach = 0;
-    // Whether rows of the relocation before may take this one along.
+    // Whether rows for the previous relocation's type may include this one.
     let mut partner = false;
     for index in 0..relocations.len() {
         let relocation = &relocations[index];
@@ -168,7 +167,8 @@ fn write_ascending<A: Arch>(
     Ok(true)
 }
 
-/// Writes the bytes of an item with its fields in any order, or answers its first fault: all relocations are decided and found apart before one is written.
+/// Writes the bytes of an item whose relocations are in any order. Decides all relocations, and checks that their fields are disjoint,
+/// before it writes one; returns the first fault.
 fn write_apart<A: Arch>(
     alloc: Global,
     resolved: &Resolved<A>,
@@ -190,8 +190,8 @@ fn write_apart<A: Arch>(
     Ok(())
 }
 
-/// Writes the bytes of an item with its fields, or answers its first fault, with the place that it has in the input. Fields in order
-/// are decided and written once; only others ask for memory.
+/// Writes the bytes of an item with its relocations applied, or returns its first fault, with its place in the input. Relocations sorted
+/// by offset are decided and written in one pass; only others allocate memory.
 pub fn write_data<A: Arch>(
     alloc: Global,
     resolved: &Resolved<A>,

@@ -1,4 +1,4 @@
-//! The addresses that distances are counted to, where nothing but the symbol tells them.
+//! A table of symbol addresses for the fast path of S + A - P, where the address depends on the symbol only.
 ghost use Rattle.std.specs.Prelude.{◌≡◌, ℕ, ◌<◌, length, Some, IfOk, slice_get};
 ghost use Rattle.wild_sections.specs.Owners.{asks_owners};
 ghost use Rattle.wild_sections.specs.Targets.{has_targets, may_be_merged, target_of, HasTargets, IsTarget};
@@ -11,14 +11,14 @@ use std::alloc::{AllocError, Global};
 use wild_relax::Arch;
 use wild_types::{Layout, Machine, SymbolIndex};
 
-/// Whether S + A - P is written whatever the symbol is: in an output of x86-64 that does not move.
+/// Whether S + A - P is written for every symbol: in an x86-64 output that is not position-independent.
 fn has_targets(layout: &Layout) -> bool
     ensures { result ≡ has_targets layout.now }
 {
     matches!(layout.machine, Machine::X86_64) && !layout.kind.is_position_independent()
 }
 
-/// Whether the symbol may stand for merged strings, where there are some.
+/// Whether the symbol may be the section symbol of merged strings.
 fn may_be_merged(asks: bool, layout: &Layout, index: usize) -> bool
     ensures { result ≡ may_be_merged asks (slice_get layout.now.symbols index) }
 {
@@ -28,7 +28,7 @@ fn may_be_merged(asks: bool, layout: &Layout, index: usize) -> bool
     }
 }
 
-/// The address of a symbol, where nothing but the symbol tells it.
+/// The address of a symbol; None for an IFUNC, and for a symbol that may name merged strings.
 #[tactic(auto, using(crate::proofs::ValueLemmas::table_values))]
 fn target_of(layout: &Layout, values: &[Option<u64>], asks: bool, index: usize) -> Option<u64>
     requires asks { asks ≡ asks_owners layout.now }
@@ -43,7 +43,7 @@ fn target_of(layout: &Layout, values: &[Option<u64>], asks: bool, index: usize) 
     }
 }
 
-/// These addresses of all symbols; of an output that has none nothing is kept.
+/// The table for all symbols; empty if the output has no use for it.
 #[tactic(auto, using(crate::proofs::TargetLemmas::no_table, crate::proofs::TargetLemmas::table_made))]
 pub(crate) fn targets_of(
     alloc: Global,
@@ -66,7 +66,7 @@ pub(crate) fn targets_of(
     Ok(targets)
 }
 
-/// What a distance to a symbol is counted to, by the table of these.
+/// The address of a symbol in the table, if it has one there.
 #[inline(always)]
 #[tactic(auto, using(crate::proofs::TargetLemmas::target_at))]
 pub(crate) fn target_in<A: Arch>(

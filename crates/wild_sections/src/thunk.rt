@@ -1,4 +1,4 @@
-//! Branches, which go by thunks where their targets are out of range ("ELF for the Arm 64-bit Architecture", "Call and Jump
+//! Branches, which use thunks if their targets are out of range ("ELF for the Arm 64-bit Architecture", "Call and Jump
 //! relocations").
 ghost use Rattle.std.specs.Prelude.{◌≡◌, ◌<◌, ◌≤◌, All, length};
 ghost use Rattle.wild_types.specs.Item.{item_now};
@@ -16,7 +16,7 @@ use wild_relax::Arch;
 use wild_reloc::RelocationKindInfo;
 use wild_types::{Fault, InputRelocation, ItemRef, Layout, SymbolIndex, Thunk};
 
-/// The half of two thunks or more that the thunk of a symbol is in, if there is one.
+/// The half of two or more thunks that has the thunk of a symbol, if there is one.
 fn half_of(thunks: &[Thunk], symbol: SymbolIndex) -> &[Thunk]
     requires some { 2 ≤ length thunks.now }
     requires order { Ascend thunks.now }
@@ -48,14 +48,14 @@ fn thunk_of(thunks: &[Thunk], symbol: SymbolIndex) -> Option<Thunk>
     }
 }
 
-/// Whether references to a symbol take what its definition goes by.
+/// Whether references to a symbol use its definition's resolution.
 fn goes_by_definition(layout: &Layout, symbol: SymbolIndex) -> bool
     ensures { result ≡ goes_by_definition layout.now symbol }
 {
     layout.canonical(symbol) == symbol || resolution_of(layout, symbol).is_some()
 }
 
-/// The thunk of a block that carries branches to a symbol.
+/// The thunk of a block for branches to a symbol.
 fn thunk_for(layout: &Layout, block: usize, symbol: Option<SymbolIndex>) -> Option<Thunk>
     requires { All Ascend layout.now.thunk_blocks }
     ensures { result ≡ thunk_for layout.now block symbol }
@@ -68,7 +68,7 @@ fn thunk_for(layout: &Layout, block: usize, symbol: Option<SymbolIndex>) -> Opti
     }
 }
 
-/// The distance to a thunk in the field of a branch, to which a thunk has nothing to add.
+/// The distance to a thunk, in the field of a branch. An addend other than 0 is refused.
 fn carried(
     relocation: &InputRelocation,
     row: &RelocationKindInfo,
@@ -87,7 +87,7 @@ fn carried(
     field(row, distance)
 }
 
-/// The same for the thunk, if there is one, of a branch that the value is too far for.
+/// The distance to the thunk of a branch whose target is out of range. Fails if there is no thunk.
 #[inline(never)]
 fn carried_by(
     layout: &Layout,
@@ -108,7 +108,7 @@ fn carried_by(
     }
 }
 
-/// A value in the field of a row; a branch out of whose range it is goes by a thunk.
+/// A value in the field of a row. A branch whose target is out of range uses a thunk.
 #[inline]
 #[tactic(auto, unfolding(wild_layout::specs::Decide::reached))]
 pub(crate) fn reached<A: Arch>(

@@ -1,5 +1,5 @@
-//! What is known of all symbols, told once and kept beside their layout: their values, and the files of those that the
-//! dynamic symbol table may have.
+//! Properties of all symbols, computed once for a layout: their values, and the files of those that may be in the dynamic symbol
+//! table.
 ghost use Rattle.std.specs.Prelude.{◌≡◌, ℕ, ◌<◌, true, false, List, [], length, map, Option, IfOk, IfSome, Some, None, replicate, slice_get, option_copied, option_map, option_and_then};
 ghost use Rattle.std.specs.List.{range_with_len};
 ghost use Rattle.wild_types.specs.Kinds.{needs_dynsym, is_partial_link};
@@ -33,7 +33,7 @@ use wild_slot::flags_at;
 use wild_symbols::{NamedSections, build_sym_index_map};
 use wild_types::{File, InputSection, Layout, Symbol, SymbolIndex, all_pass};
 
-/// The value that was decided of the symbol's definition.
+/// The value in the resolution of the symbol's definition.
 fn decided(layout: &Layout, symbol: SymbolIndex) -> Option<u64>
     ensures { result ≡ decided layout.now symbol }
 {
@@ -43,7 +43,7 @@ fn decided(layout: &Layout, symbol: SymbolIndex) -> Option<u64>
     }
 }
 
-/// The values of all symbols, by a table in which none is placed yet.
+/// The values of all symbols, computed in a table without entries.
 fn values_by(
     alloc: Global,
     layout: &Layout,
@@ -60,7 +60,7 @@ fn values_by(
     Ok(values)
 }
 
-/// The values that were decided of all symbols; none where one has none.
+/// The values of all symbols by their resolutions; None if one has no value there.
 fn decided_values(alloc: Global, layout: &Layout) -> Result<Option<Vec<Option<u64>>>, AllocError>
     ensures { IfOk result (λ o. IfSome o (λ v. HasValues layout.now v.items)) }
 {
@@ -75,7 +75,7 @@ fn decided_values(alloc: Global, layout: &Layout) -> Result<Option<Vec<Option<u6
     Ok(Some(values))
 }
 
-/// The values of all symbols. The files are gone through where one has none that was decided.
+/// The values of all symbols. Walks the files only if a symbol's resolution has no value.
 fn values_of(alloc: Global, layout: &Layout) -> Result<Vec<Option<u64>>, AllocError>
     ensures { IfOk result (λ v. HasValues layout.now v.items) }
 {
@@ -86,7 +86,7 @@ fn values_of(alloc: Global, layout: &Layout) -> Result<Vec<Option<u64>>, AllocEr
     values_by(alloc, layout, &mut placed)
 }
 
-/// Where the symbols of an output with a dynamic symbol table stand; of another nothing is kept.
+/// The files and sections of the symbols of an output with a dynamic symbol table; empty for other outputs.
 fn homes_of(alloc: Global, layout: &Layout) -> Result<Vec<Option<Home>>, AllocError>
     ensures { IfOk result (λ v. HasHomes layout.now v.items) }
 {
@@ -102,28 +102,28 @@ fn homes_of(alloc: Global, layout: &Layout) -> Result<Vec<Option<Home>>, AllocEr
     Ok(homes)
 }
 
-/// Whether no section of the layout is one of merged strings.
+/// Whether no section of the layout consists of merged strings.
 fn are_unmerged(layout: &Layout) -> bool
     ensures { result ≡ are_unmerged layout.now }
 {
     all_pass(&IsUnmerged, layout.groups.as_slice())
 }
 
-/// Whether the strings of each section are in the order of their offsets.
+/// Whether the strings of each section are sorted by offset.
 fn all_ascend(layout: &Layout) -> bool
     ensures { result ≡ all_ascend layout.now }
 {
     all_pass(&StringsAscend, layout.groups.as_slice())
 }
 
-/// Whether the files of symbols are looked for: where there are merged sections, and in a relocatable object.
+/// Whether relocations depend on the file that defines a symbol: if there are merged sections, and in a relocatable output.
 fn asks_owners(layout: &Layout) -> bool
     ensures { result ≡ asks_owners layout.now }
 {
     layout.kind.is_partial_link() || !are_unmerged(layout)
 }
 
-/// Where the files of symbols are; of a layout in which none is looked for nothing is kept.
+/// The files of all symbols; empty if relocations do not depend on them.
 fn owners_of(alloc: Global, layout: &Layout, asks: bool) -> Result<Vec<Option<Owner>>, AllocError>
     requires { asks ≡ asks_owners layout.now }
     ensures { IfOk result (λ v. HasOwners layout.now v.items) }
@@ -136,7 +136,7 @@ fn owners_of(alloc: Global, layout: &Layout, asks: bool) -> Result<Vec<Option<Ow
     Ok(owners)
 }
 
-/// The numbers of the symbols of a relocatable object in its table; of another output nothing is kept.
+/// The indexes of all symbols in the `.symtab` of a relocatable output; empty for other outputs.
 fn indexes_of(alloc: Global, layout: &Layout) -> Result<Vec<Option<usize>>, AllocError>
     ensures { IfOk result (λ v. HasIndexes layout.now v.items) }
 {
@@ -147,11 +147,11 @@ fn indexes_of(alloc: Global, layout: &Layout) -> Result<Vec<Option<usize>>, Allo
     }
 }
 
-/// A layout of that machine with what is known of all its symbols: what the steps of the writer read.
+/// A layout for machine `A` with the properties of its symbols, as all steps of the writer use it.
 #[derive(Drop)]
 pub struct Resolved<'a, A: Arch> {
     pub layout: &'a Layout,
-    /// The sections of listed symbols that no input section has.
+    /// Header indexes for exported symbols that are in no input section.
     pub named: NamedSections,
     values: Vec<Option<u64>>,
     targets: Vec<Option<u64>>,
@@ -172,7 +172,7 @@ pub struct Resolved<'a, A: Arch> {
 }
 
 impl<'a, A: Arch> Resolved<'a, A> {
-    /// The layout, with the values of its symbols.
+    /// Computes the properties of a layout's symbols.
     pub fn new(alloc: Global, layout: &'a Layout) -> Result<Self, AllocError>
         requires machine { layout.now.machine ≡ A.machine }
         requires fits { FieldsFit layout.now }
@@ -181,7 +181,7 @@ impl<'a, A: Arch> Resolved<'a, A> {
         Self::asking(alloc, layout, asks_owners(layout))
     }
 
-    /// The same, where it is known whether the files of symbols are looked for.
+    /// The same; the caller knows whether relocations depend on the file that defines a symbol.
     pub fn asking(alloc: Global, layout: &'a Layout, asks: bool) -> Result<Self, AllocError>
         requires machine { layout.now.machine ≡ A.machine }
         requires fits { FieldsFit layout.now }
@@ -219,7 +219,7 @@ impl<'a, A: Arch> Resolved<'a, A> {
         }
     }
 
-    /// What distances to symbols are counted to, where nothing but the symbol tells it.
+    /// The table of symbol addresses for S + A - P.
     #[inline(always)]
     pub(crate) fn targets(&self) -> &[Option<u64>]
         ensures { HasTargets self.now.layout.now result.now }
@@ -227,7 +227,7 @@ impl<'a, A: Arch> Resolved<'a, A> {
         &self.targets
     }
 
-    /// Whether symbols may stand for merged strings.
+    /// Whether relocations may name merged strings.
     #[inline]
     #[tactic(auto, using(crate::proofs::OwnerLemmas::nothing_merged))]
     pub(crate) fn has_strings(&self) -> bool
@@ -248,7 +248,7 @@ impl<'a, A: Arch> Resolved<'a, A> {
         }
     }
 
-    /// The numbers of the symbols of a relocatable object in its table.
+    /// The indexes of all symbols in the `.symtab` of a relocatable output.
     pub(crate) fn indexes(&self) -> &[Option<usize>]
         requires { is_partial_link self.now.layout.now.kind ≡ true }
         ensures { result.now ≡ map (symbol_index self.now.layout.now) (range_with_len 0 (length self.now.layout.now.symbols)) }
@@ -256,7 +256,7 @@ impl<'a, A: Arch> Resolved<'a, A> {
         &self.indexes
     }
 
-    /// The merged section that a symbol, which is the output's own, is the section symbol of.
+    /// The merged section of which a symbol, which the output defines, is the section symbol.
     #[tactic(auto, using(crate::proofs::OwnerLemmas::merged_is, crate::proofs::OwnerLemmas::merged_fileless))]
     fn section_in(&self, index: SymbolIndex, symbol: &Symbol) -> Option<&'a InputSection>
         requires known { index < length self.now.owners.items }
@@ -270,7 +270,7 @@ impl<'a, A: Arch> Resolved<'a, A> {
         }
     }
 
-    /// The same of any symbol whose file is known.
+    /// The same for any symbol whose file is known.
     #[tactic(auto, using(crate::proofs::OwnerLemmas::merged_plain, crate::proofs::OwnerLemmas::merged_missing))]
     fn section_of(&self, symbol: SymbolIndex) -> Option<&'a InputSection>
         requires { symbol < length self.now.owners.items }
@@ -285,7 +285,7 @@ impl<'a, A: Arch> Resolved<'a, A> {
         }
     }
 
-    /// The merged section that a symbol is the section symbol of.
+    /// The merged section of which a symbol is the section symbol.
     #[tactic(auto, using(crate::proofs::OwnerLemmas::merged_past))]
     fn merged_section(&self, symbol: SymbolIndex) -> Option<&'a InputSection>
         ensures { option_map (λ (s : InputSection). s.strings) (option_copied result) ≡ merged_strings self.now.layout.now symbol }
@@ -304,7 +304,7 @@ impl<'a, A: Arch> Resolved<'a, A> {
         self.has_strings() && self.merged_section(symbol).is_some()
     }
 
-    /// Where a byte went of the merged section that a symbol is the section symbol of; none where it is no such symbol.
+    /// The address of a byte of the merged section whose section symbol this is; None if it is no such symbol.
     #[tactic(auto, using(crate::proofs::OwnerLemmas::its_strings_ascend))]
     pub(crate) fn string_place(&self, symbol: SymbolIndex, byte: u64) -> Option<Option<u64>>
         ensures { result ≡ option_map (λ (ss : List MergedString). string_place ss byte) (merged_strings self.now.layout.now symbol) }
@@ -315,7 +315,7 @@ impl<'a, A: Arch> Resolved<'a, A> {
         }
     }
 
-    /// Where a symbol stands, of an output with a dynamic symbol table.
+    /// The file role and output section of a symbol, in an output with a dynamic symbol table.
     #[tactic(auto, using(crate::proofs::HomeLemmas::home_below, crate::proofs::HomeLemmas::home_there, crate::proofs::HomeLemmas::home_missing))]
     pub fn home(&self, index: usize, symbol: &Symbol) -> Home
         requires table { needs_dynsym self.now.layout.now.kind ≡ true }
