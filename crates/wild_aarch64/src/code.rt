@@ -2,7 +2,7 @@
 //!
 //! Read the Arm Architecture Reference Manual, C4.1 ("A64 instruction set encoding"), and the page of each instruction in C6.2 (general
 //! registers) or C7.2 (vector registers). Which forms relocations fill is in "ELF for the Arm 64-bit Architecture" (aaelf64), "Static
-//! AArch64 relocations"; only these forms, `br`, `blr`, `nop` and `bti c` are decoded, and everything else is `None`.
+//! AArch64 relocations". Only these forms, `br`, `blr`, `nop` and `bti c` are decoded; everything else is `None`.
 //!
 //! Bits 26 to 28 select the class, and each function below decodes a few forms of one class, as `specs/Forms` has them. What surprises:
 //! `adr` and `adrp` have their immediate in two parts (2 bits at 29, 19 bits at 5). Offsets of loads and stores count in units of the

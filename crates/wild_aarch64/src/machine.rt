@@ -2,7 +2,7 @@
 //!
 //! This is not a processor. It follows only the registers that were set, as symbols (see `Operand`). It keeps neither memory nor flags;
 //! `movn`, stores and all loads but `ldr` of 64 bits make it stop. Read the Arm Architecture Reference Manual, C6.2, for each
-//! instruction. For registers that a linker may use see the Procedure Call Standard (aapcs64), "General-purpose Registers": veneers
+//! instruction, and the Procedure Call Standard (aapcs64), "General-purpose Registers", for the registers that linkers may use. Veneers
 //! and stubs may change x16 and x17 (IP0, IP1), so a jump or call may have set these and no others.
 //!
 //! What surprises: `adrp` adds to the page of its own place, so a run means something only at a given address. Setting register 31 is

@@ -26,7 +26,7 @@ pub fn blocks_hold_their_slots()
     ensures none { NoBlockHasNoWords }
 {}
 
-/// After a run of new places, all of them are decoded and no other is added.
+/// After a run of new places, exactly these are decoded in addition.
 pub fn runs_are_recorded()
     ensures { RunsAreRecorded }
 {}
