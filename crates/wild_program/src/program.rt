@@ -173,7 +173,7 @@ pub fn run<S: Source, K: Sink>(
     ensures answer { IfOk result (λ said. IsAnswered words.now
         (turn (S.left source.old) (S.left source.new) (S.faults source.old) (S.faults source.new))
         (told (K.taken sink.old) (K.taken sink.new) (K.faults sink.old) (K.faults sink.new)) said) }
-    // If an image of an executable or a shared object is written, the loader accepts it in every legal world, and each kept
+    // If an image of an executable or a shared object is written, the loader accepts it in every legal world. There each kept
     // reference has the value or target that its relocation requires.
     ensures headline { IfOk result (λ said. IsHeadline words.now
         (turn (S.left source.old) (S.left source.new) (S.faults source.old) (S.faults source.new))
