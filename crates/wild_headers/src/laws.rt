@@ -14,8 +14,8 @@ pub fn large_numbers_stand()
     ensures limit { CountsAtTheLimit }
 {}
 
-/// Program header k is at offset 56 k of the program header table, section header k at offset 64 k of the section header
-/// table, and the name of a section at its `sh_name` in `.shstrtab`.
+/// Program header k is at offset 56 k of its table, and section header k at offset 64 k. The name of a section is at its
+/// `sh_name` in `.shstrtab`.
 pub fn headers_are_read()
     ensures programs { ProgramHeadersStand }
     ensures sections { SectionHeadersStand }

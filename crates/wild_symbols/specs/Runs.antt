@@ -1,7 +1,8 @@
 -- Lists of calls of a writer, each of which appends a symbol or fails.
 --   defined .., undefined ..  the arguments of calls of define_symbol and undefined_symbol
 --   has_room c w          the symbol and its name fit
---   called c w            the writer after a call; after cs w is the writer after several calls
+--   called c w            the writer after a call
+--   after cs w            the writer after several calls
 --   taken local cs w      the successful calls for a local symbol, or for a global one
 --   RunsAreRead           symbol k that was appended is that of the k-th successful call
 --   RunsCount             each successful call appends one symbol
