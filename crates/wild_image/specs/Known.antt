@@ -1,6 +1,6 @@
 -- Properties that are computed once for a layout, or for some groups.
---   IsKnown l k            the fields of k hold: `bare` and `inside` of the output, `none` of the groups after the first, and
---                          `frames` is the address of .eh_frame
+--   IsKnown l k            the fields of k hold of the layout: `bare`, `inside`, `none`;
+--                          and `frames` is the address of .eh_frame
 --   GiveNothing l gs       the groups write nothing to any table
 use Rattle.std.specs.Prelude.{◌≡◌, ℕ, true, List, Some, slice_get}
 use Rattle.wild_types.specs.declared.file.Group.{Group}
@@ -16,7 +16,7 @@ use Rattle.wild_image.specs.Pieces.{written}
 use Rattle.wild_image.specs.Steps.{OthersHaveNone}
 use Rattle.wild_image.specs.declared.known.Known.{Known}
 
--- the fields hold of the layout; `inside` and `none` may be false although the property holds
+-- the fields hold of the layout; `bare` is exact, the other two may be false although the property holds
 pub record IsKnown (l : Layout) (k : Known) : Type 0 where
   pub bare : k.bare ≡ is_bare l
   pub inside : k.inside ≡ true → is_bare_inside l ≡ true

@@ -9,9 +9,11 @@ ghost use Rattle.wild_image.specs.Steps.{OthersHaveNone};
 use wild_needs::is_bare;
 use wild_types::{Group, Layout, Role, part_with};
 
-/// What is known of a layout. `bare`: no .dynamic, no .symtab, and no symbol has a GOT or PLT entry or is imported.
-/// `inside`: `bare`, and groups other than the first and last need no tables. `none`: groups after the first have empty
-/// shares of all parts that are not raw. `frames`: the address of .eh_frame, 0 without one.
+/// Properties of a layout, by field:
+/// - `bare`: no .dynamic, no .symtab, and no symbol has a GOT or PLT entry or is imported.
+/// - `inside`: `bare`, and only the first and the last group need tables.
+/// - `none`: only the first group has shares of parts that are not raw.
+/// - `frames`: the address of .eh_frame, 0 without one.
 #[derive(Clone, Copy)]
 pub(crate) struct Known {
     pub(crate) bare: bool,
@@ -21,7 +23,8 @@ pub(crate) struct Known {
 }
 
 impl Known {
-    /// Computes these properties. `inside` and `none` come from the caller; each may be false although the property holds.
+    /// Computes these properties. The caller passes `inside` and `none`.
+    /// Each may be false although the property holds.
     #[tactic(auto, using(wild_needs::proofs::BareLemmas::bare_by_inside))]
     pub(crate) fn of(layout: &Layout, inside: bool, none: bool) -> Self
         requires inside { inside ≡ true → is_bare_inside layout.now ≡ true }

@@ -179,7 +179,8 @@ fn is_thread_type(number: u32) -> bool
         || number == R_X86_64_TLSDESC_CALL
 }
 
-/// The answer for a merged string: no row applies, as the row's addend would find another string. Thread-local types are refused.
+/// The answer for a merged string: no row applies, as the row's addend would find another string. Thread-local types of x86-64 are
+/// refused.
 fn choice_merged(
     machine: Machine,
     relocation: &InputRelocation,
