@@ -26,6 +26,8 @@ mod rewrites;
 #[cfg(test)]
 mod sequences;
 #[cfg(test)]
+mod shards;
+#[cfg(test)]
 mod stubs;
 #[cfg(test)]
 mod tables;
