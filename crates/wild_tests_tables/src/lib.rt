@@ -13,5 +13,3 @@ mod symbols;
 mod tables;
 #[cfg(test)]
 mod versions;
-#[cfg(test)]
-mod wrong;

@@ -48,6 +48,8 @@ enum Call {
     Far,
     /// Puts the symbols of the slot and of the stub of the first symbol.
     Slots,
+    /// Checks the entry of a library's symbol in `.dynsym`, whose name is at an offset.
+    Listed(usize, u64, &'static [u8]),
     /// Checks that the strings are full.
     FullStrings,
     /// Checks that all tables are full.
@@ -130,6 +132,30 @@ const OF_SLOTS: &[u8] = &[
     0x06, 0, 0, 0, 0, 0, 0x02, 0, 0, 0x10, 0, 0, 0, 0, 0, 0, 0, 0, 0, 0, 0, 0, 0, 0,
 ];
 
+/// What GNU ld 2.40 wrote of `value`, which is copied, and of `call`, whose stub is its address in each module, of a program
+/// that gcc 12.2 made by `-fno-pic -no-pie -O1 -nostdlib` of
+///
+/// ```c
+/// extern int value;
+/// extern void call(void);
+/// void _start(void) { void (*volatile here)(void) = call; here(); value++; for (;;) {} }
+/// ```
+///
+/// and a library that defines both; but for the header index of `.bss`, which is 14 there.
+#[rattlefmt::skip]
+const VALUE: &[u8] = &[
+    0x01, 0, 0, 0, 0x11, 0, 0x01, 0, 0x08, 0x40, 0x40, 0, 0, 0, 0, 0, 0x04, 0, 0, 0, 0, 0, 0, 0,
+];
+
+#[rattlefmt::skip]
+const CALL: &[u8] = &[
+    0x07, 0, 0, 0, 0x12, 0, 0, 0, 0x10, 0x10, 0x40, 0, 0, 0, 0, 0, 0, 0, 0, 0, 0, 0, 0, 0,
+];
+
+/// The two, in an output whose section 1 is `.bss`.
+const LIBRARY: &str =
+    r#"{"sections":[{},{"name":"2e627373"}],"symbols":[{"info":17,"size":4,"place":"absolute","version":1,"flags":["COPY_RELOCATION"],"resolution":{"raw_value":4210696}},{"info":18,"size":1,"place":"absolute","version":1,"flags":["CANONICAL_PLT"],"resolution":{"plt":4198416}}]}"#;
+
 #[rattlefmt::skip]
 const ROWS: &[Row] = &[
     (DYNAMIC, 0, true, &[(Call::Undefined(false, b"", 0), true), (Call::Finish, true), (Call::Full, true)],
@@ -160,6 +186,7 @@ const ROWS: &[Row] = &[
     // The index of a section that is too high for the symbol is in the table of indexes.
     (PROGRAM, 1, false, &[(Call::Far, true), (Call::Full, true)], [FAR, &[], b"x\0", &[0, 0xff, 0, 0]]),
     (NAMED, 0, false, &[(Call::Slots, true), (Call::Full, true)], [OF_SLOTS, &[], b"f$got\0f$plt\0", &[]]),
+    (LIBRARY, 0, false, &[(Call::Listed(0, 1, VALUE), true), (Call::Listed(1, 7, CALL), true)], [&[], &[], &[], &[]]),
 ];
 
 /// The writer of a group's symbols, whose strings end below 200; out of memory if they do not.
@@ -283,6 +310,16 @@ fn put_copy(
     )
 }
 
+/// The bytes of the entry of a library's symbol whose name is at an offset.
+fn entry_of(layout: &Layout, index: usize, name: u64) -> Result<[u8; 24], Fail> {
+    let symbol = symbol_of(layout, index)?;
+    let sections = NamedSections::of(layout);
+    let fields = listed_fields(layout, sections, 0, FileRole::Dynamic, 0, symbol)?;
+    let mut bytes = [0; 24];
+    entry_at(name, fields).put(&mut bytes);
+    Ok(bytes)
+}
+
 /// Whether a call succeeds.
 fn succeeds(writer: &mut SymbolTableWriter, layout: &Layout, call: Call) -> Result<bool, Fail> {
     match call {
@@ -335,6 +372,9 @@ fn succeeds(writer: &mut SymbolTableWriter, layout: &Layout, call: Call) -> Resu
                     .is_ok(),
             )
         }
+        Call::Listed(index, name, wanted) => {
+            Ok(entry_of(layout, index, name)?.as_slice() == wanted)
+        }
         Call::FullStrings => Ok(writer.strtab.check_exhausted().is_ok()),
         Call::Full => Ok(writer.check_exhausted().is_ok()),
     }
@@ -363,45 +403,6 @@ fn symbols_by_calls_of_their_writer(rt: HostRuntime) -> Result<(), Fail> {
     for (number, row) in ROWS.iter().enumerate() {
         let layout = layout_of(rt.alloc(), row.0)?;
         assert!(rt; are_filled(rt.alloc(), &layout, row)?, "row {number}");
-    }
-    Ok(())
-}
-
-/// What GNU ld 2.40 wrote of `value`, which is copied, and of `call`, whose stub is its address in each module, of a program
-/// that gcc 12.2 made by `-fno-pic -no-pie -O1 -nostdlib` of
-///
-/// ```c
-/// extern int value;
-/// extern void call(void);
-/// void _start(void) { void (*volatile here)(void) = call; here(); value++; for (;;) {} }
-/// ```
-///
-/// and a library that defines both; but for the header index of `.bss`, which is 14 there. Each is after the offset of its name.
-#[rattlefmt::skip]
-const OF_LIBRARY: [(u64, [u8; 24]); 2] = [
-    (1, [0x01, 0, 0, 0, 0x11, 0, 0x01, 0, 0x08, 0x40, 0x40, 0, 0, 0, 0, 0, 0x04, 0, 0, 0, 0, 0, 0, 0]),
-    (7, [0x07, 0, 0, 0, 0x12, 0, 0, 0, 0x10, 0x10, 0x40, 0, 0, 0, 0, 0, 0, 0, 0, 0, 0, 0, 0, 0]),
-];
-
-/// The two, in an output whose section 1 is `.bss`.
-const LIBRARY: &str =
-    r#"{"sections":[{},{"name":"2e627373"}],"symbols":[{"info":17,"size":4,"place":"absolute","version":1,"flags":["COPY_RELOCATION"],"resolution":{"raw_value":4210696}},{"info":18,"size":1,"place":"absolute","version":1,"flags":["CANONICAL_PLT"],"resolution":{"plt":4198416}}]}"#;
-
-/// The bytes of the entry of a library's symbol whose name is at an offset.
-fn entry_of(layout: &Layout, index: usize, name: u64) -> Result<[u8; 24], Fail> {
-    let symbol = symbol_of(layout, index)?;
-    let sections = NamedSections::of(layout);
-    let fields = listed_fields(layout, sections, 0, FileRole::Dynamic, 0, symbol)?;
-    let mut bytes = [0; 24];
-    entry_at(name, fields).put(&mut bytes);
-    Ok(bytes)
-}
-
-#[test]
-fn entries_of_library_symbols(rt: HostRuntime) -> Result<(), Fail> {
-    let layout = layout_of(rt.alloc(), LIBRARY)?;
-    for (index, (name, wanted)) in OF_LIBRARY.iter().enumerate() {
-        assert!(rt; entry_of(&layout, index, *name)? == *wanted, "{index}");
     }
     Ok(())
 }

@@ -1,6 +1,6 @@
 //! The tables of a group's slots, stubs and entries, by calls of their writer; and a dynamic section as GNU ld writes it.
 use crate::layouts::{layout_of, resolution_of};
-use std::alloc::{AllocError, Global};
+use std::alloc::Global;
 use std::test::*;
 use wild_plan::{Fault, Layout, Resolution, SlotFault, SymbolIndex, dynamic_count, put_stub};
 use wild_records::Rela;
@@ -33,6 +33,10 @@ enum Call {
     Resolver,
     /// Puts `R_X86_64_COPY` of the first symbol.
     Copy,
+    /// Puts the slot of the first symbol at this address. If that is outside the thread-local data, the fault says it.
+    Offset(u64),
+    /// Checks the sizes that the first symbol needs: this one of `got`, and three entries of `rela_dyn_general`.
+    Size(u64, Option<Fault>),
     /// Checks that each table is full.
     Full,
 }
@@ -53,6 +57,29 @@ const BLOCK: &str =
 /// A copied symbol, and room for three entries.
 const GENERAL: &str =
     r#"{"kind":"dynamic_pie","parts":[{"role":"rela_dyn_general"}],"symbols":[{"flags":["COPY_RELOCATION"],"resolution":{"raw_value":8192,"dynsym":3}}],"groups":[{"part_sizes":[72]}]}"#;
+
+/// A thread-local symbol of a library, 8 bytes after the start of the data, with slots for its offset, its module and its
+/// descriptor: five words.
+const THREAD_SLOTS: &str =
+    r#"{"kind":"shared","symbols":[{"flags":["NON_INTERPOSABLE","GOT_TLS_OFFSET","GOT_TLS_MODULE","GOT_TLS_DESCRIPTOR"],"resolution":{"raw_value":12296,"got":16384}}],"groups":[{}]}"#;
+
+const TOO_SMALL: Fault = Fault::InsufficientAllocation {
+    part: 5,
+    group: 0,
+    given: 32,
+    needed: 40,
+};
+
+const TOO_LARGE: Fault = Fault::ExcessiveAllocation {
+    part: 5,
+    group: 0,
+    given: 48,
+    needed: 40,
+};
+
+/// A thread-local symbol with a slot for its offset, and data of 16 bytes from 0x403000 on.
+const OFFSET: &str =
+    r#"{"kind":"static","tls":{"start":4206592,"end":4206608,"align":16},"parts":[{"role":"got","size":8}],"symbols":[{"flags":["NON_INTERPOSABLE","GOT_TLS_OFFSET"],"resolution":{"got":16384}}],"groups":[{"part_sizes":[8]}]}"#;
 
 /// `endbr64`, `bnd jmp *0x402028(%rip)`, `nopl 0(%rax,%rax,1)` at 0x400140 (x86-64 psABI, "Procedure Linkage Table").
 const STUB: &[u8] = &[
@@ -94,6 +121,14 @@ const ROWS: &[Row] = &[
         0x3008, 37, 0x1000,
         0x2000, 0x3_0000_0005, 0,
     ], &[]], &[]),
+    (THREAD_SLOTS, &[
+        (Call::Size(40, None), true), (Call::Size(32, Some(TOO_SMALL)), true), (Call::Size(48, Some(TOO_LARGE)), true),
+    ], [&[], &[], &[], &[], &[], &[]], &[]),
+    // Offsets from the thread pointer, which is at the end of the data. An address of 0 has the offset 0; one past the end is refused.
+    (OFFSET, &[(Call::Offset(0x40_3010), true)], [&[0], &[], &[], &[], &[], &[]], &[]),
+    (OFFSET, &[(Call::Offset(0x40_3008), true)], [&[0xffff_ffff_ffff_fff8], &[], &[], &[], &[], &[]], &[]),
+    (OFFSET, &[(Call::Offset(0), true)], [&[0], &[], &[], &[], &[], &[]], &[]),
+    (OFFSET, &[(Call::Offset(0x40_3011), false)], [&[0], &[], &[], &[], &[], &[]], &[]),
 ];
 
 /// Whether these bytes are exactly those words.
@@ -107,14 +142,6 @@ fn are_words(bytes: &[u8], words: &[u64]) -> bool {
         }
     }
     true
-}
-
-/// The writer of the first group's tables; out of memory if there is no group.
-fn writer(alloc: Global, layout: &Layout) -> Result<TableWriter, AllocError> {
-    if layout.groups.len() == 0 {
-        return Err(AllocError);
-    }
-    TableWriter::new(alloc, layout, 0)
 }
 
 /// Puts an address over 0x55s; whether that succeeds, and the word that the place then has.
@@ -131,6 +158,28 @@ fn put_slots(tables: &mut TableWriter, layout: &Layout, index: usize) -> Result<
     let resolution = resolution_of(layout, index)?;
     let result = tables.process_resolution(layout, &resolution, Ok(stub));
     Ok(result.is_ok())
+}
+
+/// Puts the slot of the first symbol at this address.
+fn put_offset(tables: &mut TableWriter, layout: &Layout, address: u64) -> Result<bool, Fail> {
+    let mut own = resolution_of(layout, 0)?;
+    own.raw_value = address;
+    match tables.process_resolution(layout, &own, Err(0)) {
+        Ok(()) => Ok(true),
+        Err(Refused::Fault(SlotFault::TlsOutOfSegment { value })) if value == address => Ok(false),
+        Err(_) => Err("another fault".into()),
+    }
+}
+
+/// The fault of a size of `got`.
+fn fault_of(layout: &Layout, resolution: &Resolution, got: u64) -> Option<Fault> {
+    let mut sizes = [0; ROLES];
+    sizes[10] = 72;
+    sizes[5] = got;
+    match verify_resolution_allocation(layout.kind, &sizes, resolution, &layout.options) {
+        Ok(()) => None,
+        Err(error) => Some(error.fault),
+    }
 }
 
 /// Whether a call succeeds.
@@ -161,32 +210,34 @@ fn succeeds(tables: &mut TableWriter, layout: &Layout, call: Call) -> Result<boo
             Ok(result.is_ok())
         }
         Call::Copy => Ok(tables.write_copy_relocation(layout, SymbolIndex(0)).is_ok()),
+        Call::Offset(address) => put_offset(tables, layout, address),
+        Call::Size(got, fault) => Ok(fault_of(layout, &resolution_of(layout, 0)?, got) == fault),
         Call::Full => Ok(tables.validate_empty(layout).is_ok()),
     }
-}
-
-/// Whether the tables have these words and stubs.
-fn has_tables(tables: &TableWriter, words: &Words, stubs: &[u8]) -> bool {
-    let [got, block, plt, relative, general, packed] = words;
-    are_words(tables.got_words(), *got)
-        && are_words(tables.block_words(), *block)
-        && are_words(tables.plt_entries(), *plt)
-        && are_words(tables.relative_entries(), *relative)
-        && are_words(tables.general_entries(), *general)
-        && are_words(tables.relr_words(), *packed)
-        && tables.stubs() == stubs
 }
 
 /// Whether the calls end as a row of the table says, and leave the tables as it says.
 fn are_filled(alloc: Global, layout: &Layout, row: &Row) -> Result<bool, Fail> {
     let (_, calls, words, stubs) = row;
-    let mut tables = writer(alloc, layout)?;
+    if layout.groups.len() == 0 {
+        return Err("no group".into());
+    }
+    let mut tables = TableWriter::new(alloc, layout, 0)?;
     for (call, wanted) in *calls {
         if succeeds(&mut tables, layout, *call)? != *wanted {
             return Ok(false);
         }
     }
-    Ok(has_tables(&tables, words, *stubs))
+    let [got, block, plt, relative, general, packed] = words;
+    Ok(
+        are_words(tables.got_words(), *got)
+            && are_words(tables.block_words(), *block)
+            && are_words(tables.plt_entries(), *plt)
+            && are_words(tables.relative_entries(), *relative)
+            && are_words(tables.general_entries(), *general)
+            && are_words(tables.relr_words(), *packed)
+            && tables.stubs() == *stubs,
+    )
 }
 
 #[test]
@@ -198,17 +249,12 @@ fn tables_by_calls_of_their_writer(rt: HostRuntime) -> Result<(), Fail> {
     Ok(())
 }
 
-/// The numbers of packed words without a writer: of the first four places of `PACKED`, and of a block of three slots.
+/// Without a writer: the numbers of packed words of the first four places of `PACKED` and of a block of three slots, and the entry of a
+/// place that moves.
 #[test]
-fn numbers_of_packed_words(rt: HostRuntime) -> Result<(), Fail> {
+fn words_without_a_writer(rt: HostRuntime) -> Result<(), Fail> {
     assert!(rt; count_words(&[0x3000, 0x3010, 0x31f8, 0x3200]) == 3);
     assert!(rt; block_words(0x3000, 3) == 2);
-    Ok(())
-}
-
-/// The entry of a place that moves is the same without a table.
-#[test]
-fn an_entry_without_a_table(rt: HostRuntime) -> Result<(), Fail> {
     let layout = layout_of(rt.alloc(), MOVED)?;
     let mut bytes = [0; Rela::SIZE];
     relative_entry(&layout, 0x3001, 0x1040).put(&mut bytes);
@@ -247,92 +293,5 @@ fn dynamic_section_of_ld(rt: HostRuntime) -> Result<(), Fail> {
     }
     write_dynamic(&layout, &mut section);
     assert!(rt; are_words(&section, &ENTRIES_OF_LD));
-    Ok(())
-}
-
-/// A thread-local symbol of a library, 8 bytes after the start of the data, with slots for its offset, its module and its
-/// descriptor.
-const THREAD_SLOTS: &str =
-    r#"{"kind":"shared","symbols":[{"flags":["NON_INTERPOSABLE","GOT_TLS_OFFSET","GOT_TLS_MODULE","GOT_TLS_DESCRIPTOR"],"resolution":{"raw_value":12296,"got":16384}}]}"#;
-
-/// A size of `got`, with three entries of `rela_dyn_general`, and the fault: the symbol needs five words.
-const SIZES: &[(u64, Option<Fault>)] = &[
-    (40, None),
-    (
-        32,
-        Some(Fault::InsufficientAllocation {
-            part: 5,
-            group: 0,
-            given: 32,
-            needed: 40,
-        }),
-    ),
-    (
-        48,
-        Some(Fault::ExcessiveAllocation {
-            part: 5,
-            group: 0,
-            given: 48,
-            needed: 40,
-        }),
-    ),
-];
-
-/// The fault of a size of `got`.
-fn fault_of(layout: &Layout, resolution: &Resolution, got: u64) -> Option<Fault> {
-    let mut sizes = [0; ROLES];
-    sizes[10] = 72;
-    sizes[5] = got;
-    match verify_resolution_allocation(layout.kind, &sizes, resolution, &layout.options) {
-        Ok(()) => None,
-        Err(error) => Some(error.fault),
-    }
-}
-
-#[test]
-fn sizes_that_a_resolution_does_not_need(rt: HostRuntime) -> Result<(), Fail> {
-    let layout = layout_of(rt.alloc(), THREAD_SLOTS)?;
-    let resolution = resolution_of(&layout, 0)?;
-    for (got, wanted) in SIZES {
-        assert!(rt; fault_of(&layout, &resolution, *got) == *wanted, "{got}");
-    }
-    Ok(())
-}
-
-/// A thread-local symbol with a slot for its offset, and data of 16 bytes from 0x403000 on.
-const OFFSET: &str =
-    r#"{"kind":"static","tls":{"start":4206592,"end":4206608,"align":16},"parts":[{"role":"got","size":8}],"symbols":[{"flags":["NON_INTERPOSABLE","GOT_TLS_OFFSET"],"resolution":{"got":16384}}],"groups":[{"part_sizes":[8]}]}"#;
-
-/// An address, the word of its slot, and the address if it is outside the data.
-const OFFSETS: &[(u64, u64, Option<u64>)] = &[
-    (0x40_3010, 0, None),
-    (0x40_3008, 0xffff_ffff_ffff_fff8, None),
-    (0, 0, None),
-    (0x40_3011, 0, Some(0x40_3011)),
-];
-
-/// The word of the slot of a thread-local symbol, and its address if that is outside the data.
-fn offset_of(alloc: Global, layout: &Layout, own: &Resolution) -> Result<(u64, Option<u64>), Fail> {
-    let mut tables = writer(alloc, layout)?;
-    let outside = match tables.process_resolution(layout, own, Err(0)) {
-        Err(Refused::Fault(SlotFault::TlsOutOfSegment { value })) => Some(value),
-        _ => None,
-    };
-    let words = tables.got_words();
-    if words.len() != 8 {
-        return Err("another size".into());
-    }
-    Ok((read_u64(words, 0), outside))
-}
-
-#[test]
-fn offsets_end_with_the_thread_local_data(rt: HostRuntime) -> Result<(), Fail> {
-    let layout = layout_of(rt.alloc(), OFFSET)?;
-    let mut own = resolution_of(&layout, 0)?;
-    for (raw_value, word, outside) in OFFSETS {
-        own.raw_value = *raw_value;
-        let found = offset_of(rt.alloc(), &layout, &own)?;
-        assert!(rt; found == (*word, *outside), "{raw_value}");
-    }
     Ok(())
 }

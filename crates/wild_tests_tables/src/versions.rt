@@ -133,6 +133,20 @@ fn are_put(
     Ok(Some(false))
 }
 
+/// The definitions of the library are those of its last file, and the version of the null symbol is that of its first file.
+fn are_of_files(alloc: Global, layout: &Layout) -> Result<bool, Fail> {
+    let library = layout.groups.as_slice().get(1).ok_or("no group")?;
+    let [first, last] = library.files.as_slice() else {
+        return Err("other files".into());
+    };
+    if layout.verdefs.len() > 100 {
+        return Err("many versions".into());
+    }
+    let definitions = file_definitions(alloc, layout, last)?;
+    let versions = file_versions(alloc, layout, first)?;
+    Ok(definitions.as_slice() == DEFINITIONS && versions.as_slice() == &SYMBOLS[..2])
+}
+
 #[test]
 fn tables_of_versions(rt: HostRuntime) -> Result<(), Fail> {
     let layout = layout_of(rt.alloc(), PLAN)?;
@@ -149,26 +163,6 @@ fn tables_of_versions(rt: HostRuntime) -> Result<(), Fail> {
         ];
         assert!(rt; found == *tables, "{group} {copied}");
     }
-    Ok(())
-}
-
-/// The definitions of the library are those of its last file, and the version of the null symbol is that of its first file.
-fn are_of_files(alloc: Global, layout: &Layout) -> Result<bool, Fail> {
-    let library = layout.groups.as_slice().get(1).ok_or("no group")?;
-    let [first, last] = library.files.as_slice() else {
-        return Err("other files".into());
-    };
-    if layout.verdefs.len() > 100 {
-        return Err("many versions".into());
-    }
-    let definitions = file_definitions(alloc, layout, last)?;
-    let versions = file_versions(alloc, layout, first)?;
-    Ok(definitions.as_slice() == DEFINITIONS && versions.as_slice() == &SYMBOLS[..2])
-}
-
-#[test]
-fn versions_of_files(rt: HostRuntime) -> Result<(), Fail> {
-    let layout = layout_of(rt.alloc(), PLAN)?;
     assert!(rt; are_of_files(rt.alloc(), &layout)?);
     Ok(())
 }
