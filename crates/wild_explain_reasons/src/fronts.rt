@@ -1,20 +1,18 @@
 //! Tests of the order of sections, of merged strings, of the linker's name of itself and of properties.
 
-use crate::items::SectionPlace;
+use crate::items::{SectionPlace, section_at};
 use crate::tests::{MergedTest, PlanTest, SortedTest};
 use crate::verdict::{Verdict, due, plain};
 use wild_types::{InputSection, Layout, Merged, Role, Slot, SortedSection, has_role};
 
-/// The input section that an entry of the order names.
-fn named(layout: &Layout, entry: SortedSection) -> Option<&InputSection> {
-    let group = layout.groups.as_slice().get(entry.group)?;
-    let file = group.files.as_slice().get(entry.file)?;
-    file.sections.as_slice().get(entry.section)
-}
-
 /// Whether an entry of the order fails a test.
 pub(crate) fn test_sorted(layout: &Layout, entry: SortedSection, test: SortedTest) -> bool {
-    match (named(layout, entry), test) {
+    let at = SectionPlace {
+        group: entry.group,
+        file: entry.file,
+        section: entry.section,
+    };
+    match (section_at(layout, at), test) {
         (Some(section), SortedTest::Other) => !matches!(section.slot, Slot::Sorted),
         (found, _) => found.is_none(),
     }

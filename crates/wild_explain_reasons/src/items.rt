@@ -128,9 +128,12 @@ pub(crate) fn push_decided(
     Ok(())
 }
 
-/// The word of a slot.
-fn slot_word(slot: Slot) -> &'static str {
-    match slot {
+/// Adds what stands at an input section.
+fn push_input(out: &mut String, layout: &Layout, at: SectionPlace) -> Result<(), AllocError> {
+    let Some(section) = section_at(layout, at) else {
+        return Ok(());
+    };
+    let slot = match section.slot {
         Slot::Discard => "discard",
         Slot::Loaded => "loaded",
         Slot::Sorted => "sorted",
@@ -139,15 +142,7 @@ fn slot_word(slot: Slot) -> &'static str {
         Slot::Merge => "merge",
         Slot::Rela => "rela",
         Slot::Group => "group",
-    }
-}
-
-/// Adds what stands at an input section.
-fn push_input(out: &mut String, layout: &Layout, at: SectionPlace) -> Result<(), AllocError> {
-    let Some(section) = section_at(layout, at) else {
-        return Ok(());
     };
-    let slot = slot_word(section.slot);
     let bytes = section.bytes.len();
     let (address, size, flags) = (section.address, section.size, section.flags);
     let (nobits, part) = (section.nobits, section.part);
@@ -247,14 +242,6 @@ fn push_entry(out: &mut String, layout: &Layout, item: Item) -> Result<(), Alloc
                 push_name(out, name.as_slice())?;
             }
         }
-        _ => {}
-    }
-    Ok(())
-}
-
-/// Adds what stands at an entry of the order, at merged strings or at a property.
-fn push_once(out: &mut String, layout: &Layout, item: Item) -> Result<(), AllocError> {
-    match item {
         Item::Sorted(i) => {
             if let Some(found) = layout.sorted.as_slice().get(i) {
                 let (group, file, section) = (found.group, found.file, found.section);
@@ -286,10 +273,7 @@ pub(crate) fn push_found(out: &mut String, layout: &Layout, item: Item) -> Resul
         Item::Group(i) => push_group(out, layout, i),
         Item::File(i, j) => push_file(out, layout, i, j),
         Item::Input(at) => push_input(out, layout, at),
-        Item::Listed(_) | Item::Version(_) | Item::Auxiliary(_) | Item::Thunk(_, _) => {
-            push_entry(out, layout, item)
-        }
-        Item::Sorted(_) | Item::Merged(_) | Item::Property(_) => push_once(out, layout, item),
-        _ => push_header(out, layout, item),
+        Item::Part(_) | Item::Section(_) | Item::Segment(_) => push_header(out, layout, item),
+        _ => push_entry(out, layout, item),
     }
 }

@@ -7,8 +7,8 @@ use crate::partial::{is_of_other, names_no_section};
 use crate::tests::{EntryTest, FileTest, GroupTest, InputTest};
 use crate::verdict::{Finding, Verdict, due, plain};
 use wild_types::{
-    DynamicSymbol, File, Group, InputRelocation, InputSection, Layout, Role, Slot,
-    VersionDefinition, field_bytes, is_allocated,
+    DynamicSymbol, File, Group, InputSection, Layout, Role, Slot, VersionDefinition, field_bytes,
+    is_allocated,
 };
 
 /// Whether a group fails a test.
@@ -36,9 +36,15 @@ pub(crate) fn test_group(layout: &Layout, index: usize, group: &Group, test: Gro
     }
 }
 
-/// Whether two copies of all files have the definition of one of a file's.
-fn is_copied_twice(layout: &Layout, copied: &File) -> bool {
+/// Whether a file's copy is no symbol; or for the other test, whether two copies of all files have the definition of one of its own.
+fn is_wrong_copy(layout: &Layout, copied: &File, test: FileTest) -> bool {
     for copy in copied.copies.as_slice() {
+        if let FileTest::Copies = test {
+            if copy.0 >= layout.symbols.len() {
+                return true;
+            }
+            continue;
+        }
         let mut count: usize = 0;
         for group in layout.groups.as_slice() {
             for file in group.files.as_slice() {
@@ -50,16 +56,6 @@ fn is_copied_twice(layout: &Layout, copied: &File) -> bool {
             }
         }
         if count > 1 {
-            return true;
-        }
-    }
-    false
-}
-
-/// Whether a file's copy is no symbol.
-fn has_no_copy(layout: &Layout, file: &File) -> bool {
-    for copy in file.copies.as_slice() {
-        if copy.0 >= layout.symbols.len() {
             return true;
         }
     }
@@ -118,12 +114,11 @@ pub(crate) fn test_file(
             let end = file.first_symbol.0.saturating_add(file.symbol_count);
             plain(file.symbol_count != 0 && end > layout.symbols.len())
         }
-        FileTest::Copies => plain(has_no_copy(layout, file)),
+        FileTest::Copies | FileTest::Twice => plain(is_wrong_copy(layout, file, test)),
         FileTest::Block => {
             let blocks = layout.thunk_blocks.len();
             plain(file.thunk_block != 0 && file.thunk_block >= blocks)
         }
-        FileTest::Twice => plain(is_copied_twice(layout, file)),
         FileTest::Order => {
             let (end, _) = around(layout, group, index);
             due(
@@ -143,35 +138,26 @@ pub(crate) fn test_file(
     }
 }
 
-/// Whether a relocation fails the test on its field, or on its symbol.
-fn is_wrong(
-    layout: &Layout,
-    section: &InputSection,
-    relocation: &InputRelocation,
-    test: InputTest,
-) -> bool {
-    let width = field_bytes(layout.machine, relocation.number) as u64;
-    match (test, relocation.symbol) {
-        (InputTest::Fields, _) => {
-            width != 0 && relocation.offset.saturating_add(width) > section.size
-        }
-        (InputTest::Malformed, _) => relocation.malformed && !section.slot.is_frame(),
-        (InputTest::Reversed, _) => {
-            section.reversed && (relocation.offset % 8 != 0 || width != 8)
-        }
-        (InputTest::Symbols, Some(symbol)) => symbol.0 >= layout.symbols.len(),
-        _ => false,
-    }
-}
-
-/// The first relocation of a section that fails the test.
+/// The first relocation of a section that fails the test on its field, or on its symbol.
 pub(crate) fn wrong_relocation(
     layout: &Layout,
     section: &InputSection,
     test: InputTest,
 ) -> Option<usize> {
     for (i, relocation) in section.relocations.as_slice().iter().enumerate() {
-        if is_wrong(layout, section, relocation, test) {
+        let width = field_bytes(layout.machine, relocation.number) as u64;
+        let is_wrong = match (test, relocation.symbol) {
+            (InputTest::Fields, _) => {
+                width != 0 && relocation.offset.saturating_add(width) > section.size
+            }
+            (InputTest::Malformed, _) => relocation.malformed && !section.slot.is_frame(),
+            (InputTest::Reversed, _) => {
+                section.reversed && (relocation.offset % 8 != 0 || width != 8)
+            }
+            (InputTest::Symbols, Some(symbol)) => symbol.0 >= layout.symbols.len(),
+            _ => false,
+        };
+        if is_wrong {
             return Some(i);
         }
     }

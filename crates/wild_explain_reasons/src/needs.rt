@@ -6,35 +6,15 @@ use std::fmt::Write;
 use wild_needs::needs;
 use wild_types::{Group, Layout, Part, Role, has_role};
 
-/// Adds a list of one number for each part.
-fn push_shares(out: &mut String, layout: &Layout, group: usize) -> Result<(), AllocError> {
-    write!(out, "/groups/{group}/part_sizes [")?;
-    for (i, part) in layout.parts.as_slice().iter().enumerate() {
-        if i != 0 {
-            write!(out, ",")?;
-        }
-        let needed = needs(layout, i, group);
-        write!(out, "{needed}")?;
-    }
-    writeln!(out, "]")?;
-    Ok(())
-}
-
-/// What all groups need of a part, at most 2^64 - 1.
-fn needed_of(layout: &Layout, part: usize) -> u64 {
-    let mut sum: u64 = 0;
-    for (i, group) in layout.groups.as_slice().iter().enumerate() {
-        sum = sum.saturating_add(needs(layout, part, i));
-    }
-    sum
-}
-
 /// Adds what each part needs in all, and what each group needs of each part: a raw part is given what `part_sizes` says.
 pub fn push_needs(out: &mut String, layout: &Layout) -> Result<(), AllocError> {
     for (i, part) in layout.parts.as_slice().iter().enumerate() {
         let word = role_word(part.role);
         let size = part.size;
-        let needed = needed_of(layout, i);
+        let mut needed: u64 = 0;
+        for group in 0..layout.groups.len() {
+            needed = needed.saturating_add(needs(layout, i, group));
+        }
         let whose = if has_role(Role::Raw, part) {
             ", as it is given"
         } else {
@@ -45,8 +25,16 @@ pub fn push_needs(out: &mut String, layout: &Layout) -> Result<(), AllocError> {
             "/parts/{i}/size {needed} ({word}; it has {size}{whose})"
         )?;
     }
-    for i in 0..layout.groups.len() {
-        push_shares(out, layout, i)?;
+    for group in 0..layout.groups.len() {
+        write!(out, "/groups/{group}/part_sizes [")?;
+        for i in 0..layout.parts.len() {
+            if i != 0 {
+                write!(out, ",")?;
+            }
+            let needed = needs(layout, i, group);
+            write!(out, "{needed}")?;
+        }
+        writeln!(out, "]")?;
     }
     Ok(())
 }

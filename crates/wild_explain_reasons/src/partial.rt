@@ -1,32 +1,18 @@
 //! Tests of what only relocatable objects have, and of what they have not.
 
-use crate::tests::{InputTest, PlanTest};
+use crate::tests::InputTest;
 use crate::verdict::{Verdict, due, plain};
 use wild_records::Rela;
-use wild_types::{File, InputSection, Layout, SectionIndex, Slot};
-
-/// Whether a relocatable object has what a test asks for.
-pub(crate) fn test_object(layout: &Layout, test: PlanTest) -> bool {
-    match test {
-        PlanTest::Segmented => layout.segments.len() != 0,
-        PlanTest::Paired => layout.tlsld.is_some(),
-        _ => layout.dynsyms.len() != 0,
-    }
-}
-
-/// Whether a header index names no output section.
-fn is_no_section(layout: &Layout, index: SectionIndex) -> bool {
-    index.0 >= layout.sections.len()
-}
+use wild_types::{File, InputSection, Layout, Slot};
 
 /// Whether the output section of its own, or a member, is not there.
 pub(crate) fn names_no_section(layout: &Layout, section: &InputSection, test: InputTest) -> bool {
     if let (InputTest::Singleton, Some(index)) = (test, section.singleton) {
-        return is_no_section(layout, index);
+        return index.0 >= layout.sections.len();
     }
     if let InputTest::Members = test {
         for member in section.members.as_slice() {
-            if is_no_section(layout, *member) {
+            if member.0 >= layout.sections.len() {
                 return true;
             }
         }

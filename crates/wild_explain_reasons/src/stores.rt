@@ -16,21 +16,24 @@ pub(crate) struct Barriers {
     block: Option<Item>,
 }
 
-/// The loaded segments with their places.
-fn loaded_segments(alloc: Global, layout: &Layout) -> Result<Vec<(usize, Segment)>, AllocError> {
-    let mut loaded = Vec::new(alloc);
-    for (i, segment) in layout.segments.as_slice().iter().enumerate() {
-        if segment.kind == PT_LOAD {
-            loaded.push((i, *segment))?;
+/// The last of some segments, which ascend, that begins at an address or before it: found by halves.
+fn segment_at(loaded: &[(usize, Segment)], address: u64) -> Option<(usize, Segment)> {
+    let mut found = None;
+    let (mut low, mut high) = (0usize, loaded.len());
+    for _ in 0..64 {
+        if low >= high {
+            break;
+        }
+        let middle = low + (high - low) / 2;
+        match loaded.get(middle) {
+            Some(segment) if segment.1.address <= address => {
+                found = Some(*segment);
+                low = middle.saturating_add(1);
+            }
+            _ => high = middle,
         }
     }
-    Ok(loaded)
-}
-
-/// The last of some segments that begins at an address or ahead of it.
-fn segment_at(loaded: &[(usize, Segment)], address: u64) -> Option<(usize, Segment)> {
-    let count = loaded.partition_point(|s| s.1.address <= address);
-    loaded.get(count.checked_sub(1)?).copied()
+    found
 }
 
 /// The segment at an address of a section, or the section, where that cannot be written.
@@ -60,7 +63,12 @@ fn barrier_of(layout: &Layout, loaded: &[(usize, Segment)], role: Role) -> Optio
 impl Barriers {
     /// Those of a layout.
     pub(crate) fn of(alloc: Global, layout: &Layout) -> Result<Barriers, AllocError> {
-        let loaded = loaded_segments(alloc, layout)?;
+        let mut loaded = Vec::new(alloc);
+        for (i, segment) in layout.segments.as_slice().iter().enumerate() {
+            if segment.kind == PT_LOAD {
+                loaded.push((i, *segment))?;
+            }
+        }
         let got = barrier_of(layout, loaded.as_slice(), Role::Got);
         let block = barrier_of(layout, loaded.as_slice(), Role::GotRelr);
         Ok(Barriers { loaded, got, block })
@@ -90,16 +98,6 @@ fn push_barrier(
     Ok(())
 }
 
-/// Whether a loader stores one of some words.
-fn has_stored(words: &[SlotWord]) -> bool {
-    for word in words {
-        if !matches!(word, SlotWord::Number(_)) {
-            return true;
-        }
-    }
-    false
-}
-
 /// Adds the first symbol of a file with a slot that a loader stores where it may not.
 pub(crate) fn push_slots(
     out: &mut String,
@@ -117,8 +115,12 @@ pub(crate) fn push_slots(
         } else {
             barriers.got
         };
+        let mut is_stored = false;
+        for word in slots.words() {
+            is_stored = is_stored || !matches!(word, SlotWord::Number(_));
+        }
         if let Some(barrier) = barrier
-            && has_stored(slots.words())
+            && is_stored
         {
             let stored = Item::Symbol(file.first_symbol.0.saturating_add(i));
             return push_barrier(out, stored, None, barrier);
