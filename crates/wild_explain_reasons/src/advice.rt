@@ -1,4 +1,4 @@
-//! What a loader, or a program at work, would stumble over in a layout without faults.
+//! Advice for a layout without faults: mistakes that would show only when its image is loaded or run.
 
 use crate::items::Item;
 use crate::linking::{push_library, push_listed, push_local, push_path};
@@ -119,25 +119,22 @@ fn push_overlaps(out: &mut String, layout: &Layout) -> Result<(), AllocError> {
     Ok(())
 }
 
-/// The first loaded segment whose file bytes have that address.
-fn filled_by(layout: &Layout, address: u64) -> Option<usize> {
-    for (i, segment) in layout.segments.as_slice().iter().enumerate() {
-        let end = segment.address.saturating_add(segment.file_size);
-        if segment.kind == PT_LOAD && segment.address <= address && address < end {
-            return Some(i);
-        }
-    }
-    None
-}
-
 /// Adds zeroed sections that a segment fills with file bytes.
 fn push_zeros(out: &mut String, layout: &Layout) -> Result<(), AllocError> {
     for (i, section) in layout.sections.as_slice().iter().enumerate() {
+        let address = section.address;
+        let mut filled_by = None;
+        for (j, segment) in layout.segments.as_slice().iter().enumerate() {
+            let end = segment.address.saturating_add(segment.file_size);
+            let is_in = segment.address <= address && address < end;
+            if filled_by.is_none() && segment.kind == PT_LOAD && is_in {
+                filled_by = Some(j);
+            }
+        }
         if section.is_without_data()
             && has_addresses(section)
-            && let Some(segment) = filled_by(layout, section.address)
+            && let Some(segment) = filled_by
         {
-            let address = section.address;
             write!(
                 out,
                 "advice: /segments/{segment}/file_size reaches address {address} of "
@@ -177,22 +174,7 @@ fn push_tables(out: &mut String, layout: &Layout) -> Result<(), AllocError> {
     Ok(())
 }
 
-/// Whether a writable section has all these addresses.
-fn has_room(layout: &Layout, address: u64, size: u64) -> bool {
-    for section in layout.sections.as_slice() {
-        let end = section.address.saturating_add(section.size);
-        if is_allocated(section.flags)
-            && is_writable(section.flags)
-            && section.address <= address
-            && address.saturating_add(size) <= end
-        {
-            return true;
-        }
-    }
-    false
-}
-
-/// Adds the copies of a library that have no room in writable data.
+/// Adds the copies of a library's symbols that have no room in writable data.
 fn push_copies(out: &mut String, layout: &Layout, file: &File) -> Result<(), AllocError> {
     for copy in file.copied() {
         let definition: SymbolIndex = layout.canonical(*copy);
@@ -204,7 +186,14 @@ fn push_copies(out: &mut String, layout: &Layout, file: &File) -> Result<(), All
             None => 0,
         };
         let size = symbol.size;
-        if !has_room(layout, address, size) {
+        let mut has_room = false;
+        for section in layout.sections.as_slice() {
+            let end = section.address.saturating_add(section.size);
+            let is_in = section.address <= address && address.saturating_add(size) <= end;
+            has_room = has_room
+                || is_allocated(section.flags) && is_writable(section.flags) && is_in;
+        }
+        if !has_room {
             write!(out, "advice: the copy of ")?;
             push_symbol(out, layout, definition.0)?;
             writeln!(
@@ -216,7 +205,7 @@ fn push_copies(out: &mut String, layout: &Layout, file: &File) -> Result<(), All
     Ok(())
 }
 
-/// Adds an entry that no executable segment has.
+/// Adds an entry address that is in no executable segment.
 fn push_entry(out: &mut String, layout: &Layout) -> Result<(), AllocError> {
     let (entry, _) = elf_entry_address(layout);
     let mut is_executable = false;
@@ -235,7 +224,7 @@ fn push_entry(out: &mut String, layout: &Layout) -> Result<(), AllocError> {
     Ok(())
 }
 
-/// Adds what a loader, or a program at work, would stumble over; nothing loads a relocatable object.
+/// Adds what would go wrong when the image is loaded or run. A relocatable object is not loaded.
 pub fn push_advice(out: &mut String, alloc: Global, layout: &Layout) -> Result<(), AllocError> {
     if layout.kind.is_partial_link() {
         return Ok(());

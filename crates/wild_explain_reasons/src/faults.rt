@@ -1,4 +1,4 @@
-//! Faults of relocations, slots, copies and symbols, in words.
+//! Explanations of faults in relocations, slots, copies and symbols.
 
 use crate::items::{Item, SectionPlace, push_decided, push_found, push_item, section_at};
 use crate::names::{push_name, push_symbol, push_type};
@@ -8,7 +8,7 @@ use std::fmt::Write;
 use wild_slot::{SlotFault, SymbolSlots};
 use wild_types::{At, Fault, InputSection, Layout, Missing, Why};
 
-/// What is wrong with a relocation, a slot, a symbol or a section of frames, and what can be done: a row for each fault, by `words_number`.
+/// What is wrong with a relocation, a slot, a symbol or a section of frames, and the remedy. `words_number` has the row of a fault.
 const FAULT_WORDS: [(&str, &str); 27] = [
     // 0: Why::Malformed
     (
@@ -193,7 +193,7 @@ fn words_number(fault: Fault) -> usize {
     }
 }
 
-/// The words for a fault there.
+/// The explanation and the remedy for a fault at a place.
 fn words_at(
     layout: &Layout,
     fault: Fault,
@@ -278,7 +278,7 @@ fn refused_slot(layout: &Layout, at: At, fault: Fault) -> Option<usize> {
     None
 }
 
-/// Adds where a fault is that is in no section.
+/// Adds the place of a fault that is in no input section.
 fn push_outside(out: &mut String, layout: &Layout, fault: Fault, at: At) -> Result<(), AllocError> {
     if let Fault::ThunkOutOfRange { value } = fault
         && let Some(thunk) = refused_thunk(layout, at, value)
@@ -306,7 +306,7 @@ fn push_outside(out: &mut String, layout: &Layout, fault: Fault, at: At) -> Resu
     Ok(())
 }
 
-/// Adds where a fault is in an input section, and what stands there.
+/// Adds the place of a fault in an input section, and what the plan has there.
 fn push_inside(
     out: &mut String,
     layout: &Layout,
@@ -339,7 +339,7 @@ fn push_inside(
     }
 }
 
-/// Adds why a relocation, a slot, a copy or a symbol is refused: what is wrong, where, what stands there, and what can be done.
+/// Adds why a relocation, a slot, a copy or a symbol is refused: what is wrong, its path, what the plan has there, and the remedy.
 pub(crate) fn push_fault(
     out: &mut String,
     layout: &Layout,

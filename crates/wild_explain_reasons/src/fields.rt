@@ -10,12 +10,12 @@ use wild_reloc::RelocationSize;
 use wild_slot::{Treatment, treatment_of};
 use wild_types::{InputRelocation, InputSection, Layout, Machine, field_bytes, row_of};
 
-/// The byte of a list at an offset; 0 where there is none.
+/// The byte at an offset; 0 past the end.
 fn byte_at(bytes: &[u8], offset: u64) -> u8 {
     bytes.get(offset as usize).copied().unwrap_or(0)
 }
 
-/// Adds so many bytes from an offset on, in hex.
+/// Adds `count` bytes from an offset on, in hex.
 fn push_bytes(out: &mut String, bytes: &[u8], offset: u64, count: u64) -> Result<(), AllocError> {
     for i in 0..count {
         let byte = byte_at(bytes, offset.saturating_add(i));
@@ -24,7 +24,7 @@ fn push_bytes(out: &mut String, bytes: &[u8], offset: u64, count: u64) -> Result
     Ok(())
 }
 
-/// The word of a list at an offset.
+/// The word of 4 bytes at an offset.
 fn word_at(bytes: &[u8], offset: u64) -> u32 {
     let mut word = [0; 4];
     for (i, byte) in word.iter_mut().enumerate() {
@@ -33,7 +33,7 @@ fn word_at(bytes: &[u8], offset: u64) -> u32 {
     u32::from_le_bytes(word)
 }
 
-/// Whether one of the three bytes ahead of a field is another in the image.
+/// Whether one of the three bytes before a field differs in the image.
 fn is_changed_ahead(section: &InputSection, image: &[u8], start: u64, offset: u64) -> bool {
     let first = offset.saturating_sub(3);
     for i in first..offset {
@@ -45,7 +45,7 @@ fn is_changed_ahead(section: &InputSection, image: &[u8], start: u64, offset: u6
     false
 }
 
-/// Whether the instruction of a relocation is another in the image, where the section begins at `start`: on AArch64 its word but for the
+/// Whether the instruction of a relocation differs in the image, in which the section begins at `start`: on AArch64 its word outside the
 /// field, on x86-64 one of the three bytes before the field.
 fn is_rewritten(
     machine: Machine,

@@ -6,7 +6,7 @@ use crate::verdict::{Verdict, due, plain};
 use wild_types::{InputSection, Layout, Merged, Role, Slot, SortedSection, has_role};
 
 /// Whether an entry of the order fails a test.
-pub(crate) fn test_sorted(layout: &Layout, entry: SortedSection, test: SortedTest) -> bool {
+pub(crate) fn test_sorted(layout: &Layout, entry: SortedSection, test: &SortedTest) -> bool {
     let at = SectionPlace {
         group: entry.group,
         file: entry.file,
@@ -18,7 +18,7 @@ pub(crate) fn test_sorted(layout: &Layout, entry: SortedSection, test: SortedTes
     }
 }
 
-/// Whether a sorted section is named once; others need not be.
+/// Whether a sorted section is named exactly once; other sections need not be.
 pub(crate) fn is_named_once(layout: &Layout, at: SectionPlace, section: &InputSection) -> bool {
     let mut times: usize = 0;
     for entry in layout.sorted.as_slice() {
@@ -37,7 +37,7 @@ fn is_raw(layout: &Layout, part: usize) -> bool {
     }
 }
 
-/// The room of a part in the first group.
+/// The first group's share of a part.
 fn room(layout: &Layout, part: usize) -> u64 {
     match layout.groups.as_slice().get(0) {
         Some(group) => group.given(part),
@@ -79,7 +79,7 @@ pub(crate) fn test_merged(
     layout: &Layout,
     index: usize,
     merged: &Merged,
-    test: MergedTest,
+    test: &MergedTest,
 ) -> Verdict {
     let size = size_of(merged);
     match test {
@@ -96,7 +96,7 @@ pub(crate) fn test_merged(
 }
 
 /// Whether the linker's name of itself fails a test.
-pub(crate) fn test_identity(layout: &Layout, test: PlanTest) -> Verdict {
+pub(crate) fn test_identity(layout: &Layout, test: &PlanTest) -> Verdict {
     let (part, size) = (layout.identity.part, layout.identity.bytes.len() as u64);
     match test {
         PlanTest::IdentityPart => plain(part >= layout.parts.len()),
@@ -119,7 +119,7 @@ pub(crate) fn types_before(layout: &Layout, ptype: u32, index: usize) -> bool {
     false
 }
 
-/// Whether the path of the interpreter does not end with its only zero byte, where there is one.
+/// Whether a path is not empty and does not end with its only zero byte.
 pub(crate) fn ends_without_zero(path: &[u8]) -> bool {
     for (i, byte) in path.iter().enumerate() {
         if *byte == 0 {

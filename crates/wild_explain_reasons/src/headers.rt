@@ -13,7 +13,7 @@ pub(crate) fn ends_high(start: u64, size: u64) -> bool {
     start.saturating_add(size) > 1 << 62
 }
 
-/// Whether bytes lie in others.
+/// Whether a range lies in another.
 fn lies_within(start: u64, size: u64, inner: u64, inner_size: u64) -> bool {
     start <= inner && inner.saturating_add(inner_size) <= start.saturating_add(size)
 }
@@ -39,7 +39,7 @@ pub(crate) fn given_before(layout: &Layout, part: usize, group: usize) -> u64 {
     sum
 }
 
-/// The end in the file of the parts ahead.
+/// The file offset after the parts before one.
 fn end_before(layout: &Layout, index: usize) -> u64 {
     let mut end = 0;
     for (i, part) in layout.parts.as_slice().iter().enumerate() {
@@ -62,7 +62,7 @@ fn lies_in(layout: &Layout, section: &Section, part: &Part) -> bool {
         && (!is_allocated(section.flags) || is_even)
 }
 
-/// Whether a loaded segment has the file bytes of a part, or if nothing of its section is written its addresses.
+/// Whether a loaded segment has the file bytes of a part, or its addresses if its section is not written.
 fn is_carried(layout: &Layout, part: &Part) -> bool {
     for segment in layout.segments.as_slice() {
         let holds = if layout.is_hollow_at(part.section) {
@@ -80,7 +80,7 @@ fn is_carried(layout: &Layout, part: &Part) -> bool {
 }
 
 /// Whether a part fails a test.
-pub(crate) fn test_part(layout: &Layout, index: usize, part: &Part, test: PartTest) -> Verdict {
+pub(crate) fn test_part(layout: &Layout, index: usize, part: &Part, test: &PartTest) -> Verdict {
     match test {
         PartTest::Ends => plain(
             !part.align.is_power_of_two()
@@ -98,7 +98,7 @@ pub(crate) fn test_part(layout: &Layout, index: usize, part: &Part, test: PartTe
         PartTest::At(offset) => {
             let has_none = layout.kind.is_partial_link() && has_role(Role::ProgramHeaders, part);
             let is_asked = !has_none;
-            due(is_asked && part.offset != offset, offset)
+            due(is_asked && part.offset != *offset, *offset)
         }
         PartTest::Follows => match first_of(layout, Role::RelaDynRelative) {
             Some((_, before)) => {
@@ -181,7 +181,7 @@ pub(crate) fn test_section(
     layout: &Layout,
     index: usize,
     section: &Section,
-    test: SectionTest,
+    test: &SectionTest,
 ) -> Verdict {
     let zeros = section.is_without_data();
     let is_loaded = index != 0 && is_allocated(section.flags) && !layout.kind.is_partial_link();
@@ -253,7 +253,7 @@ pub(crate) fn test_segment(
     layout: &Layout,
     index: usize,
     segment: &Segment,
-    test: SegmentTest,
+    test: &SegmentTest,
 ) -> Verdict {
     let is_loaded = segment.kind == PT_LOAD;
     let (end, count) = segments_before(layout, index);

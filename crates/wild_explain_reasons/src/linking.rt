@@ -10,7 +10,7 @@ use wild_types::{File, Layout, Role, is_there};
 /// Local binding, the high bits of `st_info` (gABI, "Symbol Table").
 const STB_LOCAL: u8 = 0;
 
-/// Adds a library that nothing names, or a name of one that no library has.
+/// Adds a library without a name, or the name of a library at a file that is none.
 pub(crate) fn push_library(
     out: &mut String,
     layout: &Layout,
@@ -38,7 +38,7 @@ pub(crate) fn push_library(
     Ok(())
 }
 
-/// Adds the path of the dynamic linker without its part, or the part without the path.
+/// Adds a path of the dynamic linker without its part, or the part without a path.
 pub(crate) fn push_path(out: &mut String, layout: &Layout, word: &str) -> Result<(), AllocError> {
     let is_given = !layout.interp.as_slice().is_empty();
     let is_held = is_there(Role::Interp, layout.parts.as_slice());
@@ -57,7 +57,7 @@ pub(crate) fn push_path(out: &mut String, layout: &Layout, word: &str) -> Result
     Ok(())
 }
 
-/// Adds the first local symbol of those that other modules see, and how many there are.
+/// Adds the first local symbol in `dynsyms`, and how many of them there are.
 pub(crate) fn push_listed(out: &mut String, layout: &Layout) -> Result<(), AllocError> {
     let mut first: Option<(usize, usize)> = None;
     let mut count: usize = 0;

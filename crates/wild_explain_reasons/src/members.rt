@@ -1,9 +1,9 @@
-//! Which members the objects of a plan have.
+//! The members of each object of a plan.
 
 use std::alloc::AllocError;
 use std::fmt::Write;
 
-/// Of each sort of object its path, with `*` for a place in a list, and its members.
+/// For each kind of object its path, with `*` for an index in a list, and its members.
 const MEMBERS: [(&str, &str); 26] = [
     (
         "",
@@ -75,7 +75,7 @@ fn is_shaped(path: &str, shape: &str) -> bool {
     steps.next().is_none()
 }
 
-/// Adds why a text is no plan, by the path of its first wrong member: what is wrong, where, and of a member that is unknown those that are known there.
+/// Adds why a text is no plan, from the path of its first wrong member: what is wrong, the path, and for an unknown member the known ones.
 pub fn push_no_plan(out: &mut String, path: &str) -> Result<(), AllocError> {
     let (outer, name) = match path.rsplit_once("/") {
         Some(steps) => steps,

@@ -1,4 +1,4 @@
-//! What each part needs, and what an image has.
+//! How many bytes each part needs, and how many it has in an image.
 
 use crate::names::role_word;
 use std::alloc::AllocError;
@@ -6,7 +6,7 @@ use std::fmt::Write;
 use wild_needs::needs;
 use wild_types::{Group, Layout, Part, Role, has_role};
 
-/// Adds what each part needs in all, and what each group needs of each part: a raw part is given what `part_sizes` says.
+/// Adds how many bytes each part needs, and how many each group needs of it. For a raw part these are those of `part_sizes`.
 pub fn push_needs(out: &mut String, layout: &Layout) -> Result<(), AllocError> {
     for (i, part) in layout.parts.as_slice().iter().enumerate() {
         let word = role_word(part.role);
@@ -39,7 +39,7 @@ pub fn push_needs(out: &mut String, layout: &Layout) -> Result<(), AllocError> {
     Ok(())
 }
 
-/// Where the last input section of a group ends that stands in a raw part in the order of the files.
+/// The end of the last input section of a group in a raw part, in the order of the files.
 fn end_in(group: &Group, part: usize) -> Option<u64> {
     let mut last: Option<u64> = None;
     for file in group.files.as_slice() {
@@ -79,7 +79,7 @@ pub(crate) fn push_room(
     Ok(())
 }
 
-/// Adds how many bytes each part has, and whose they are.
+/// Adds how many bytes each part has, and how many each group has of it.
 pub fn push_image(out: &mut String, layout: &Layout) -> Result<(), AllocError> {
     for (i, part) in layout.parts.as_slice().iter().enumerate() {
         let word = role_word(part.role);

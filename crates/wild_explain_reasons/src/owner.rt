@@ -1,4 +1,4 @@
-//! Who owns a byte of the image.
+//! Which part, group, input section and relocation a byte of the image belongs to.
 
 use crate::faults::push_relocation;
 use crate::headers::given_before;
@@ -57,27 +57,6 @@ fn push_input(
     Ok(())
 }
 
-/// Adds which input section of a group has an address in a part, or which thunk.
-fn push_owned(
-    out: &mut String,
-    layout: &Layout,
-    group: usize,
-    part: usize,
-    address: u64,
-) -> Result<(), AllocError> {
-    if let Some(at) = section_with(layout, group, part, address) {
-        return push_input(out, layout, at, address);
-    }
-    if part == layout.primary_part
-        && let Some((thunk, byte)) = thunk_with(layout, group, address)
-    {
-        write!(out, "owner: byte {byte} of ")?;
-        push_item(out, thunk)?;
-        writeln!(out)?;
-    }
-    Ok(())
-}
-
 /// Adds which group has a byte of a part, and which input section or thunk.
 fn push_in_part(
     out: &mut String,
@@ -98,15 +77,25 @@ fn push_in_part(
         if before <= byte && byte < through {
             let own = byte - before;
             writeln!(out, "group: byte {own} of the share of /groups/{group}")?;
-            if has_role(Role::Raw, part) {
-                push_owned(out, layout, group, index, address)?;
+            let owner = section_with(layout, group, index, address);
+            if has_role(Role::Raw, part)
+                && let Some(at) = owner
+            {
+                push_input(out, layout, at, address)?;
+            } else if has_role(Role::Raw, part)
+                && index == layout.primary_part
+                && let Some((thunk, byte)) = thunk_with(layout, group, address)
+            {
+                write!(out, "owner: byte {byte} of ")?;
+                push_item(out, thunk)?;
+                writeln!(out)?;
             }
         }
     }
     Ok(())
 }
 
-/// Adds who owns the byte of the image at an offset.
+/// Adds what the byte of the image at an offset belongs to.
 pub fn push_owner(out: &mut String, layout: &Layout, offset: u64) -> Result<(), AllocError> {
     for (i, part) in layout.parts.as_slice().iter().enumerate() {
         let end = part.offset.saturating_add(part.size);

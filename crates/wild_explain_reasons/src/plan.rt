@@ -1,4 +1,4 @@
-//! Tests of the plan as a whole, and what stands there.
+//! Tests of the plan as a whole, and the members that they look at.
 
 use crate::fronts::{ends_without_zero, test_identity};
 use crate::headers::segments_before;
@@ -13,7 +13,7 @@ use wild_needs::total_share;
 use wild_types::{Entry, GnuHash, Layout, Role, has_role, is_there};
 use wild_words::Bytes;
 
-/// Whether a name that may be there has a zero byte.
+/// Whether there is a name, and it has a zero byte.
 fn has_zero(name: &Option<Bytes>) -> bool {
     match name {
         Some(name) => name.as_slice().contains(&0),
@@ -21,20 +21,8 @@ fn has_zero(name: &Option<Bytes>) -> bool {
     }
 }
 
-/// Whether the part of thunks is a raw one in an allocated section with data.
-fn holds_thunks(layout: &Layout) -> bool {
-    match layout.parts.as_slice().get(layout.primary_part) {
-        Some(part) => {
-            has_role(Role::Raw, part)
-                && layout.has_data(part.section)
-                && layout.is_allocated_section(part.section)
-        }
-        None => false,
-    }
-}
-
 /// Whether the shape of the GNU hash table fails a test.
-fn test_shape(layout: &Layout, shape: GnuHash, test: PlanTest) -> Verdict {
+fn test_shape(layout: &Layout, shape: GnuHash, test: &PlanTest) -> Verdict {
     match test {
         PlanTest::GnuBuckets => plain(shape.buckets == 0),
         PlanTest::GnuBloom => plain(shape.bloom_count == 0),
@@ -49,7 +37,7 @@ fn test_shape(layout: &Layout, shape: GnuHash, test: PlanTest) -> Verdict {
 }
 
 /// Whether the plan fails a test; `index` is that of the clause.
-pub(crate) fn test_plan(layout: &Layout, index: usize, test: PlanTest) -> Verdict {
+pub(crate) fn test_plan(layout: &Layout, index: usize, test: &PlanTest) -> Verdict {
     let parts = layout.parts.as_slice();
     let page = layout.page_size;
     match test {
@@ -63,8 +51,8 @@ pub(crate) fn test_plan(layout: &Layout, index: usize, test: PlanTest) -> Verdic
         PlanTest::NoSection => plain(layout.sections.len() == 0),
         PlanTest::NoGroup => plain(layout.groups.len() == 0),
         PlanTest::Missing(role) => {
-            let has_none = layout.kind.is_partial_link() && matches!(role, Role::ProgramHeaders);
-            plain(!is_there(role, parts) && !has_none)
+            let has_none = layout.kind.is_partial_link() && matches!(*role, Role::ProgramHeaders);
+            plain(!is_there(*role, parts) && !has_none)
         }
         PlanTest::StaticDynamic => plain(match role_at(index) {
             Some((_, role)) => is_there(role, parts),
@@ -83,7 +71,17 @@ pub(crate) fn test_plan(layout: &Layout, index: usize, test: PlanTest) -> Verdic
             _ => false,
         }),
         PlanTest::PrimaryPart => plain(layout.primary_part >= parts.len()),
-        PlanTest::Primary => plain(has_thunks(layout) && !holds_thunks(layout)),
+        PlanTest::Primary => {
+            let holds_thunks = match parts.get(layout.primary_part) {
+                Some(part) => {
+                    has_role(Role::Raw, part)
+                        && layout.has_data(part.section)
+                        && layout.is_allocated_section(part.section)
+                }
+                None => false,
+            };
+            plain(has_thunks(layout) && !holds_thunks)
+        }
         PlanTest::Pair => {
             let behind = behind_reserved(layout);
             due(layout.tlsld.unwrap_or(behind) != behind, behind)
@@ -125,7 +123,7 @@ pub(crate) fn push_plan(
     out: &mut String,
     layout: &Layout,
     index: usize,
-    test: PlanTest,
+    test: &PlanTest,
 ) -> Result<(), AllocError> {
     match test {
         PlanTest::PageSize => {
@@ -137,7 +135,7 @@ pub(crate) fn push_plan(
             write!(out, "start {start}, end {end}, align {align}")?;
         }
         PlanTest::Missing(role) => {
-            let word = role_word(role);
+            let word = role_word(*role);
             write!(out, "no part of role {word}")?;
         }
         PlanTest::PrimaryPart | PlanTest::Primary => {

@@ -7,7 +7,7 @@ use wild_needs::{dynsym_of, is_undefined_entry};
 use wild_slot::{STUB_SIZE, SymbolSlots, WORD_SIZE, WordPart, begins_block, count_words};
 use wild_types::{Layout, Place, Role, Symbol, SymbolIndex, got_of, has_thread_slot, plt_of};
 
-/// Where the part of a role begins; 0 where there is none.
+/// The address of the part of a role; 0 if there is none.
 fn start_of(layout: &Layout, role: Role) -> u64 {
     match first_of(layout, role) {
         Some((_, part)) => part.address,
@@ -15,13 +15,13 @@ fn start_of(layout: &Layout, role: Role) -> u64 {
     }
 }
 
-/// The place behind the reserved words.
+/// The address after the reserved words of `got`.
 pub(crate) fn behind_reserved(layout: &Layout) -> u64 {
     start_of(layout, Role::Got).saturating_add(layout.got_header.saturating_mul(8))
 }
 
-/// The next free word of `got` and of `got_relr`, and the next free stub of `plt_got`, when a symbol has its turn; none if no file
-/// writes its slots.
+/// The next free word of `got` and of `got_relr`, and the next free stub of `plt_got`, before a symbol's slots are assigned; none if no
+/// file writes them.
 fn free_at(layout: &Layout, index: usize) -> Option<(u64, u64, u64)> {
     let pair = if layout.tlsld.is_some() { 16 } else { 0 };
     let relr = layout.options.relr;
@@ -60,7 +60,7 @@ fn astray(found: Option<u64>, expected: u64) -> Verdict {
 }
 
 /// Whether the slots and the stub of a symbol fail a test.
-fn test_slots(layout: &Layout, index: usize, symbol: &Symbol, test: SymbolTest) -> Verdict {
+fn test_slots(layout: &Layout, index: usize, symbol: &Symbol, test: &SymbolTest) -> Verdict {
     let got = got_of(symbol);
     let Some((free_got, free_block, free_stub)) = free_at(layout, index) else {
         let unwritten = matches!(test, SymbolTest::Unwritten);
@@ -121,7 +121,7 @@ fn is_homeless(layout: &Layout, index: usize, section: usize) -> bool {
 }
 
 /// Whether the flags of a symbol fail a test.
-fn test_flags(layout: &Layout, symbol: &Symbol, test: SymbolTest) -> bool {
+fn test_flags(layout: &Layout, symbol: &Symbol, test: &SymbolTest) -> bool {
     let flags = symbol.flags;
     let stub = plt_of(symbol);
     let thread = has_thread_slot(flags);
@@ -156,7 +156,7 @@ pub(crate) fn test_symbol(
     layout: &Layout,
     index: usize,
     symbol: &Symbol,
-    test: SymbolTest,
+    test: &SymbolTest,
 ) -> Verdict {
     match test {
         SymbolTest::Definition => plain(match symbol.definition {

@@ -1,4 +1,4 @@
-//! Tests of thunks, and where they stand.
+//! Tests of thunks and of their addresses.
 
 use crate::items::{Item, SectionPlace};
 use crate::tests::ThunkTest;
@@ -9,7 +9,7 @@ use wild_types::{At, Group, Layout, Thunk};
 /// The bytes of a thunk.
 const THUNK_SIZE: u64 = 12;
 
-/// Whether there are thunks.
+/// Whether a layout has thunks.
 pub(crate) fn has_thunks(layout: &Layout) -> bool {
     for block in layout.thunk_blocks.as_slice() {
         if block.len() != 0 {
@@ -20,7 +20,7 @@ pub(crate) fn has_thunks(layout: &Layout) -> bool {
 }
 
 /// The first thunk whose symbol is not there, or for the other test does not come after that of the one before.
-fn first_wrong(layout: &Layout, thunks: &[Thunk], test: ThunkTest) -> Option<usize> {
+fn first_wrong(layout: &Layout, thunks: &[Thunk], test: &ThunkTest) -> Option<usize> {
     let mut low: usize = 0;
     for (i, thunk) in thunks.iter().enumerate() {
         let is_wrong = match test {
@@ -85,7 +85,7 @@ fn misplaced_in(
     None
 }
 
-/// The same of all groups.
+/// The same for all groups.
 fn first_misplaced(layout: &Layout) -> Option<Finding> {
     let part = layout.primary_part;
     let mut start = layout.parts.as_slice().get(part)?.address;
@@ -100,8 +100,8 @@ fn first_misplaced(layout: &Layout) -> Option<Finding> {
     None
 }
 
-/// The thunk, or the input section, that fails a test, where the clause fails at an index.
-pub(crate) fn find_thunk(layout: &Layout, index: usize, test: ThunkTest) -> Option<Finding> {
+/// The thunk, or the input section, that fails a test of a clause that fails at an index.
+pub(crate) fn find_thunk(layout: &Layout, index: usize, test: &ThunkTest) -> Option<Finding> {
     if let ThunkTest::Place = test {
         return first_misplaced(layout);
     }
@@ -142,7 +142,7 @@ pub(crate) fn refused_thunk(layout: &Layout, at: At, value: u64) -> Option<Item>
     None
 }
 
-/// The thunk of a group that has the address, and how far behind its start that is.
+/// The thunk of a group that has the address, and the offset of the address in it.
 pub(crate) fn thunk_with(layout: &Layout, group: usize, address: u64) -> Option<(Item, u64)> {
     let found = layout.groups.as_slice().get(group)?;
     for file in found.files.as_slice() {

@@ -1,4 +1,4 @@
-//! Tests of the crates up to the loader's model, the rewrites, the hash tables, the frames, the workers and the ends.
+//! Tests of the low crates: records, relocations, the loader's model, rewrites, hash tables, frames, workers, shards and I/O.
 #![tactic(auto)]
 
 #[cfg(test)]

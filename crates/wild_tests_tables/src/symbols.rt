@@ -197,12 +197,22 @@ fn writer(
     dynamic: bool,
 ) -> Result<SymbolTableWriter, AllocError> {
     if dynamic {
-        if dynstr_start(layout, group) > 100 || share_of(layout, group, Role::Dynstr) > 100 {
+        let start = dynstr_start(layout, group);
+        let room = share_of(layout, group, Role::Dynstr);
+        if start > 100 {
+            return Err(AllocError);
+        }
+        if room > 100 {
             return Err(AllocError);
         }
         return SymbolTableWriter::new_dynamic(alloc, layout, group);
     }
-    if strtab_start(layout, group) > 100 || share_of(layout, group, Role::Strtab) > 100 {
+    let start = strtab_start(layout, group);
+    let room = share_of(layout, group, Role::Strtab);
+    if start > 100 {
+        return Err(AllocError);
+    }
+    if room > 100 {
         return Err(AllocError);
     }
     SymbolTableWriter::new(alloc, layout, group)
