@@ -1,4 +1,4 @@
-//! Tests of images in memory, and of what a loader makes of them: what no contract says, with words from outside.
+//! Tests of images in memory, and of the memory after they are loaded: what no contract says, with words from the standards.
 #![tactic(auto)]
 
 #[cfg(test)]

@@ -1,5 +1,5 @@
-//! What a loader makes of outputs that a dynamic linker loads, at two bases: slots, symbols of other modules, thread-local data and
-//! a copy, with the references to them.
+//! Outputs that a dynamic linker loads, at two bases: slots, symbols of other modules, thread-local data and a copy, with the
+//! references to them.
 use crate::written::image_of;
 use std::alloc::Global;
 use std::test::*;
@@ -7,8 +7,8 @@ use wild_loader::{Answer, Memory, World, load_image};
 use wild_tests_plans::{LIBRARY, PROGRAM};
 use wild_words::{Bytes, Items};
 
-/// A plan, its module and how far that one's thread-local data are from the thread pointer, the place of what is symbol 2 and whether that
-/// moves with the base, and words: their places, what they are, and whether that moves.
+/// A plan; the number of its module and the distance of that module's thread-local data from the thread pointer; the address of symbol 2 and
+/// whether it moves with the base; and words: their places, their values, and whether a value moves with the base.
 struct Linked {
     plan: &'static str,
     own: (u64, i64),

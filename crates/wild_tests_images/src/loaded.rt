@@ -1,4 +1,4 @@
-//! What a loader makes of images: of each kind of output, words that relocations and entries fill.
+//! Loaded images: for each kind of output, words that relocations and dynamic entries fill.
 use crate::written::image_of;
 use std::alloc::Global;
 use std::test::*;
@@ -184,7 +184,7 @@ fn answers(alloc: Global) -> Result<Vec<Answer>, Fail> {
     Ok(symbols)
 }
 
-/// A world that has symbol 1 at 0x7000, module 1 ahead of the thread pointer by 16 bytes, and these answers of resolvers.
+/// A world with symbol 1 at 0x7000, module 1's data 16 bytes before the thread pointer, and these answers of resolvers.
 fn world(alloc: Global, base: u64, resolvers: &[(u64, u64)]) -> Result<World, Fail> {
     let resolvers = Vec::from_slice(alloc, resolvers)?;
     let modules = Vec::from_slice(alloc, &[(1, -16)])?;

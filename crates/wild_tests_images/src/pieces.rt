@@ -1,4 +1,4 @@
-//! What each group has of an image, and its workers.
+//! The pieces of an image that each group writes, and the workers.
 ghost use Rattle.std.specs.Prelude.{◌≡◌};
 ghost use Rattle.wild_types.specs.declared.kind.Machine.TheVariants as machine;
 
@@ -15,7 +15,7 @@ use wild_made::make_plan;
 use wild_plan::{Error, Layout, Part, well_formed};
 use wild_tests_plans::{LINKED, MOVED, PACKED, SLOTTED, SMALLEST, THREE, VERSIONED};
 
-/// What each group has of a layout.
+/// The piece of each group.
 fn pieces_of(
     rt: &(impl Threads + Sync),
     alloc: Global,
@@ -35,7 +35,7 @@ fn pieces_of(
     }
 }
 
-/// Whether part `i` of the image has what the groups have of it, one behind the other, and no byte more.
+/// Whether part `i` of the image is the groups' pieces of it, one after the other, and nothing else.
 fn has_part(layout: &Layout, i: usize, part: &Part, pieces: &[GroupPiece], image: &[u8]) -> bool {
     let mut rest = image.iter().skip(part.offset as usize);
     let mut count = 0u64;
@@ -70,7 +70,7 @@ fn counts_of(alloc: Global, pieces: &[GroupPiece], sections: usize) -> Result<Ve
     Ok(counts)
 }
 
-/// Whether each part of the image has what the groups have of it.
+/// Whether each part of the image is the groups' pieces of it.
 fn has_parts(layout: &Layout, pieces: &[GroupPiece], image: &[u8]) -> bool {
     for (i, part) in layout.parts.as_slice().iter().enumerate() {
         if !has_part(layout, i, part, pieces, image) {
@@ -115,7 +115,7 @@ fn pieces_of_groups(rt: HostRuntime) -> Result<(), Fail> {
     Ok(())
 }
 
-/// Counts who enters; the first waits for a second.
+/// Counts the workers that enter; the first waits for a second.
 #[derive(Drop)]
 struct Meeting {
     entered: AtomicU64,

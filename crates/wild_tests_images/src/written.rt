@@ -22,7 +22,7 @@ pub(crate) fn layout_of(alloc: Global, plan: &str) -> Result<Layout, Fail>
     }
 }
 
-/// A text with the second of each pair in place of the first, which stands there.
+/// A text with the first of each pair replaced by the second. An error if the text does not have the first.
 fn changed(alloc: Global, text: &str, changes: &[(&str, &str)]) -> Result<String, Fail> {
     let mut whole = String::from_str(alloc, text)?;
     for (old, new) in changes {

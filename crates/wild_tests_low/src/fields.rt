@@ -20,7 +20,7 @@ fn written(row: &RelocationKindInfo, value: u64, before: u64) -> Option<u64> {
 
 const PLAIN: u64 = 0xaaaa_aaaa_aaaa_aaaa;
 
-// Number, value, and the field that `ld.lld` 14 wrote, over bytes `aa` behind it, for `.byte`,
+// Number, value, and the field that `ld.lld` 14 wrote, before bytes `aa`, for `.byte`,
 // `.word`, `.long`, `.quad` and `movq` of `sym` and of `sym - .`; None where it said "out of range".
 const X86_64: [(u32, u64, Option<u64>); 29] = [
     (14, 0xff, Some(0xaaaa_aaaa_aaaa_aaff)),

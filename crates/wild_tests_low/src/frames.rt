@@ -11,7 +11,7 @@ use wild_frames::{
 };
 use wild_types::{InputRelocation, SymbolIndex, Why};
 
-/// A section whose fields have 4 bytes. Symbol 0 stands in a discarded section, and each other one in a loaded section.
+/// A section whose fields have 4 bytes. Symbol 0 is in a discarded section, and every other symbol in a loaded one.
 #[derive(Clone, Copy)]
 struct Example<'a> {
     bytes: &'a [u8],
@@ -73,7 +73,7 @@ fn relocations_of(alloc: Global, fields: &[(u64, u8)]) -> Result<Vec<InputReloca
     Ok(relocations)
 }
 
-/// What is kept of a section with such fields, and how many FDEs are.
+/// The bytes of a section with such fields that are kept, and how many FDEs are.
 fn kept(alloc: Global, bytes: &[u8], fields: &[(u64, u8)]) -> Result<(Vec<u8>, u64), FrameError> {
     let relocations = relocations_of(alloc, fields)?;
     let frames = Example {
@@ -86,7 +86,7 @@ fn kept(alloc: Global, bytes: &[u8], fields: &[(u64, u8)]) -> Result<(Vec<u8>, u
     Ok((out, counts.fdes))
 }
 
-/// A CIE, three FDEs that lead to it, and a zero length with 4 bytes behind it.
+/// A CIE, three FDEs whose ids lead to it, and a zero length before 4 more bytes.
 #[rattlefmt::skip]
 const THREE_FDES: [u8; 72] = [
     12, 0, 0, 0, 0x00, 0, 0, 0, 1, 2, 3, 4, 5, 6, 7, 8,
@@ -96,7 +96,7 @@ const THREE_FDES: [u8; 72] = [
     0, 0, 0, 0, 9, 9, 9, 9,
 ];
 
-/// Without the second FDE: the third one's id is the way to the CIE from where it stands now.
+/// Without the second FDE: the third one's id is its distance from the CIE at the new offset.
 #[rattlefmt::skip]
 const TWO_FDES: [u8; 48] = [
     12, 0, 0, 0, 0x00, 0, 0, 0, 1, 2, 3, 4, 5, 6, 7, 8,
@@ -104,7 +104,7 @@ const TWO_FDES: [u8; 48] = [
     12, 0, 0, 0, 0x24, 0, 0, 0, 0, 0, 0, 0, 31, 32, 33, 34,
 ];
 
-/// A CIE of 8 bytes with last bytes behind it: sections, and how many of their bytes are kept.
+/// A CIE of 8 bytes before the last bytes of a section: sections, and how many of their bytes are kept.
 const TAILS: [(&[u8], usize); 4] = [
     (&[4, 0, 0, 0, 0, 0, 0, 0, 0, 0, 0, 0], 8),
     (&[4, 0, 0, 0, 0, 0, 0, 0, 0, 0, 0], 11),

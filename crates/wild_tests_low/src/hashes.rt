@@ -152,7 +152,7 @@ const LOOKED_UP: &[(&[u8], &[u8], &[u8], &[u8], Option<u64>)] = &[
     (&LD_GNU, &LD_SYMBOLS, LD_STRINGS, b"exit", None),
 ];
 
-/// The same of System V tables.
+/// The same for System V tables.
 const LOOKED_UP_SYSV: &[(&[u8], &[u8], &[u8], &[u8], Option<u64>)] = &[
     (&SYSV, &SYMBOLS, b"\0exit\0", b"exit", Some(2)),
     (&SYSV, &SYMBOLS, b"\0exit\0", b"", Some(1)),

@@ -1,4 +1,4 @@
-//! Tests of the crates up to the loader's model, the rewrites, the hash tables, the frames, the workers and the ends.
+//! Tests of the low crates: records, relocations, the loader's model, rewrites, hash tables, frames, workers, shards and I/O.
 #![tactic(auto)]
 
 #[cfg(test)]
@@ -25,6 +25,8 @@ mod records;
 mod rewrites;
 #[cfg(test)]
 mod sequences;
+#[cfg(test)]
+mod shards;
 #[cfg(test)]
 mod stubs;
 #[cfg(test)]

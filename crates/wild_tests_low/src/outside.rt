@@ -79,12 +79,12 @@ fn sinks_in_memory(rt: HostRuntime) -> Result<(), Fail> {
     Ok(())
 }
 
-// A reader and a writer that go by a list: how many bytes the next call moves at most, or how it fails. Behind the end of
+// A reader and a writer that follow a list: how many bytes the next call moves at most, or how it fails. After the end of
 // the list no call moves any.
 #[derive(Drop)]
 struct Listed<'a> {
     calls: &'a [Result<usize, ErrorKind>],
-    // What is still to be read, and what was written.
+    // The bytes that are still to be read, and those that were written.
     left: &'a [u8],
     taken: Vec<u8>,
 }
@@ -124,7 +124,7 @@ impl Write for Listed<'_> {
     }
 }
 
-/// Reads of which one fails, and what is read by those behind it, where none of these fails.
+/// Reads of which one fails, and what the reads after it return if none of them fails.
 const READS: &[(&[Result<usize, ErrorKind>], Option<&[u8]>)] = &[
     (&[Err(ErrorKind::ConnectionReset), Ok(9)], Some(b"image")),
     (
@@ -168,7 +168,7 @@ fn reads_that_fail(rt: HostRuntime) {
     }
 }
 
-/// Writes of which one fails or takes nothing, whether the text behind it is written, and what is written of both.
+/// Writes of which one fails or takes nothing, whether the next text is written, and the bytes that are written of both.
 const WRITES: &[(&[Result<usize, ErrorKind>], bool, &[u8])] = &[
     (&[Err(ErrorKind::ConnectionReset), Ok(9)], true, b"!"),
     (&[Ok(2), Err(ErrorKind::Interrupted), Ok(9)], true, b"im!"),

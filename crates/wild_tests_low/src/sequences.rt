@@ -54,8 +54,8 @@ const SEQUENCES: &[Sequence] = &[
     (DYNAMIC, OTHERS, 0x12e0, 0x23d0, (19, 4), (9, 12, -4),
         b"\x66\x48\x8d\x3d\0\0\0\0\x66\x48\xff\x15\0\0\0\0", TlsGdToInitialExec,
         b"\x64\x48\x8b\x04\x25\0\0\0\0\x48\x03\x05\xe0\x10\0\0"),
-    // The sequences that are longer than what stands in their place, filled with `nop`. GNU `ld` 2.40 writes the same
-    // instructions, with `66 0f 1f 44 00 00` behind the first, and in the others with `66 66 66 66 2e 0f 1f 84 00 00 00 00 00`,
+    // The sequences that are longer than their replacement, filled with `nop`. GNU `ld` 2.40 writes the same
+    // instructions, with `66 0f 1f 44 00 00` after the first, and in the others with `66 66 66 66 2e 0f 1f 84 00 00 00 00 00`,
     // or four prefixes `66`, before them; lld 22 writes the third as GNU `ld` does.
     (DYNAMIC, OWN, 0x1040, LAST, (19, 3), (31, 9, 0),
         b"\x48\x8d\x3d\0\0\0\0\x48\xb8\0\0\0\0\0\0\0\0\x48\x01\xd8\xff\xd0", TlsGdToLocalExecLarge,

@@ -22,7 +22,7 @@ impl Counted for Reads {
     }
 }
 
-// Three groups, of which one may find no memory, and how often each was entered, and was run.
+// Three groups, one of which may run out of memory, and how often each was entered and run.
 #[derive(Drop)]
 struct Marks {
     lacking: u32,
@@ -80,7 +80,7 @@ impl Marks {
         }
     }
 
-    // Whether each group was entered and run once.
+    // Whether each group was entered once and run once.
     fn are_once(&self) -> bool {
         for group in 0..3usize {
             let entered = self.entered[group].load(Ordering::SeqCst);

@@ -1,4 +1,4 @@
-//! Texts for images and for layouts that have none.
+//! Printed answers, for images and for layouts that are refused.
 use crate::layouts::layout_of;
 use std::test::*;
 use wild_plan::{At, EntryWarning, Error, Fault, Missing, SymbolIndex};

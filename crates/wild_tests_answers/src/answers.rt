@@ -1,10 +1,10 @@
-//! What the programs say of a plan in memory.
+//! What the two programs print for a plan in memory.
 use std::alloc::{AllocError, Global};
 use std::thread::Threads;
 use wild_explain::explain;
 use wild_program::{MemSink, MemSource, run};
 
-/// The most bytes that move at once.
+/// The most bytes that one read or write moves.
 const MOST: usize = 100_000;
 
 fn source_of(alloc: Global, plan: &str) -> Result<MemSource, AllocError> {
@@ -23,8 +23,8 @@ fn words_of(alloc: Global, words: &[&str]) -> Result<Vec<String>, AllocError> {
     Ok(owned)
 }
 
-/// The status and the text of `link` with so many workers.
-pub(crate) fn linked(
+/// The status and the output of `link` with so many workers.
+pub(crate) fn link_answer(
     rt: &(impl Threads + Sync),
     alloc: Global,
     plan: &str,
@@ -37,18 +37,18 @@ pub(crate) fn linked(
     Ok((status, sink.bytes().to_vec(alloc)?))
 }
 
-/// The text of `explain`; none where it is no text.
-pub(crate) fn explained(
+/// The status and the output of `explain`; an empty output if it is not UTF-8.
+pub(crate) fn explain_answer(
     rt: &(impl Threads + Sync),
     alloc: Global,
     plan: &str,
-) -> Result<String, AllocError> {
+) -> Result<(u8, String), AllocError> {
     let words = words_of(alloc, &["explain"])?;
     let mut source = source_of(alloc, plan)?;
     let mut sink = sink(alloc);
-    let _ = explain(rt, alloc, &words, &mut source, &mut sink)?;
+    let status = explain(rt, alloc, &words, &mut source, &mut sink)?;
     match String::from_utf8(sink.bytes().to_vec(alloc)?) {
-        Ok(text) => Ok(text),
-        Err(_) => Ok(String::new(alloc)),
+        Ok(text) => Ok((status, text)),
+        Err(_) => Ok((status, String::new(alloc))),
     }
 }
