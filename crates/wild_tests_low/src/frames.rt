@@ -20,9 +20,9 @@ struct Example<'a> {
 
 impl FrameSource for Example<'_> {
     ghost use Rattle.std.specs.Prelude.{◌≡◌};
-    ghost use Rattle.wild_tests_low.specs.Worked.{target_by};
+    ghost use Rattle.wild_tests_low.specs.Examples.{symbol_target};
 
-    ghost frames = { λ e. record { bytes = e.bytes.now; relocations = e.relocations.now; width = λ r. 4; target = λ r. target_by r.symbol } };
+    ghost frames = { λ e. record { bytes = e.bytes.now; relocations = e.relocations.now; width = λ r. 4; target = λ r. symbol_target r.symbol } };
 
     fn bytes(&self) -> &[u8] {
         self.bytes
@@ -74,7 +74,11 @@ fn relocations_of(alloc: Global, fields: &[(u64, u8)]) -> Result<Vec<InputReloca
 }
 
 /// The bytes of a section with such fields that are kept, and how many FDEs are.
-fn kept(alloc: Global, bytes: &[u8], fields: &[(u64, u8)]) -> Result<(Vec<u8>, u64), FrameError> {
+fn kept_bytes(
+    alloc: Global,
+    bytes: &[u8],
+    fields: &[(u64, u8)],
+) -> Result<(Vec<u8>, u64), FrameError> {
     let relocations = relocations_of(alloc, fields)?;
     let frames = Example {
         bytes,
@@ -134,10 +138,10 @@ const REFUSED: [(&[u8], &[(u64, u8)], Why, u64); 10] = [
 #[test]
 fn kept_frames(rt: HostRuntime) -> Result<(), Fail> {
     let fields = [(24, LOADED), (40, DISCARDED), (56, LOADED)];
-    let (bytes, fdes) = kept(rt.alloc(), &THREE_FDES, &fields)?;
+    let (bytes, fdes) = kept_bytes(rt.alloc(), &THREE_FDES, &fields)?;
     assert!(rt; bytes.as_slice() == TWO_FDES.as_slice() && fdes == 2);
     for (section, count) in &TAILS {
-        let (bytes, _) = kept(rt.alloc(), *section, &[])?;
+        let (bytes, _) = kept_bytes(rt.alloc(), *section, &[])?;
         assert!(rt; bytes.len() == *count);
     }
     for (section, fields, why, offset) in &REFUSED {
@@ -145,7 +149,7 @@ fn kept_frames(rt: HostRuntime) -> Result<(), Fail> {
             why: *why,
             offset: *offset,
         };
-        let found = kept(rt.alloc(), *section, *fields).err();
+        let found = kept_bytes(rt.alloc(), *section, *fields).err();
         assert_eq!(rt; found, Some(FrameError::Bad(bad)));
     }
     Ok(())

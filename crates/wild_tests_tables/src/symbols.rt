@@ -24,7 +24,6 @@ use wild_symbols::{
 };
 
 /// A call of the writer.
-#[derive(Clone, Copy)]
 enum Call {
     /// Puts a symbol that is not defined: whether it is local, its name, and its `st_info`.
     Undefined(bool, &'static [u8], u8),
@@ -331,35 +330,35 @@ fn entry_of(layout: &Layout, index: usize, name: u64) -> Result<[u8; 24], Fail> 
 }
 
 /// Whether a call succeeds.
-fn succeeds(writer: &mut SymbolTableWriter, layout: &Layout, call: Call) -> Result<bool, Fail> {
+fn succeeds(writer: &mut SymbolTableWriter, layout: &Layout, call: &Call) -> Result<bool, Fail> {
     match call {
         Call::Undefined(is_local, name, info) => {
-            Ok(put_undefined(writer, is_local, name, info).is_ok())
+            Ok(put_undefined(writer, *is_local, *name, *info).is_ok())
         }
         Call::Finish => Ok(put_finish(writer).is_ok()),
         Call::Prefix => Ok(put_prefix(writer).is_ok()),
         Call::OneMore => Ok(writer.take_prefix_global(1, 0).is_ok()),
         Call::Null => Ok(writer.write_entry(true, b"", null_table_fields()).is_ok()),
-        Call::Entry(index) => put_entry(writer, layout, index),
+        Call::Entry(index) => put_entry(writer, layout, *index),
         Call::Copy(index, name, section, value) => {
-            put_copy(writer, symbol_of(layout, index)?, name, section, value)
+            put_copy(writer, symbol_of(layout, *index)?, *name, *section, *value)
         }
         Call::CopyAbsolute(index, name) => {
             Ok(
                 writer
-                    .copy_absolute_symbol(symbol_of(layout, index)?, name)
+                    .copy_absolute_symbol(symbol_of(layout, *index)?, *name)
                     .is_ok(),
             )
         }
         Call::CopyShndx(index, name, section, value) => {
-            let symbol = symbol_of(layout, index)?;
+            let symbol = symbol_of(layout, *index)?;
             Ok(
                 writer
-                    .copy_symbol_shndx(symbol, name, section, value)
+                    .copy_symbol_shndx(symbol, *name, *section, *value)
                     .is_ok(),
             )
         }
-        Call::Name(name, offset) => Ok(writer.strtab.write_str(name).ok() == Some(offset)),
+        Call::Name(name, offset) => Ok(writer.strtab.write_str(*name).ok() == Some(*offset)),
         Call::Far => {
             let section = SymbolSection::Index(0xff00);
             let attributes = SymbolAttributes {
@@ -383,7 +382,7 @@ fn succeeds(writer: &mut SymbolTableWriter, layout: &Layout, call: Call) -> Resu
             )
         }
         Call::Listed(index, name, wanted) => {
-            Ok(entry_of(layout, index, name)?.as_slice() == wanted)
+            Ok(entry_of(layout, *index, *name)?.as_slice() == *wanted)
         }
         Call::FullStrings => Ok(writer.strtab.check_exhausted().is_ok()),
         Call::Full => Ok(writer.check_exhausted().is_ok()),
@@ -395,7 +394,7 @@ fn are_filled(alloc: Global, layout: &Layout, row: &Row) -> Result<bool, Fail> {
     let (_, group, dynamic, calls, tables) = row;
     let mut writer = writer(alloc, layout, *group, *dynamic)?;
     for (call, wanted) in *calls {
-        if succeeds(&mut writer, layout, *call)? != *wanted {
+        if succeeds(&mut writer, layout, call)? != *wanted {
             return Ok(false);
         }
     }

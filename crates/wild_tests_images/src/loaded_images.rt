@@ -1,5 +1,5 @@
-//! Loaded images: for each kind of output, words that relocations and dynamic entries fill.
-use crate::written::image_of;
+//! LoadedImage images: for each kind of output, words that relocations and dynamic entries fill.
+use crate::plans::image_of;
 use std::alloc::Global;
 use std::test::*;
 use wild_hashes::{lookup_gnu, lookup_sysv};
@@ -8,16 +8,16 @@ use wild_tests_plans::{LINKED, MOVED, PACKED, SLOTTED, VERSIONED, WIDE};
 use wild_words::{Bytes, Items};
 
 /// A plan with changes, a base, and what memory has when its image is loaded there: pairs of an address and a word.
-struct Loaded {
+struct LoadedImage {
     plan: &'static str,
     changes: &'static [(&'static str, &'static str)],
     base: u64,
     words: &'static [(u64, u64)],
 }
 
-const LOADED: [Loaded; 10] = [
+const IMAGES: [LoadedImage; 10] = [
     // static: the call's distance, and the function's address
-    Loaded {
+    LoadedImage {
         plan: WIDE,
         changes: &[(
             r#""addend":-4}"#,
@@ -28,7 +28,7 @@ const LOADED: [Loaded; 10] = [
     },
     // `mov %fs:0,%rax; lea x@tpoff(%rax),%rax`, written over a sequence with its call, whatever that lacks ("ELF Handling For
     // Thread-Local Storage", General Dynamic To Local Exec); 8 bytes of data begin at 0x400088
-    Loaded {
+    LoadedImage {
         plan: WIDE,
         changes: &[
             (
@@ -58,7 +58,7 @@ const LOADED: [Loaded; 10] = [
     },
     // the slots as the psABI has them: the resolver's answer, the address of the stub, that of `v`; the offset of `t` from the
     // thread pointer at 0x402010, its module and its offset there; module 1 and the thread pointer less the data's start
-    Loaded {
+    LoadedImage {
         plan: SLOTTED,
         changes: &[],
         base: 0,
@@ -75,7 +75,7 @@ const LOADED: [Loaded; 10] = [
         ],
     },
     // static_pie: both pointers have the variable's loaded address; no other byte beside them changes
-    Loaded {
+    LoadedImage {
         plan: MOVED,
         changes: &[],
         base: 0,
@@ -86,7 +86,7 @@ const LOADED: [Loaded; 10] = [
             (0x3010, 0x1040),
         ],
     },
-    Loaded {
+    LoadedImage {
         plan: MOVED,
         changes: &[],
         base: 0x1_0000,
@@ -98,7 +98,7 @@ const LOADED: [Loaded; 10] = [
         ],
     },
     // places are packed section by section (gABI, "Relative Relocation Table")
-    Loaded {
+    LoadedImage {
         plan: PACKED,
         changes: &[],
         base: 0x1_0000,
@@ -115,19 +115,19 @@ const LOADED: [Loaded; 10] = [
             (0x1_3208, 0x1_1040),
         ],
     },
-    Loaded {
+    LoadedImage {
         plan: LINKED,
         changes: &[],
         base: 0x1_0000,
         words: &[(0x41_3008, 0x7005), (0x41_3010, 0x41_1042)],
     },
-    Loaded {
+    LoadedImage {
         plan: LINKED,
         changes: &[(r#""dynamic_pie""#, r#""shared""#)],
         base: 0x2_0000,
         words: &[(0x42_3008, 0x7005), (0x42_3010, 0x42_1042)],
     },
-    Loaded {
+    LoadedImage {
         plan: LINKED,
         changes: &[
             (r#""dynamic_pie""#, r#""dynamic""#),
@@ -143,7 +143,7 @@ const LOADED: [Loaded; 10] = [
     },
     // the versions of symbols, those that are defined and those that are needed, as `readelf -V` reads them (gABI and LSB,
     // "Symbol Versioning")
-    Loaded {
+    LoadedImage {
         plan: VERSIONED,
         changes: &[],
         base: 0x1_0000,
@@ -216,7 +216,7 @@ fn has_words(memory: &Memory, words: &[(u64, u64)]) -> bool {
 
 #[test]
 fn loaded_words(rt: HostRuntime) -> Result<(), Fail> {
-    for (row, case) in LOADED.iter().enumerate() {
+    for (row, case) in IMAGES.iter().enumerate() {
         let image = image_of(&rt, rt.alloc(), case.plan, case.changes)?;
         let memory = memory_of(rt.alloc(), image.as_slice(), case.base)?;
         assert!(rt; has_words(&memory, case.words), "row {row}");
@@ -247,7 +247,7 @@ fn effects_of_code(rt: HostRuntime) -> Result<(), Fail> {
 
 /// A loader that has no answer of the resolver does not load the image.
 #[test]
-fn no_answer(rt: HostRuntime) -> Result<(), Fail> {
+fn a_resolver_without_answer(rt: HostRuntime) -> Result<(), Fail> {
     let image = image_of(&rt, rt.alloc(), SLOTTED, &[])?;
     let world = world(rt.alloc(), 0, &[])?;
     let fault = load_image(rt.alloc(), image.as_slice(), &world).err();

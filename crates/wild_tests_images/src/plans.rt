@@ -23,7 +23,7 @@ pub(crate) fn layout_of(alloc: Global, plan: &str) -> Result<Layout, Fail>
 }
 
 /// A text with the first of each pair replaced by the second. An error if the text does not have the first.
-fn changed(alloc: Global, text: &str, changes: &[(&str, &str)]) -> Result<String, Fail> {
+fn changed_text(alloc: Global, text: &str, changes: &[(&str, &str)]) -> Result<String, Fail> {
     let mut whole = String::from_str(alloc, text)?;
     for (old, new) in changes {
         if !whole.contains(*old) {
@@ -41,7 +41,7 @@ pub(crate) fn image_of(
     plan: &str,
     changes: &[(&str, &str)],
 ) -> Result<Vec<u8>, Fail> {
-    let plan = changed(alloc, plan, changes)?;
+    let plan = changed_text(alloc, plan, changes)?;
     let layout = layout_of(alloc, plan.as_str())?;
     let image = write::<ElfX86_64>(rt, alloc, &layout, 1)?;
     Ok(image.out.as_slice().to_vec(alloc)?)

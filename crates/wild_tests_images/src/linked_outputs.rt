@@ -1,6 +1,6 @@
 //! Outputs that a dynamic linker loads, at two bases: slots, symbols of other modules, thread-local data and a copy, with the
 //! references to them.
-use crate::written::image_of;
+use crate::plans::image_of;
 use std::alloc::Global;
 use std::test::*;
 use wild_loader::{Answer, Memory, World, load_image};
@@ -9,7 +9,7 @@ use wild_words::{Bytes, Items};
 
 /// A plan; the number of its module and the distance of that module's thread-local data from the thread pointer; the address of symbol 2 and
 /// whether it moves with the base; and words: their places, their values, and whether a value moves with the base.
-struct Linked {
+struct LinkedOutput {
     plan: &'static str,
     own: (u64, i64),
     second: (u64, bool),
@@ -17,8 +17,8 @@ struct Linked {
 }
 
 /// By the formulas of the x86-64 psABI ("Relocation Types"; "ELF Handling For Thread-Local Storage", "TLS Access Models").
-const LINKED: [Linked; 2] = [
-    Linked {
+const OUTPUTS: [LinkedOutput; 2] = [
+    LinkedOutput {
         plan: LIBRARY,
         own: (3, -0x40),
         second: (0x8000, false),
@@ -40,7 +40,7 @@ const LINKED: [Linked; 2] = [
             (0x2178, 0, false),
         ],
     },
-    Linked {
+    LinkedOutput {
         plan: PROGRAM,
         own: (1, -16),
         second: (0x2158, true),
@@ -82,7 +82,7 @@ fn answer(alloc: Global, address: u64) -> Result<Answer, Fail> {
 }
 
 /// The memory of an image at a base, where symbol 1 is at 0x7000.
-fn memory_of(alloc: Global, image: &[u8], case: &Linked, base: u64) -> Result<Memory, Fail> {
+fn memory_of(alloc: Global, image: &[u8], case: &LinkedOutput, base: u64) -> Result<Memory, Fail> {
     let mut symbols = Vec::new(alloc);
     symbols.push(answer(alloc, 0)?)?;
     symbols.push(answer(alloc, 0x7000)?)?;
@@ -99,7 +99,7 @@ fn memory_of(alloc: Global, image: &[u8], case: &Linked, base: u64) -> Result<Me
 
 #[test]
 fn words_of_linked_outputs(rt: HostRuntime) -> Result<(), Fail> {
-    for (row, case) in LINKED.iter().enumerate() {
+    for (row, case) in OUTPUTS.iter().enumerate() {
         let image = image_of(&rt, rt.alloc(), case.plan, &[])?;
         for base in &BASES {
             let memory = memory_of(rt.alloc(), image.as_slice(), case, *base)?;

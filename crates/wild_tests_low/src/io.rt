@@ -82,14 +82,14 @@ fn sinks_in_memory(rt: HostRuntime) -> Result<(), Fail> {
 // A reader and a writer that follow a list: how many bytes the next call moves at most, or how it fails. After the end of
 // the list no call moves any.
 #[derive(Drop)]
-struct Listed<'a> {
+struct ListedCalls<'a> {
     calls: &'a [Result<usize, ErrorKind>],
     // The bytes that are still to be read, and those that were written.
     left: &'a [u8],
     taken: Vec<u8>,
 }
 
-impl Listed<'_> {
+impl ListedCalls<'_> {
     fn next(&mut self) -> io::Result<usize> {
         let Some((call, rest)) = self.calls.split_first() else {
             return Ok(0);
@@ -102,7 +102,7 @@ impl Listed<'_> {
     }
 }
 
-impl Read for Listed<'_> {
+impl Read for ListedCalls<'_> {
     fn read(&mut self, buf: &mut [u8]) -> io::Result<usize> {
         let count = self.next()?.min(buf.len()).min(self.left.len());
         let (now, left) = self.left.split_at(count);
@@ -112,7 +112,7 @@ impl Read for Listed<'_> {
     }
 }
 
-impl Write for Listed<'_> {
+impl Write for ListedCalls<'_> {
     fn write(&mut self, buf: &[u8]) -> io::Result<usize> {
         let count = self.next()?.min(buf.len());
         self.taken.extend_from_slice(&buf[..count])?;
@@ -159,7 +159,7 @@ fn goes_on<S: Source>(alloc: Global, source: &mut S, rest: &Option<&[u8]>) -> bo
 #[test]
 fn reads_that_fail(rt: HostRuntime) {
     for (calls, rest) in READS {
-        let mut source = Reading::new(Listed {
+        let mut source = Reading::new(ListedCalls {
             calls,
             left: b"image",
             taken: Vec::new(rt.alloc()),
@@ -199,7 +199,7 @@ fn fails_then_writes<K: Sink>(sink: &mut K, goes_on: bool) -> bool {
 #[test]
 fn writes_that_fail(rt: HostRuntime) {
     for (calls, goes_on, taken) in WRITES {
-        let mut writer = Listed {
+        let mut writer = ListedCalls {
             calls,
             left: b"",
             taken: Vec::new(rt.alloc()),
