@@ -10,8 +10,8 @@ use Rattle.wild_types.specs.declared.layout.Layout.{Layout}
 use Rattle.wild_types.specs.FileSymbols.{copied_in, are_new, copied_again}
 use Rattle.wild_types.specs.Lists.{through}
 use Rattle.wild_clauses.specs.Copies.{windows_of, marked, first_marked, lies_between, new_between, again_between}
-use Rattle.wild_clauses.specs.Indexes.{or_place}
-use Rattle.wild_clauses.specs.Misplaced.{earlier}
+use Rattle.wild_plan_rules.specs.Indexes.{or_place}
+use Rattle.wild_plan_rules.specs.Misplaced.{earlier}
 use Rattle.wild_clauses.proofs.EarlierLemmas.{AtLeast, at_least_less, earlier-first, earlier-second}
 use Rattle.wild_clauses.proofs.OrderedLemmas.{through_append}
 

@@ -16,7 +16,7 @@ use Rattle.wild_needs.specs.DynamicSymbols.{is_undefined_entry, undefined_entrie
 use Rattle.wild_needs.specs.UndefinedCounts.{counted, count_in, undefined_of, undefined_of_group}
 use Rattle.wild_needs.proofs.UndefinedLemmas.{groups_count}
 use Rattle.wild_clauses.specs.Astray.{all_ranges_lie}
-use Rattle.wild_clauses.specs.Counts.{symbols_in, symbols_of, table_fits}
+use Rattle.wild_plan_rules.specs.Counts.{symbols_in, symbols_of, table_fits}
 use Rattle.wild_clauses.proofs.AstrayLemmas.{lie_ascend}
 use Rattle.wild_clauses.proofs.DynsymLemmas as dynsyms
 use Rattle.wild_clauses.proofs.PlacelessLemmas.{take_few}

@@ -14,9 +14,9 @@ use Rattle.wild_types.specs.declared.layout.Layout.{Layout}
 use Rattle.std.specs.List.{list_all}
 use Rattle.wild_types.specs.FileSymbols.{range_of, copied_again}
 use Rattle.wild_types.specs.Lists.{first_failing, unless, through}
-use Rattle.wild_clauses.specs.Indexes.{part_index_fits, primary_is_there, symbol_misfit, symbol_is_there, block_is_there, thunks_are_there, section_indexes_fit, file_indexes_fit, group_indexes_fit, listed_misfit, sorted_is_there, merged_is_there, identity_is_there, entry_is_there, definition_is_own, range_follows, or_place, range_out_of_order}
-use Rattle.wild_clauses.specs.VersionTables.{parent_is_there}
-use Rattle.wild_clauses.specs.ClauseTests.{fails, first_error, check_indexes}
+use Rattle.wild_plan_rules.specs.Indexes.{part_index_fits, primary_is_there, symbol_misfit, symbol_is_there, block_is_there, thunks_are_there, section_indexes_fit, file_indexes_fit, group_indexes_fit, listed_misfit, sorted_is_there, merged_is_there, identity_is_there, entry_is_there, definition_is_own, range_follows, or_place, range_out_of_order}
+use Rattle.wild_plan_rules.specs.VersionTables.{parent_is_there}
+use Rattle.wild_plan_rules.specs.ClauseTests.{fails, first_error, check_indexes}
 use Rattle.wild_types.specs.Lookups.{section_of, section_of_part, files_of, file_of}
 use Rattle.wild_types.specs.declared.part.Part.{Part}
 use Rattle.wild_types.specs.declared.input.InputSection.{InputSection}
@@ -27,7 +27,7 @@ use Rattle.wild_clauses.specs.Positions.{lists, is_at, fits_at, run_walk, follow
 use Rattle.wild_needs.specs.UndefinedCounts.{counted, undefined_count}
 use Rattle.wild_clauses.proofs.AstrayLemmas.{Ascend, in_range, before_range, behind_range, empty_range}
 use Rattle.wild_needs.proofs.UndefinedLemmas.{groups_count}
-use Rattle.wild_clauses.proofs.ClauseLemmas.{None-from_fails, first_holds, rest_holds}
+use Rattle.wild_plan_rules.proofs.ClauseLemmas.{None-from_fails, first_holds, rest_holds}
 
 -- ---- what holds of each
 

@@ -6,8 +6,8 @@ use Rattle.wild_types.specs.declared.symbol.Symbol.{Symbol}
 use Rattle.wild_types.specs.declared.layout.Layout.{Layout}
 use Rattle.wild_types.specs.Flags.{has_flag, dynamic, ifunc, got_slot, ifunc_got_for_address, canonical_plt_got_for_address}
 use Rattle.wild_types.specs.SymbolSlots.{got_of, plt_of, has_thread_slot}
-use Rattle.wild_clauses.specs.SlotFlags.{is_asked, first_asked_failing, dynamic_is_interposable, stub_is_value, stub_has_slot, one_slot_for_address, thread_slot_alone, resolver_is_own, slot_agrees, resolver_moves, second_slot_fits, is_plain, agrees_in_all}
-use Rattle.wild_clauses.specs.ClauseTests.{check_slot_flags}
+use Rattle.wild_plan_rules.specs.SlotFlags.{is_asked, first_asked_failing, dynamic_is_interposable, stub_is_value, stub_has_slot, one_slot_for_address, thread_slot_alone, resolver_is_own, slot_agrees, resolver_moves, second_slot_fits, is_plain, agrees_in_all}
+use Rattle.wild_plan_rules.specs.ClauseTests.{check_slot_flags}
 
 not_failing : (asked a b : Bool) → (a ≡ true → b ≡ true) → (asked && not a) ≡ false → (asked && not b) ≡ false
 not_failing false a b w h = refl

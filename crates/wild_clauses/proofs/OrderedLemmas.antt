@@ -13,11 +13,11 @@ use Rattle.wild_types.specs.Lists.{through}
 use Rattle.wild_types.specs.Kinds.{is_partial_link}
 use Rattle.wild_types.specs.Lookups.{has_bytes, is_given}
 use Rattle.wild_laid.specs.Laid.{Input, sorted_input, of_last_file}
-use Rattle.wild_clauses.specs.SlotPlaces.{and_then, walk}
-use Rattle.wild_clauses.specs.Thunks.{bytes_step, section_step, standing}
-use Rattle.wild_clauses.specs.Misplaced.{all_placed, bytes_placed, file_all_placed}
+use Rattle.wild_plan_rules.specs.SlotPlaces.{and_then, walk}
+use Rattle.wild_plan_rules.specs.Thunks.{bytes_step, section_step, standing}
+use Rattle.wild_plan_rules.specs.Misplaced.{all_placed, bytes_placed, file_all_placed}
 use Rattle.wild_clauses.specs.Ordered.{as_ordered, sections_of, ordered}
-use Rattle.wild_clauses.proofs.BlockLemmas.{filled}
+use Rattle.wild_plan_rules.proofs.BlockLemmas.{filled}
 
 -- ---- one section
 

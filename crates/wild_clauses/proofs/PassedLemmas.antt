@@ -10,14 +10,14 @@ use Rattle.wild_types.specs.declared.file.Group.{Group}
 use Rattle.wild_types.specs.declared.layout.Layout.{Layout}
 use Rattle.wild_types.specs.Lists.{first_failing}
 use Rattle.wild_types.specs.Lookups.{is_frame}
-use Rattle.wild_clauses.specs.Places.{ends_low, group_fits}
-use Rattle.wild_clauses.specs.Contents.{each_in, each_section, addresses, has_share_for_each_part, section_misplaced, sorted_named_once, names_sorted, length_fits, frames_part_fits, discarded_is_empty, part_is_raw, merged_is_raw, identity_is_raw, primary_fits, front_is_free, allocation_agrees, bytes_take_room, field_lies, fields_lie, is_read_well, relocations_are_read}
-use Rattle.wild_clauses.specs.Indexes.{index_fits, header_is_there, relocation_index_fits, section_indexes_fit, symbol_is_there, block_is_there, file_indexes_fit, group_indexes_fit}
-use Rattle.wild_clauses.specs.ZeroFree.{input_name_fits, file_names_fit, group_names_fit}
-use Rattle.wild_clauses.specs.Fronts.{reversed_fits}
-use Rattle.wild_clauses.specs.Partial.{is_of_kind}
+use Rattle.wild_plan_rules.specs.Places.{ends_low, group_fits}
+use Rattle.wild_plan_rules.specs.Contents.{each_in, each_section, addresses, has_share_for_each_part, section_misplaced, sorted_named_once, names_sorted, length_fits, frames_part_fits, discarded_is_empty, part_is_raw, merged_is_raw, identity_is_raw, primary_fits, front_is_free, allocation_agrees, bytes_take_room, field_lies, fields_lie, is_read_well, relocations_are_read}
+use Rattle.wild_plan_rules.specs.Indexes.{index_fits, header_is_there, relocation_index_fits, section_indexes_fit, symbol_is_there, block_is_there, file_indexes_fit, group_indexes_fit}
+use Rattle.wild_plan_rules.specs.ZeroFree.{input_name_fits, file_names_fit, group_names_fit}
+use Rattle.wild_plan_rules.specs.Fronts.{reversed_fits}
+use Rattle.wild_plan_rules.specs.Partial.{is_of_kind}
 use Rattle.wild_clauses.specs.Passed.{passes_all, parts_fit, relocation_passes, headers_are_there, section_passes, symbols_are_there, library_names_fit, file_passes, group_passes, groups_pass}
-use Rattle.wild_clauses.specs.ClauseTests.{fails, check_inputs, check_fields, check_reversed}
+use Rattle.wild_plan_rules.specs.ClauseTests.{fails, check_inputs, check_fields, check_reversed}
 
 pub list_all_weaker : {X : Type 0} (a b : X → Bool) (xs : List X) → ((x : X) → a x ≡ true → b x ≡ true) → list_all a xs ≡ true → list_all b xs ≡ true
 list_all_weaker a b [] w h = refl

@@ -13,13 +13,13 @@ use Rattle.wild_types.specs.FileSymbols.{own_symbols}
 use Rattle.wild_types.specs.Lists.{first_failing}
 use Rattle.wild_types.specs.Lookups.{files_of}
 use Rattle.wild_types.specs.SymbolSlots.{is_without, plt_of}
-use Rattle.wild_clauses.specs.declared.slots.Free.{Free}
-use Rattle.wild_clauses.specs.SlotPlaces.{first_free, stands_at, and_then, walk, symbol_step, slot_before, range_step, file_step, group_step, last_astray, slots_astray, has_no_places}
-use Rattle.wild_clauses.specs.ClauseTests.{check_indexes}
+use Rattle.wild_plan_rules.specs.declared.slot_places.Free.{Free}
+use Rattle.wild_plan_rules.specs.SlotPlaces.{first_free, stands_at, and_then, walk, symbol_step, slot_before, range_step, file_step, group_step, last_astray, slots_astray, has_no_places}
+use Rattle.wild_plan_rules.specs.ClauseTests.{check_indexes}
 use Rattle.wild_clauses.proofs.AstrayLemmas.{Ascend}
 use Rattle.wild_clauses.proofs.DynsymLemmas.{ranges_ascend}
 use Rattle.wild_clauses.proofs.PassedLemmas.{none_fails}
-use Rattle.wild_clauses.proofs.SlotPlaceLemmas.{step_without}
+use Rattle.wild_plan_rules.proofs.SlotPlaceLemmas.{step_without}
 
 -- ---- symbols
 

@@ -2,10 +2,10 @@
 use Rattle.std.proofs.Common.{◌≡◌, ℕ, inl, inr, [], suc, ◌+◌, ◌<◌, true, List, ◌∷◌, length, drop, get_or, refl, sym, ap, ◌∙◌, subst, arith, drop-cons}
 use Rattle.std.specs.Prelude.{Option}
 use Rattle.std.proofs.lemmas.Bool.{cases_Bool}
-use Rattle.wild_clauses.specs.declared.starts.Starts.{Starts}
+use Rattle.wild_plan_rules.specs.declared.group_starts.Starts.{Starts}
 use Rattle.wild_types.specs.declared.file.Group.{Group}
 use Rattle.wild_types.specs.Lists.{first_failing}
-use Rattle.wild_clauses.specs.GroupStarts.{no_starts, nowhere, starts_behind, begins_at, start_astray}
+use Rattle.wild_plan_rules.specs.GroupStarts.{no_starts, nowhere, starts_behind, begins_at, start_astray}
 
 -- where a group's shares begin as they should, the first group astray is one behind it
 pub start_more : (places : Starts (Option ℕ)) (from next : Starts ℕ) (i : ℕ) (gs : List Group) (g : Group) → i < length gs → g ≡ get_or gs i g → begins_at from g ≡ true → next ≡ starts_behind places from g → start_astray places next (i + 1) (drop (i + 1) gs) ≡ start_astray places from i (drop i gs)

@@ -15,10 +15,11 @@ use Rattle.wild_types.specs.FileSymbols.{copied_in, copied_again}
 use Rattle.wild_needs.specs.Versions.{has_needs, is_needed, need_count}
 use Rattle.wild_needs.specs.DynamicPlaces.{need_number}
 use Rattle.wild_needs.proofs.StringLemmas.{length_needed}
-use Rattle.wild_clauses.specs.Contents.{has_share_for_each_part, is_sorted, sections_named_once, files_named_once, sorted_named_once}
-use Rattle.wild_clauses.specs.Places.{relocations_in, relocations_of, relocation_count}
+use Rattle.wild_plan_rules.specs.Contents.{has_share_for_each_part, is_sorted, sections_named_once, files_named_once, sorted_named_once}
+use Rattle.wild_plan_rules.specs.Places.{relocations_in, relocations_of, relocation_count}
 use Rattle.wild_clauses.specs.Passed.{section_passes, symbols_are_there, library_names_fit, file_passes, group_passes, groups_pass}
-use Rattle.wild_clauses.specs.Survey.{Survey, is_unsorted, needs_no_more, is_ordinary, is_ordinary_group, are_ordinary, is_unmerged, are_unmerged, along, section_step, own_passes, file_here, file_step, group_here, group_step, nothing_seen, surveyed}
+use Rattle.wild_plan_rules.specs.MergedSections.{is_unmerged, are_unmerged}
+use Rattle.wild_clauses.specs.Survey.{Survey, is_unsorted, needs_no_more, is_ordinary, is_ordinary_group, are_ordinary, along, section_step, own_passes, file_here, file_step, group_here, group_step, nothing_seen, surveyed}
 
 and_true : (a : Bool) → (a && true) ≡ a
 and_true true = refl

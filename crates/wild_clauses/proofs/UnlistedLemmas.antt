@@ -8,7 +8,7 @@ use Rattle.wild_types.specs.declared.layout.DynamicSymbol.{DynamicSymbol}
 use Rattle.wild_types.specs.declared.layout.Layout.{Layout}
 use Rattle.wild_needs.specs.DynamicSymbols.{dynamic_symbols, dynsym_of, position_fits, misplaced, misfit, first_listed}
 use Rattle.wild_clauses.specs.Positions.{is_unlisted}
-use Rattle.wild_clauses.specs.ClauseTests.{check_dynsyms}
+use Rattle.wild_plan_rules.specs.ClauseTests.{check_dynsyms}
 
 fits_without : (table : List ℕ) (i : ℕ) (p : Option ℕ) → not (is_some p) ≡ true → position_fits table i p ≡ true
 fits_without table i None h = refl

@@ -9,7 +9,7 @@ use Rattle.wild_types.specs.declared.file.File.{File}
 use Rattle.wild_types.specs.declared.file.Group.{Group}
 use Rattle.wild_types.specs.declared.layout.Layout.{Layout}
 use Rattle.wild_types.specs.Lists.{first_failing, through}
-use Rattle.wild_clauses.specs.Indexes.{symbol_indexes_fit}
+use Rattle.wild_plan_rules.specs.Indexes.{symbol_indexes_fit}
 use Rattle.wild_types.specs.FileSymbols.{range_of}
 
 -- where the ranges of later files may begin; none if the file's range begins before end or ends after len

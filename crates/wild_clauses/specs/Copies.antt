@@ -14,7 +14,7 @@ use Rattle.wild_types.specs.declared.layout.Layout.{Layout}
 use Rattle.wild_types.specs.FileSymbols.{copied_in}
 use Rattle.wild_types.specs.Lists.{through}
 use Rattle.wild_types.specs.Lookups.{canonical}
-use Rattle.wild_clauses.specs.Indexes.{or_place}
+use Rattle.wild_plan_rules.specs.Indexes.{or_place}
 
 -- the definitions of the symbols that a file has copied
 abbrev pub copied_of : Layout → File → List ℕ

@@ -12,12 +12,12 @@ use Rattle.wild_types.specs.declared.input.InputSection.{InputSection}
 use Rattle.wild_types.specs.declared.file.File.{File}
 use Rattle.wild_types.specs.declared.file.Group.{Group}
 use Rattle.wild_types.specs.declared.layout.Layout.{Layout}
-use Rattle.wild_clauses.specs.Places.{ends_low}
-use Rattle.wild_clauses.specs.Contents.{has_share_for_each_part, length_fits, frames_part_fits, discarded_is_empty, part_is_raw, merged_is_raw, identity_is_raw, primary_fits, front_is_free, allocation_agrees, bytes_take_room, field_lies, is_read_well}
-use Rattle.wild_clauses.specs.Indexes.{index_fits, header_is_there, relocation_index_fits, symbol_is_there, block_is_there}
-use Rattle.wild_clauses.specs.ZeroFree.{name_fits, input_name_fits, needs_names_fit}
-use Rattle.wild_clauses.specs.Fronts.{reversed_fits}
-use Rattle.wild_clauses.specs.Partial.{is_of_kind}
+use Rattle.wild_plan_rules.specs.Places.{ends_low}
+use Rattle.wild_plan_rules.specs.Contents.{has_share_for_each_part, length_fits, frames_part_fits, discarded_is_empty, part_is_raw, merged_is_raw, identity_is_raw, primary_fits, front_is_free, allocation_agrees, bytes_take_room, field_lies, is_read_well}
+use Rattle.wild_plan_rules.specs.Indexes.{index_fits, header_is_there, relocation_index_fits, symbol_is_there, block_is_there}
+use Rattle.wild_plan_rules.specs.ZeroFree.{name_fits, input_name_fits, needs_names_fit}
+use Rattle.wild_plan_rules.specs.Fronts.{reversed_fits}
+use Rattle.wild_plan_rules.specs.Partial.{is_of_kind}
 
 -- the tests of clause 8 on a section
 abbrev pub passes_all : Layout → InputSection → Bool

@@ -6,8 +6,9 @@ use Rattle.wild_types.specs.declared.layout.Layout.{Layout}
 use Rattle.wild_needs.specs.Needs.{is_bare_inside}
 use Rattle.wild_clauses.specs.declared.seen.Seen.{Seen}
 use Rattle.wild_clauses.specs.Passed.{groups_pass}
-use Rattle.wild_clauses.specs.Places.{relocation_count}
-use Rattle.wild_clauses.specs.Survey.{are_ordinary, are_unmerged}
+use Rattle.wild_plan_rules.specs.Places.{relocation_count}
+use Rattle.wild_plan_rules.specs.MergedSections.{are_unmerged}
+use Rattle.wild_clauses.specs.Survey.{are_ordinary}
 
 pub record IsSeen (l : Layout) (s : Seen) : Type 0 where
   pub inside : s.inside ≡ is_bare_inside l

@@ -1,14 +1,12 @@
 -- What one pass over all groups computes before the clauses are tested.
 --   is_ordinary f        the file has no sorted section, no copies, and needs no versions
 --   are_ordinary gs      the files of all groups are ordinary
---   are_unmerged l       no section has merged strings
 --   section_step l v s   the survey after a section; likewise after a file and a group
 --   surveyed l           the survey of all groups
 --   is_simple s          the symbol is plain and has no index of the dynamic symbol table
 --   are_simple ss        all symbols are simple
-use Rattle.std.specs.Prelude.{◌+◌, ◌-◌, ◌^◌, ◌==◌, Bool, true, false, not, ◌&&◌, List, [], ◌∷◌, length, is_none, min}
+use Rattle.std.specs.Prelude.{◌+◌, ◌-◌, ◌^◌, ◌==◌, Bool, true, not, ◌&&◌, List, [], ◌∷◌, length, is_none, min}
 use Rattle.std.specs.List.{list_all}
-use Rattle.wild_types.specs.declared.input.Slot.{Slot}
 use Rattle.wild_types.specs.declared.input.Slot.TheVariants as slot
 use Rattle.wild_types.specs.declared.input.InputSection.{InputSection}
 use Rattle.wild_types.specs.declared.file.File.{File}
@@ -16,10 +14,11 @@ use Rattle.wild_types.specs.declared.file.Group.{Group}
 use Rattle.wild_types.specs.declared.layout.Layout.{Layout}
 use Rattle.wild_types.specs.declared.symbol.Symbol.{Symbol}
 pub use Rattle.wild_clauses.specs.declared.passed.Survey.{Survey}
-use Rattle.wild_clauses.specs.Contents.{has_share_for_each_part, is_sorted}
+use Rattle.wild_plan_rules.specs.Contents.{has_share_for_each_part, is_sorted}
+use Rattle.wild_plan_rules.specs.MergedSections.{is_unmerged}
 use Rattle.wild_clauses.specs.Passed.{section_passes, symbols_are_there, library_names_fit}
 use Rattle.wild_clauses.specs.Positions.{is_unlisted}
-use Rattle.wild_clauses.specs.SlotFlags.{is_plain}
+use Rattle.wild_plan_rules.specs.SlotFlags.{is_plain}
 
 -- the section is not sorted
 abbrev pub is_unsorted : InputSection → Bool
@@ -37,18 +36,6 @@ is_ordinary_group g = list_all is_ordinary g.files
 
 unfoldable pub are_ordinary : List Group → Bool
 are_ordinary gs = list_all is_ordinary_group gs
-
-abbrev pub is_other_slot : Slot → Bool
-is_other_slot slot.Merge = false
-is_other_slot other = true
-
--- the section has no merged strings
-abbrev pub is_unmerged : InputSection → Bool
-is_unmerged s = is_other_slot s.slot
-
--- no section has merged strings
-abbrev pub are_unmerged : Layout → Bool
-are_unmerged l = list_all (λ (g : Group). list_all (λ (f : File). list_all is_unmerged f.sections) g.files) l.groups
 
 -- ---- one item after another
 

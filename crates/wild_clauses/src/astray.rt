@@ -2,7 +2,7 @@
 //! and files finds it; else the file of each symbol is searched for.
 ghost use Rattle.std.specs.Prelude.{◌≡◌, ◌+◌, ◌^◌, ◌<◌, None, is_some, length, true};
 ghost use Rattle.wild_clauses.specs.Astray.{range_lies, ranges_lie, all_ranges_lie, gap_astray, range_astray, file_walk, files_walk, groups_walk, walk_end, count_in};
-ghost use Rattle.wild_clauses.specs.Indexes.{index_fits, place_fits, symbol_indexes_fit, section_count, symbol_misfit};
+ghost use Rattle.wild_plan_rules.specs.Indexes.{index_fits, place_fits, symbol_indexes_fit, section_count, symbol_misfit};
 ghost use Rattle.wild_types.specs.Lists.{first_failing};
 ghost use Rattle.wild_types.specs.Lookups.{files_of, file_of};
 

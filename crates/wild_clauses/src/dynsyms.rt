@@ -8,7 +8,7 @@ ghost use Rattle.wild_types.specs.Lookups.{files_of};
 ghost use Rattle.wild_clauses.specs.Positions.{lists, is_at, fits_at, run_walk, file_walk, files_walk, groups_walk, whole_walk, is_unlisted};
 ghost use Rattle.wild_needs.specs.UndefinedCounts.{undefined_count};
 ghost use Rattle.wild_clauses.specs.Survey.{are_simple};
-ghost use Rattle.wild_clauses.specs.ClauseTests.{check_indexes, check_dynsyms};
+ghost use Rattle.wild_plan_rules.specs.ClauseTests.{check_indexes, check_dynsyms};
 
 use crate::listed::misfit;
 use crate::verdict::fails;
@@ -202,7 +202,7 @@ fn are_unlisted(layout: &Layout, simple: bool) -> bool
 }
 
 /// Requires that the indexes fit. Entries are counted only if a symbol is listed or has an index.
-#[tactic(auto, using(crate::proofs::UnlistedLemmas::unlisted_fit), unfolding(crate::specs::ClauseTests::check_dynsyms))]
+#[tactic(auto, using(crate::proofs::UnlistedLemmas::unlisted_fit), unfolding(wild_plan_rules::specs::ClauseTests::check_dynsyms))]
 pub(crate) fn check_dynsyms(layout: &Layout, simple: bool) -> Result<(), Clause>
     requires indexes { check_indexes layout.now ≡ Ok tt }
     requires simple { simple ≡ are_simple layout.now.symbols }

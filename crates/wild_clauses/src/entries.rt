@@ -2,10 +2,10 @@
 ghost use Rattle.std.specs.Prelude.{◌≡◌};
 ghost use Rattle.std.specs.List.{list_any};
 ghost use Rattle.wild_types.specs.Lists.{first_failing, total};
-ghost use Rattle.wild_clauses.specs.Segments.{size_in_file, is_segment_of, dynamic_astray};
+ghost use Rattle.wild_plan_rules.specs.Segments.{size_in_file, is_segment_of, dynamic_astray};
 ghost use Rattle.wild_types.specs.Parts.{part_with, entry_parts, bytes_in, is_hash_role, has_hashes};
-ghost use Rattle.wild_clauses.specs.LoadedTables.{holds_entries, entries_astray, stands_in_entries, is_asked_whole, holds_part, carries_part, carries_table, rest_of_table, table_is_loaded};
-ghost use Rattle.wild_clauses.specs.ClauseTests.{check_entries};
+ghost use Rattle.wild_plan_rules.specs.LoadedTables.{holds_entries, entries_astray, stands_in_entries, is_asked_whole, holds_part, carries_part, carries_table, rest_of_table, table_is_loaded};
+ghost use Rattle.wild_plan_rules.specs.ClauseTests.{check_entries};
 
 use crate::roles::is_fixed_static;
 use crate::sections::within;
@@ -126,7 +126,7 @@ impl Test<Part> for StandsInEntries<'_> {
     }
 }
 
-#[tactic(auto, unfolding(crate::specs::ClauseTests::check_entries))]
+#[tactic(auto, unfolding(wild_plan_rules::specs::ClauseTests::check_entries))]
 pub(crate) fn check_entries(layout: &Layout) -> Result<(), Clause>
     ensures { result ≡ check_entries layout.now }
 {

@@ -3,7 +3,7 @@ ghost use Rattle.std.specs.Prelude.{◌≡◌, ◌==◌, slice_get};
 ghost use Rattle.std.specs.List.{list_any, list_all};
 ghost use Rattle.wild_types.specs.declared.layout.Merged.{Merged};
 ghost use Rattle.wild_laid.specs.Laid.{sorted_input};
-ghost use Rattle.wild_clauses.specs.Contents.{has_front, takes_bytes, leaves_front, file_leaves_front, group_leaves_front, front_is_free};
+ghost use Rattle.wild_plan_rules.specs.Contents.{has_front, takes_bytes, leaves_front, file_leaves_front, group_leaves_front, front_is_free};
 ghost use Rattle.wild_clauses.specs.Ordered.{as_ordered, sections_of, ordered};
 
 use crate::sorted::has_ordered_bytes;

@@ -1,8 +1,8 @@
 //! Clauses 20 and 22: reversed sections, the front of a part in the first group, properties, debug-only images.
 ghost use Rattle.std.specs.Prelude.{◌≡◌, ◌==◌, not, ◌&&◌, [], drop, slice_get};
 ghost use Rattle.std.specs.List.{list_any};
-ghost use Rattle.wild_clauses.specs.Fronts.{is_whole_word, reversed_fits, given_by, fills_front, merged_size, merged_fits, identity_fills, stands_in_front, front_shared, identity_is_alone, has_type, properties_differ, keeps_tables, dynamic_is_dropped, is_header_role, headers_are_kept};
-ghost use Rattle.wild_clauses.specs.ClauseTests.{check_reversed, check_fronts};
+ghost use Rattle.wild_plan_rules.specs.Fronts.{is_whole_word, reversed_fits, given_by, fills_front, merged_size, merged_fits, identity_fills, stands_in_front, front_shared, identity_is_alone, has_type, properties_differ, keeps_tables, dynamic_is_dropped, is_header_role, headers_are_kept};
+ghost use Rattle.wild_plan_rules.specs.ClauseTests.{check_reversed, check_fronts};
 ghost use Rattle.wild_clauses.specs.Passed.{groups_pass};
 
 use crate::each_section::failing_group;
@@ -39,7 +39,7 @@ impl Test<InputSection> for ReversedFits {
     }
 }
 
-#[tactic(auto, using(crate::proofs::PassedLemmas::reversed_pass), unfolding(crate::specs::ClauseTests::check_reversed))]
+#[tactic(auto, using(crate::proofs::PassedLemmas::reversed_pass), unfolding(wild_plan_rules::specs::ClauseTests::check_reversed))]
 pub(crate) fn check_reversed(layout: &Layout, passed: bool) -> Result<(), Clause>
     requires passed { passed ≡ groups_pass layout.now }
     ensures { result ≡ check_reversed layout.now }
@@ -208,7 +208,7 @@ impl Test<Part> for HeadersAreKept<'_> {
     }
 }
 
-#[tactic(auto, unfolding(crate::specs::ClauseTests::check_fronts))]
+#[tactic(auto, unfolding(wild_plan_rules::specs::ClauseTests::check_fronts))]
 pub(crate) fn check_fronts(layout: &Layout) -> Result<(), Clause>
     ensures { result ≡ check_fronts layout.now }
 {

@@ -1,10 +1,10 @@
 //! Clause 8: input sections in their parts.
 ghost use Rattle.std.specs.Prelude.{◌≡◌, Ok, slice_get};
-ghost use Rattle.wild_clauses.specs.Contents.{length_fits, may_lack_bytes, is_frames_part, frames_part_fits, discarded_is_empty, is_raw, part_is_raw, holds_bytes, merged_is_raw, identity_is_raw, holds_thunks, primary_fits, has_room, allocation_agrees, has_some, bytes_take_room};
+ghost use Rattle.wild_plan_rules.specs.Contents.{length_fits, may_lack_bytes, is_frames_part, frames_part_fits, discarded_is_empty, is_raw, part_is_raw, holds_bytes, merged_is_raw, identity_is_raw, holds_thunks, primary_fits, has_room, allocation_agrees, has_some, bytes_take_room};
 ghost use Rattle.wild_clauses.specs.Passed.{passes_all, parts_fit, groups_pass};
 ghost use Rattle.wild_types.specs.Lookups.{section_of};
 ghost use Rattle.wild_clauses.specs.Survey.{are_ordinary};
-ghost use Rattle.wild_clauses.specs.ClauseTests.{once_fits, check_sizes, check_shares, check_inputs};
+ghost use Rattle.wild_plan_rules.specs.ClauseTests.{once_fits, check_sizes, check_shares, check_inputs};
 
 use crate::each_section::failing_group;
 use crate::front::front_is_free;
@@ -252,7 +252,7 @@ fn parts_fit(layout: &Layout) -> bool
 }
 
 /// Requires that sizes and shares fit. The tests run one by one only if a group or a part fails one of them.
-#[tactic(auto, using(crate::proofs::PassedLemmas::inputs_pass), unfolding(crate::specs::ClauseTests::check_inputs))]
+#[tactic(auto, using(crate::proofs::PassedLemmas::inputs_pass), unfolding(wild_plan_rules::specs::ClauseTests::check_inputs))]
 pub(crate) fn check_inputs(layout: &Layout, passed: bool, ordinary: bool) -> Result<(), Clause>
     requires sizes { check_sizes layout.now ≡ Ok tt }
     requires shares { check_shares layout.now ≡ Ok tt }

@@ -36,6 +36,5 @@ mod thunks;
 mod verdict;
 mod versions;
 
-pub use loaded::Side;
 pub use seen::Seen;
 pub use verdict::{well_formed, well_formed_seen};

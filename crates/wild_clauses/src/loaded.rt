@@ -1,40 +1,32 @@
 //! Whether segments load the bytes of sections: one parallel pass over sections and loaded segments.
 ghost use Rattle.std.specs.Prelude.{◌≡◌, ◌≤◌, true, take, length, All, None};
-ghost use Rattle.wild_clauses.specs.Covers.{is_passed, covers};
+ghost use Rattle.wild_plan_rules.specs.Covers.{is_passed, covers};
 ghost use Rattle.wild_types.specs.Lists.{first_failing};
-ghost use Rattle.wild_clauses.specs.Segments.{segment_out_of_order, size_on, has_byte, is_asked, bytes_are_loaded};
+ghost use Rattle.wild_plan_rules.specs.Segments.{segment_out_of_order, size_on, has_byte, is_asked, bytes_are_loaded};
 
+use wild_plan_rules::Side;
 use wild_records::abi::segment::PT_LOAD;
 use wild_types::{Layout, Section, Segment, is_allocated, is_thread_local, wide_sum};
 
-/// Where the bytes of a section must be: in the memory of segments, or among their file bytes.
-#[derive(Clone, Copy)]
-pub enum Side {
-    Memory,
-    File,
+fn size_on(side: Side, segment: &Segment) -> u64
+    ensures { result ≡ size_on side segment.now }
+{
+    match side {
+        Side::Memory => segment.mem_size,
+        Side::File => segment.file_size,
+    }
 }
 
-impl Side {
-    fn size(self, segment: &Segment) -> u64
-        ensures { result ≡ size_on self segment.now }
-    {
-        match self {
-            Side::Memory => segment.mem_size,
-            Side::File => segment.file_size,
+/// Whether the section's bytes must be there.
+fn is_asked(side: Side, layout: &Layout, section: &Section) -> bool
+    ensures { result ≡ is_asked side layout.now section.now }
+{
+    match side {
+        Side::Memory => {
+            is_allocated(section.flags)
+                && !(is_thread_local(section.flags) && section.is_without_data())
         }
-    }
-
-    /// Whether the section's bytes must be there.
-    fn is_asked(self, layout: &Layout, section: &Section) -> bool
-        ensures { result ≡ is_asked self layout.now section.now }
-    {
-        match self {
-            Side::Memory => {
-                is_allocated(section.flags)
-                    && !(is_thread_local(section.flags) && section.is_without_data())
-            }
-            Side::File => is_allocated(section.flags) && layout.fills_file(section),
-        }
+        Side::File => is_allocated(section.flags) && layout.fills_file(section),
     }
 }
 
@@ -51,7 +43,7 @@ fn has_byte(
 {
     segment.kind == PT_LOAD
         && u128::from(segment.address) <= address
-        && address < wide_sum(segment.address, side.size(segment))
+        && address < wide_sum(segment.address, size_on(side, segment))
         && (!layout.fills_file(section)
             || wide_sum(section.offset, segment.address)
                 == wide_sum(section.address, segment.offset))
@@ -65,7 +57,7 @@ fn is_passed(address: u128, segment: &Segment) -> bool
 }
 
 /// Whether consecutive segments load all bytes of the section.
-#[tactic(auto, using(crate::proofs::CoverLemmas::covers_done))]
+#[tactic(auto, using(wild_plan_rules::proofs::CoverLemmas::covers_done))]
 fn covers(side: Side, layout: &Layout, section: &Section, segments: &[Segment]) -> bool
     ensures { result ≡ covers side layout.now section.now section.now.address segments.now }
 {
@@ -79,14 +71,14 @@ fn covers(side: Side, layout: &Layout, section: &Section, segments: &[Segment]) 
             if !has_byte(side, layout, section, reached, segment) {
                 return false;
             }
-            reached = wide_sum(segment.address, side.size(segment));
+            reached = wide_sum(segment.address, size_on(side, segment));
         }
     }
     end <= reached
 }
 
 /// The first place from `next` on of a segment that is not passed.
-#[tactic(auto, using(crate::proofs::CoverLemmas::passed_more))]
+#[tactic(auto, using(wild_plan_rules::proofs::CoverLemmas::passed_more))]
 fn pass(segments: &[Segment], next: usize, address: u128) -> usize
     requires there { next ≤ length segments.now }
     requires passed { All (λ g. is_passed address g ≡ true) (take next segments.now) }
@@ -102,7 +94,7 @@ fn pass(segments: &[Segment], next: usize, address: u128) -> usize
 
 /// The segment to continue with for a section at that address: searched from `next` on, or from the first segment if the section
 /// begins before `low`.
-#[tactic(auto, using(crate::proofs::CoverLemmas::passed_later))]
+#[tactic(auto, using(wild_plan_rules::proofs::CoverLemmas::passed_later))]
 fn go_on(segments: &[Segment], next: usize, low: u64, address: u64) -> usize
     requires there { next ≤ length segments.now }
     requires passed { All (λ g. is_passed low g ≡ true) (take next segments.now) }
@@ -128,7 +120,7 @@ pub(crate) fn not_loaded(
     let mut next = 0;
     let mut low = 0;
     for (i, section) in later.iter().enumerate() {
-        if side.is_asked(layout, section) {
+        if is_asked(side, layout, section) {
             next = go_on(segments, next, low, section.address);
             low = section.address;
             if !covers(side, layout, section, &segments[next..]) {

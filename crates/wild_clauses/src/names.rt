@@ -1,7 +1,7 @@
 //! Clause 19: names.
 ghost use Rattle.std.specs.Prelude.{◌≡◌};
-ghost use Rattle.wild_clauses.specs.ZeroFree.{name_fits, given_name_fits, section_name_fits, symbol_name_fits, input_name_fits, version_name_fits, file_names_fit, group_names_fit, listed_name_fits, definition_name_fits, ends_with_zero, interp_fits};
-ghost use Rattle.wild_clauses.specs.ClauseTests.{check_names};
+ghost use Rattle.wild_plan_rules.specs.ZeroFree.{name_fits, given_name_fits, section_name_fits, symbol_name_fits, input_name_fits, version_name_fits, file_names_fit, group_names_fit, listed_name_fits, definition_name_fits, ends_with_zero, interp_fits};
+ghost use Rattle.wild_plan_rules.specs.ClauseTests.{check_names};
 ghost use Rattle.wild_clauses.specs.Passed.{library_names_fit, groups_pass};
 
 use crate::passed::failing;
@@ -140,7 +140,7 @@ fn interp_fits(path: &[u8]) -> bool
     path.is_empty() || ends_with_zero(path)
 }
 
-#[tactic(auto, using(crate::proofs::PassedLemmas::names_pass), unfolding(crate::specs::ClauseTests::check_names))]
+#[tactic(auto, using(crate::proofs::PassedLemmas::names_pass), unfolding(wild_plan_rules::specs::ClauseTests::check_names))]
 pub(crate) fn check_names(layout: &Layout, passed: bool) -> Result<(), Clause>
     requires passed { passed ≡ groups_pass layout.now }
     ensures { result ≡ check_names layout.now }

@@ -3,8 +3,9 @@
 ghost use Rattle.std.specs.Prelude.{◌≡◌, ◌-◌, ◌^◌, true, None, min};
 ghost use Rattle.wild_types.specs.Lists.{first_failing};
 ghost use Rattle.wild_clauses.specs.Passed.{relocation_passes, section_passes, groups_pass};
-ghost use Rattle.wild_clauses.specs.Places.{relocation_count};
-ghost use Rattle.wild_clauses.specs.Survey.{is_unsorted, needs_no_more, are_ordinary, is_unmerged, are_unmerged, section_step, own_passes, file_here, file_step, group_here, group_step, surveyed};
+ghost use Rattle.wild_plan_rules.specs.Places.{relocation_count};
+ghost use Rattle.wild_plan_rules.specs.MergedSections.{is_unmerged, are_unmerged};
+ghost use Rattle.wild_clauses.specs.Survey.{is_unsorted, needs_no_more, are_ordinary, section_step, own_passes, file_here, file_step, group_here, group_step, surveyed};
 
 use crate::fields::FieldPasses;
 use crate::fronts::ReversedFits;

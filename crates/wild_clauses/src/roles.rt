@@ -1,12 +1,12 @@
 //! Clause 4: the roles.
 ghost use Rattle.std.specs.Prelude.{◌≡◌, true, []};
 ghost use Rattle.wild_needs.specs.Needs.{is_bare_inside};
-ghost use Rattle.wild_clauses.specs.Counts.{role_given};
+ghost use Rattle.wild_plan_rules.specs.Counts.{role_given};
 ghost use Rattle.wild_types.specs.Parts.{has_role};
-ghost use Rattle.wild_clauses.specs.Places.{role_again, role_missing, role_not_at, program_headers_astray, dynamic_unasked};
+ghost use Rattle.wild_plan_rules.specs.Places.{role_again, role_missing, role_not_at, program_headers_astray, dynamic_unasked};
 ghost use Rattle.wild_types.specs.Kinds.{is_fixed_static};
-ghost use Rattle.wild_clauses.specs.LoadedTables.{begins_behind, entries_follow};
-ghost use Rattle.wild_clauses.specs.ClauseTests.{check_roles};
+ghost use Rattle.wild_plan_rules.specs.LoadedTables.{begins_behind, entries_follow};
+ghost use Rattle.wild_plan_rules.specs.ClauseTests.{check_roles};
 
 use crate::verdict::fails;
 use wild_needs::total_share_of;
@@ -158,7 +158,7 @@ impl Test<Part> for EntriesFollow<'_> {
 }
 
 /// If `inside` is set, the inner groups contribute to no table.
-#[tactic(auto, unfolding(crate::specs::ClauseTests::check_roles))]
+#[tactic(auto, unfolding(wild_plan_rules::specs::ClauseTests::check_roles))]
 pub(crate) fn check_roles(layout: &Layout, inside: bool) -> Result<(), Clause>
     requires { inside ≡ is_bare_inside layout.now }
     ensures { result ≡ check_roles layout.now }

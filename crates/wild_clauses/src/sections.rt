@@ -1,7 +1,7 @@
 //! Clause 5: parts in sections.
 ghost use Rattle.std.specs.Prelude.{◌≡◌};
-ghost use Rattle.wild_clauses.specs.Places.{first_section_is_null, within, lies_in, part_lies, stands_loaded, takes_room};
-ghost use Rattle.wild_clauses.specs.ClauseTests.{check_sections};
+ghost use Rattle.wild_plan_rules.specs.Places.{first_section_is_null, within, lies_in, part_lies, stands_loaded, takes_room};
+ghost use Rattle.wild_plan_rules.specs.ClauseTests.{check_sections};
 
 use crate::verdict::{fails, unless};
 use wild_records::abi::section::SHT_NULL;
@@ -90,7 +90,7 @@ impl Test<Part> for TakesRoom<'_> {
     }
 }
 
-#[tactic(auto, unfolding(crate::specs::ClauseTests::check_sections))]
+#[tactic(auto, unfolding(wild_plan_rules::specs::ClauseTests::check_sections))]
 pub(crate) fn check_sections(layout: &Layout) -> Result<(), Clause>
     ensures { result ≡ check_sections layout.now }
 {

@@ -1,12 +1,13 @@
 //! Clause 6: segments.
 ghost use Rattle.std.specs.Prelude.{◌≡◌};
-ghost use Rattle.wild_clauses.specs.Places.{loaded_sections};
-ghost use Rattle.wild_clauses.specs.Segments.{stands_behind, segment_out_of_order, leaves_zero_free, segment_in_image};
-ghost use Rattle.wild_clauses.specs.ClauseTests.{check_segments};
+ghost use Rattle.wild_plan_rules.specs.Places.{loaded_sections};
+ghost use Rattle.wild_plan_rules.specs.Segments.{stands_behind, segment_out_of_order, leaves_zero_free, segment_in_image};
+ghost use Rattle.wild_plan_rules.specs.ClauseTests.{check_segments};
 
 use crate::entries::{check_entries, dynamic_astray, table_not_loaded};
-use crate::loaded::{Side, not_loaded};
+use crate::loaded::not_loaded;
 use crate::verdict::fails;
+use wild_plan_rules::Side;
 use wild_records::abi::segment::PT_LOAD;
 use wild_types::{
     Clause, Layout, OutputKind, Section, Segment, Test, behind_first, first_failing, wide_sum,
@@ -78,7 +79,7 @@ fn loaded_sections(layout: &Layout) -> &[Section]
     }
 }
 
-#[tactic(auto, unfolding(crate::specs::ClauseTests::check_segments))]
+#[tactic(auto, unfolding(wild_plan_rules::specs::ClauseTests::check_segments))]
 pub(crate) fn check_segments(layout: &Layout) -> Result<(), Clause>
     ensures { result ≡ check_segments layout.now }
 {

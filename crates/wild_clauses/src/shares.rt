@@ -4,8 +4,8 @@ ghost use Rattle.wild_types.specs.Lists.{total};
 ghost use Rattle.wild_types.specs.FilePlaces.{given, file_placed, later_placed, files_placed, file_misplaced};
 ghost use Rattle.wild_needs.specs.Needs.{is_bare_inside};
 ghost use Rattle.wild_clauses.specs.Roles.{ends_misplaced};
-ghost use Rattle.wild_clauses.specs.Contents.{share_mismatch, has_share_for_each_part};
-ghost use Rattle.wild_clauses.specs.ClauseTests.{check_shares};
+ghost use Rattle.wild_plan_rules.specs.Contents.{share_mismatch, has_share_for_each_part};
+ghost use Rattle.wild_plan_rules.specs.ClauseTests.{check_shares};
 ghost use Rattle.wild_clauses.specs.Passed.{groups_pass};
 
 use crate::passed::failing;
@@ -111,7 +111,7 @@ fn first_misplaced(layout: &Layout, inside: bool) -> Option<usize>
     }
 }
 
-#[tactic(auto, using(crate::proofs::PassedLemmas::shares_pass), unfolding(crate::specs::ClauseTests::check_shares))]
+#[tactic(auto, using(crate::proofs::PassedLemmas::shares_pass), unfolding(wild_plan_rules::specs::ClauseTests::check_shares))]
 pub(crate) fn check_shares(layout: &Layout, passed: bool, inside: bool) -> Result<(), Clause>
     requires passed { passed ≡ groups_pass layout.now }
     requires inside { inside ≡ is_bare_inside layout.now }

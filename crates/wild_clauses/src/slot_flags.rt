@@ -1,9 +1,9 @@
 //! Clause 14: a symbol's flags agree with its slots and its stub.
 ghost use Rattle.std.specs.Prelude.{◌≡◌};
 ghost use Rattle.wild_types.specs.SymbolSlots.{got_of, plt_of, has_dynamic_symbol, has_thread_slot};
-ghost use Rattle.wild_clauses.specs.SlotFlags.{is_asked, first_asked_failing, dynamic_is_interposable, is_value, stub_is_value, stub_has_slot, one_slot_for_address, thread_slot_alone, resolver_is_own, slot_agrees, resolver_moves, takes_block_word, second_slot_fits, is_plain, agrees_in_all};
+ghost use Rattle.wild_plan_rules.specs.SlotFlags.{is_asked, first_asked_failing, dynamic_is_interposable, is_value, stub_is_value, stub_has_slot, one_slot_for_address, thread_slot_alone, resolver_is_own, slot_agrees, resolver_moves, takes_block_word, second_slot_fits, is_plain, agrees_in_all};
 ghost use Rattle.wild_clauses.specs.Survey.{is_simple, are_simple};
-ghost use Rattle.wild_clauses.specs.ClauseTests.{check_slot_flags};
+ghost use Rattle.wild_plan_rules.specs.ClauseTests.{check_slot_flags};
 
 use crate::verdict::fails;
 use wild_needs::dynsym_of;
@@ -230,7 +230,7 @@ pub(crate) fn are_simple(layout: &Layout) -> bool
 }
 
 /// The tests run one by one only if a symbol fails one of them, and none runs if all symbols are simple.
-#[tactic(auto, using(crate::proofs::FlagLemmas::flags_agree, crate::proofs::SimpleLemmas::simple_agree), unfolding(crate::specs::ClauseTests::check_slot_flags))]
+#[tactic(auto, using(crate::proofs::FlagLemmas::flags_agree, crate::proofs::SimpleLemmas::simple_agree), unfolding(wild_plan_rules::specs::ClauseTests::check_slot_flags))]
 pub(crate) fn check_slot_flags(layout: &Layout, simple: bool) -> Result<(), Clause>
     requires { simple ≡ are_simple layout.now.symbols }
     ensures { result ≡ check_slot_flags layout.now }

@@ -1,5 +1,5 @@
 //! Clause 11: slots have addresses that are multiples of 8; there is a block of slots only if addresses are packed (RELR).
-ghost use Rattle.wild_clauses.specs.SlotPlaces.{slot_is_even, block_is_asked, block_has_base};
+ghost use Rattle.wild_plan_rules.specs.SlotPlaces.{slot_is_even, block_is_asked, block_has_base};
 
 use wild_slot::WORD_SIZE;
 use wild_types::{Layout, Part, Role, Symbol, Test, got_of, has_role};

@@ -1,31 +1,22 @@
 //! Clause 11: addresses of slots and stubs.
 ghost use Rattle.std.specs.Prelude.{◌≡◌, ◌+◌, ◌-◌, ◌*◌, ◌^◌, ◌<◌, ◌≤◌, length, slice_range, Ok, IfOk};
 ghost use Rattle.wild_types.specs.Lists.{first_failing};
-ghost use Rattle.wild_clauses.specs.SlotPlaces.{start_of, IsBounded, first_free, stands_at, stands_next, behind, walk, symbol_step, passed_without, slot_before, file_step, group_step, slots_astray, has_no_places};
+ghost use Rattle.wild_plan_rules.specs.SlotPlaces.{start_of, IsBounded, first_free, stands_at, stands_next, behind, walk, symbol_step, passed_without, slot_before, file_step, group_step, slots_astray, has_no_places};
 ghost use Rattle.wild_slot.specs.SlotParts.{begins_block};
 ghost use Rattle.wild_types.specs.SymbolSlots.{is_without};
 ghost use Rattle.wild_clauses.specs.Survey.{are_simple};
-ghost use Rattle.wild_clauses.specs.ClauseTests.{check_indexes, check_slots};
+ghost use Rattle.wild_plan_rules.specs.ClauseTests.{check_indexes, check_slots};
 
 use crate::passed::failing;
 use crate::slot_parts::{BlockHasBase, BlockIsAsked, SlotIsEven};
 use crate::verdict::{fails, unless};
 use wild_needs::pair_words;
+use wild_plan_rules::Free;
 use wild_slot::{STUB_SIZE, SlotWord, SymbolSlots, WORD_SIZE, WordPart, begins_block, count_words};
 use wild_types::{
     Clause, File, Group, IsWithout, Layout, Role, Symbol, Test, all_pass, first_failing, got_of,
     is_without, part_with, plt_of,
 };
-
-/// The next free word of `got` and of `got_relr`, the next free stub of `plt_got`, and the symbol after all that have been
-/// assigned.
-#[derive(Clone, Copy)]
-pub struct Free {
-    pub got: u128,
-    pub block: u128,
-    pub stub: u128,
-    pub symbol: usize,
-}
 
 /// The address of the part of a role; 0 without such a part.
 fn start_of(layout: &Layout, role: Role) -> u64
@@ -117,7 +108,7 @@ fn pass_without(next: Free, symbol: &Symbol) -> Result<Free, usize>
 }
 
 /// The free places after a symbol, or its number if its slots or stub are not the next free ones.
-#[tactic(auto, using(crate::proofs::SlotPlaceLemmas::step_without))]
+#[tactic(auto, using(wild_plan_rules::proofs::SlotPlaceLemmas::step_without))]
 fn symbol_step(layout: &Layout, next: Free, symbol: &Symbol) -> Result<Free, usize>
     requires small { IsBounded next }
     requires few { next.symbol < 2 ^ 64 - 1 }
@@ -135,7 +126,7 @@ fn symbol_step(layout: &Layout, next: Free, symbol: &Symbol) -> Result<Free, usi
 }
 
 /// The free places after some symbols, or the first whose slots or stub are not the next free ones.
-#[tactic(auto, unfolding(crate::specs::SlotPlaces::walk))]
+#[tactic(auto, unfolding(wild_plan_rules::specs::SlotPlaces::walk))]
 fn walk_symbols(layout: &Layout, next: Free, symbols: &[Symbol]) -> Result<Free, usize>
     requires small { IsBounded next }
     requires few { next.symbol + length symbols.now < 2 ^ 64 }
@@ -183,7 +174,7 @@ fn file_step(layout: &Layout, next: Free, file: &File) -> Result<Free, usize>
 }
 
 /// The same for the files of a group.
-#[tactic(auto, unfolding(crate::specs::SlotPlaces::walk))]
+#[tactic(auto, unfolding(wild_plan_rules::specs::SlotPlaces::walk))]
 fn group_step(layout: &Layout, next: Free, group: &Group) -> Result<Free, usize>
     requires small { IsBounded next }
     ensures is { result ≡ group_step layout.now next group.now }
@@ -197,7 +188,7 @@ fn group_step(layout: &Layout, next: Free, group: &Group) -> Result<Free, usize>
 }
 
 /// The same for all groups.
-#[tactic(auto, unfolding(crate::specs::SlotPlaces::walk))]
+#[tactic(auto, unfolding(wild_plan_rules::specs::SlotPlaces::walk))]
 fn walk_groups(layout: &Layout) -> Result<Free, usize>
     ensures { result ≡ walk (group_step layout.now) (first_free layout.now) layout.now.groups }
 {
@@ -240,7 +231,7 @@ fn slots_astray(layout: &Layout, simple: bool) -> Option<usize>
 }
 
 /// Requires that the indexes fit. If all symbols are simple, none is tested.
-#[tactic(auto, using(crate::proofs::SimpleLemmas::simple_even), unfolding(crate::specs::ClauseTests::check_slots))]
+#[tactic(auto, using(crate::proofs::SimpleLemmas::simple_even), unfolding(wild_plan_rules::specs::ClauseTests::check_slots))]
 pub(crate) fn check_slots(layout: &Layout, simple: bool) -> Result<(), Clause>
     requires indexes { check_indexes layout.now ≡ Ok tt }
     requires simple { simple ≡ are_simple layout.now.symbols }

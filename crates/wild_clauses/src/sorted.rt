@@ -3,7 +3,7 @@ ghost use Rattle.std.specs.Prelude.{◌≡◌};
 ghost use Rattle.wild_types.specs.Lookups.{has_bytes};
 ghost use Rattle.wild_clauses.specs.Ordered.{as_ordered};
 ghost use Rattle.wild_clauses.specs.Survey.{are_ordinary};
-ghost use Rattle.wild_clauses.specs.Contents.{times_named, is_named_once, sections_named_once, files_named_once, sorted_named_once, names_sorted};
+ghost use Rattle.wild_plan_rules.specs.Contents.{times_named, is_named_once, sections_named_once, files_named_once, sorted_named_once, names_sorted};
 
 use wild_laid::sorted_input;
 use wild_types::{File, InputSection, Layout, Slot, SortedSection, Test};

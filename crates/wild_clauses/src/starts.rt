@@ -1,20 +1,11 @@
 //! Clause 16: where a group's strings, frames and symbols begin.
 ghost use Rattle.std.specs.Prelude.{ℕ, true, ◌≡◌, ◌+◌, ◌-◌, ◌*◌, ◌^◌, ◌≤◌};
-ghost use Rattle.wild_clauses.specs.GroupStarts.{AreBelow, given_at, place_with, start_places, no_starts, nowhere, starts_behind, begins_at, start_astray};
-ghost use Rattle.wild_clauses.specs.ClauseTests.{check_starts};
+ghost use Rattle.wild_plan_rules.specs.GroupStarts.{AreBelow, given_at, place_with, start_places, no_starts, nowhere, starts_behind, begins_at, start_astray};
+ghost use Rattle.wild_plan_rules.specs.ClauseTests.{check_starts};
 
 use crate::verdict::fails;
+use wild_plan_rules::Starts;
 use wild_types::{Clause, Group, Layout, Part, Role, Test, first_failing, has_role};
-
-/// One value for each part whose shares have a start.
-#[derive(Clone, Copy)]
-pub struct Starts<T> {
-    pub dynstr: T,
-    pub strtab: T,
-    pub frames: T,
-    pub locals: T,
-    pub globals: T,
-}
 
 /// The place of the part of a role.
 fn place_with(role: Role, parts: &[Part]) -> Option<usize>
@@ -152,7 +143,7 @@ fn first_astray(places: Starts<Option<usize>>, groups: &[Group]) -> Option<usize
     }
 }
 
-#[tactic(auto, unfolding(crate::specs::ClauseTests::check_starts))]
+#[tactic(auto, unfolding(wild_plan_rules::specs::ClauseTests::check_starts))]
 pub(crate) fn check_starts(layout: &Layout) -> Result<(), Clause>
     ensures { result ≡ check_starts layout.now }
 {

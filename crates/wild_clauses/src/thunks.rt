@@ -3,9 +3,9 @@ ghost use Rattle.std.specs.Prelude.{◌≡◌, ◌+◌, ◌*◌, ◌^◌, ◌<�
 ghost use Rattle.std.specs.List.{list_any};
 ghost use Rattle.wild_laid.specs.Laid.{sorted_input};
 ghost use Rattle.wild_clauses.specs.Ordered.{as_ordered, sections_of, ordered};
-ghost use Rattle.wild_clauses.specs.SlotPlaces.{walk};
-ghost use Rattle.wild_clauses.specs.Thunks.{has_thunks, ascends_from, ascends, next_code, stand_from, behind_thunks, block_step, section_step, bytes_step, standing, file_step, misplaced_from, misplaced_in, thunks_misplaced, owns, is_owned, block_lost, machine_takes};
-ghost use Rattle.wild_clauses.specs.ClauseTests.{check_thunks};
+ghost use Rattle.wild_plan_rules.specs.SlotPlaces.{walk};
+ghost use Rattle.wild_plan_rules.specs.Thunks.{has_thunks, ascends_from, ascends, next_code, stand_from, behind_thunks, block_step, section_step, bytes_step, standing, file_step, misplaced_from, misplaced_in, thunks_misplaced, owns, is_owned, block_lost, machine_takes};
+ghost use Rattle.wild_plan_rules.specs.ClauseTests.{check_thunks};
 
 use crate::sorted::has_ordered_bytes;
 use crate::verdict::fails;
@@ -151,7 +151,7 @@ fn ordered_step(
 }
 
 /// The same for the section that an entry of the order names.
-#[tactic(auto, using(crate::proofs::OrderedLemmas::then_ok), unfolding(crate::specs::SlotPlaces::walk))]
+#[tactic(auto, using(crate::proofs::OrderedLemmas::then_ok), unfolding(wild_plan_rules::specs::SlotPlaces::walk))]
 fn step_entry(layout: &Layout, group: usize, at: u128, entry: SortedSection) -> Result<u128, usize>
     requires { at ≤ 2 ^ 65 }
     ensures is { result ≡ walk (section_step layout.now group) at (sections_of (sorted_input layout.now entry)) }
@@ -164,7 +164,7 @@ fn step_entry(layout: &Layout, group: usize, at: u128, entry: SortedSection) -> 
 }
 
 /// The same for some entries of the order.
-#[tactic(auto, unfolding(crate::specs::SlotPlaces::walk))]
+#[tactic(auto, unfolding(wild_plan_rules::specs::SlotPlaces::walk))]
 fn walk_order(
     layout: &Layout,
     group: usize,
@@ -183,7 +183,7 @@ fn walk_order(
 }
 
 /// The same for some sections.
-#[tactic(auto, unfolding(crate::specs::SlotPlaces::walk))]
+#[tactic(auto, unfolding(wild_plan_rules::specs::SlotPlaces::walk))]
 fn walk_sections(
     layout: &Layout,
     group: usize,
@@ -202,7 +202,7 @@ fn walk_sections(
 }
 
 /// The place after the sections of a file, and for the last file after the sorted ones.
-#[tactic(auto, using(crate::proofs::OrderedLemmas::walk_standing), unfolding(crate::specs::SlotPlaces::walk))]
+#[tactic(auto, using(crate::proofs::OrderedLemmas::walk_standing), unfolding(wild_plan_rules::specs::SlotPlaces::walk))]
 fn walk_standing(layout: &Layout, group: usize, at: u128, file: &File) -> Result<u128, usize>
     requires { at ≤ 2 ^ 65 }
     ensures is { result ≡ walk (section_step layout.now group) at (standing layout.now file.now) }
@@ -227,7 +227,7 @@ fn file_step(layout: &Layout, group: usize, end: u128, at: u128, file: &File) ->
 }
 
 /// The same for some files.
-#[tactic(auto, unfolding(crate::specs::SlotPlaces::walk))]
+#[tactic(auto, unfolding(wild_plan_rules::specs::SlotPlaces::walk))]
 fn walk_files(
     layout: &Layout,
     group: usize,
@@ -333,7 +333,7 @@ impl Test<Items<Thunk>> for MachineTakes {
     }
 }
 
-#[tactic(auto, unfolding(crate::specs::ClauseTests::check_thunks))]
+#[tactic(auto, unfolding(wild_plan_rules::specs::ClauseTests::check_thunks))]
 pub(crate) fn check_thunks(layout: &Layout) -> Result<(), Clause>
     ensures { result ≡ check_thunks layout.now }
 {

@@ -1,8 +1,8 @@
 //! Whether a layout is well formed: its clauses, in their order.
 ghost use Rattle.std.specs.Prelude.{◌≡◌};
 ghost use Rattle.wild_types.specs.Lists.{unless};
-ghost use Rattle.wild_clauses.specs.ClauseTests.{fails};
-ghost use Rattle.wild_clauses.specs.WellFormed.{first_clause};
+ghost use Rattle.wild_plan_rules.specs.ClauseTests.{fails};
+ghost use Rattle.wild_plan_rules.specs.WellFormed.{first_clause};
 ghost use Rattle.wild_clauses.specs.Seen.{IsSeen};
 
 use crate::astray::all_ranges_lie;
@@ -13,7 +13,6 @@ use crate::fronts::{check_fronts, check_reversed};
 use crate::hashes::check_hashes;
 use crate::indexes::check_indexes;
 use crate::inputs::check_inputs;
-use crate::loaded::Side;
 use crate::names::check_names;
 use crate::order::check_order;
 use crate::partial::check_partial;
@@ -57,7 +56,7 @@ pub fn well_formed(layout: &Layout) -> Result<(), Clause>
 }
 
 /// The same, with the properties of the layout that the caller has already computed.
-#[tactic(auto, unfolding(crate::specs::WellFormed::first_clause))]
+#[tactic(auto, unfolding(wild_plan_rules::specs::WellFormed::first_clause))]
 pub fn well_formed_seen(layout: &Layout, seen: Seen) -> Result<(), Clause>
     requires { IsSeen layout.now seen }
     ensures { result ≡ first_clause layout.now }

@@ -15,7 +15,7 @@ use Rattle.wild_types.specs.FileSymbols.{copies_of}
 use Rattle.wild_types.specs.Lookups.{is_read}
 use Rattle.wild_slot.specs.Treatment.{treatment}
 use Rattle.wild_laid.specs.Laid.{processed}
-use Rattle.wild_tables.specs.Entries.{rela_bytes}
+use Rattle.wild_table_formats.specs.RelativeEntries.{rela_bytes}
 use Rattle.wild_layout.specs.Left.{left_entry, section_generals, copy_entry, file_generals}
 use Rattle.wild_contents.specs.General.{left_in, left_bytes, section_general_bytes, copy_bytes}
 use Rattle.wild_contents.proofs.OwnLemmas.{none_added}

@@ -34,11 +34,11 @@ use Rattle.wild_needs.specs.TableSymbols.{TableSymbol, file_items, item_name, is
 use Rattle.wild_laid.specs.Turned.{as_turned, turned}
 use Rattle.wild_laid.specs.FrameInputs.{frames_of, kept_size}
 use Rattle.wild_laid.specs.Laid.{Input, without_relocations, unread, laid_by, laid_section, laid_sections, laid_file, laid_from, laid_files, behind, file_frames, sorted_input, sorted_inputs, sorted_sections, of_last_file, processed}
-use Rattle.wild_symbols.specs.declared.table.TableFields.{TableFields}
+use Rattle.wild_table_formats.specs.declared.symbols.TableFields.{TableFields}
 use Rattle.wild_types.specs.declared.fault.Fault.{Fault}
 use Rattle.std.specs.Prelude.{Result}
-use Rattle.wild_symbols.specs.TableEntries.{NamedEntry, file_table, named_entry, null_entries, or_none_in_table, table_fields, table_by, fields_of, index_bytes, long_indexes}
-use Rattle.wild_versions.specs.Names.{definition_offsets, file_definitions}
+use Rattle.wild_table_formats.specs.TableEntries.{NamedEntry, file_table, named_entry, null_entries, or_none_in_table, table_fields, table_by, fields_of, index_bytes, long_indexes}
+use Rattle.wild_table_formats.specs.VersionNames.{definition_offsets, file_definitions}
 use Rattle.wild_needs.specs.Entries.{sorted_words}
 use Rattle.wild_relr.specs.Written.{word_bytes}
 use Rattle.wild_layout.specs.Left.{section_generals}

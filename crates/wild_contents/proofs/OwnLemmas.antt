@@ -17,7 +17,7 @@ use Rattle.wild_types.specs.declared.input.InputSection.{InputSection}
 use Rattle.wild_types.specs.declared.layout.Layout.{Layout}
 use Rattle.wild_types.specs.Lookups.{place_of, packs, has_moved}
 use Rattle.wild_needs.specs.Entries.{is_moved, packed_place, packed_places, words_of}
-use Rattle.wild_tables.specs.Entries.{rela_bytes}
+use Rattle.wild_table_formats.specs.RelativeEntries.{rela_bytes}
 use Rattle.wild_layout.specs.Moved.{listed_entry, section_entries}
 use Rattle.wild_contents.specs.Own.{entry_bytes, section_entry_bytes, section_word_bytes, packed_in}
 

@@ -18,7 +18,7 @@ use Rattle.wild_slot.specs.declared.slot_parts.EntryPart.{EntryPart}
 use Rattle.wild_slot.specs.declared.slot_parts.EntryPart.TheVariants as entries
 use Rattle.wild_types.specs.FileSymbols.{own_symbols}
 use Rattle.wild_needs.specs.SlotShares.{words_in}
-use Rattle.wild_tables.specs.Entries.{rela_bytes}
+use Rattle.wild_table_formats.specs.RelativeEntries.{rela_bytes}
 use Rattle.wild_layout.specs.SlotBytes.{symbol_entries, flat_in, slot_words_of, slot_entries_of, stubs_of, flat_places_of, slot_bytes}
 use Rattle.wild_contents.specs.Own.{slot_part, symbol_slot_bytes}
 use Rattle.wild_contents.specs.declared.slots.SlotPart.{SlotPart}

@@ -12,7 +12,7 @@ use Rattle.wild_types.specs.declared.layout.Layout.{Layout}
 use Rattle.wild_needs.specs.DynamicStrings.{NamedString, named, named_strings, texts_of, path_number, auxiliary_string, option_strings, epilogue_strings, lead_strings, entry_names, file_strings, symbol_names}
 use Rattle.wild_types.specs.Kinds.{needs_dynamic, needs_dynsym}
 use Rattle.wild_needs.specs.Versions.{version_names}
-use Rattle.wild_symbols.specs.Strings.{string, string_bytes}
+use Rattle.wild_table_formats.specs.Strings.{string, string_bytes}
 
 -- ---- strings
 

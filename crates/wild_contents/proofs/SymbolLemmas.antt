@@ -13,10 +13,10 @@ use Rattle.wild_types.specs.declared.file.File.{File}
 use Rattle.wild_types.specs.declared.layout.Layout.{Layout}
 use Rattle.wild_needs.specs.DynamicStrings.{behind_text, behind_file}
 use Rattle.wild_needs.specs.DynamicSymbols.{is_undefined_entry}
-use Rattle.wild_symbols.specs.declared.dynamic.SymbolFields.{SymbolFields}
-use Rattle.wild_symbols.specs.Symbols.{symbol_bytes}
-use Rattle.wild_symbols.specs.DynamicFields.{undefined_fields}
-use Rattle.wild_symbols.specs.DynamicEntries.{NamedFields, undefined, listed, entry_at, entries_at, file_symbols, null_entries, behind_lead, file_entries, entries_from}
+use Rattle.wild_table_formats.specs.declared.symbols.SymbolFields.{SymbolFields}
+use Rattle.wild_table_formats.specs.Symbols.{symbol_bytes}
+use Rattle.wild_table_formats.specs.DynamicFields.{undefined_fields}
+use Rattle.wild_table_formats.specs.DynamicEntries.{NamedFields, undefined, listed, entry_at, entries_at, file_symbols, null_entries, behind_lead, file_entries, entries_from}
 
 symbols-append : (es fs : List SymtabEntry) → symbol_bytes (es ++ fs) ≡ symbol_bytes es ++ symbol_bytes fs
 symbols-append es fs = flat_map-append (λ (e : SymtabEntry). spell (symtab_entry_fields e)) es fs

@@ -5,7 +5,7 @@ use Rattle.wild_types.specs.declared.fault.Error.{Error}
 use Rattle.wild_types.specs.declared.file.File.{File}
 use Rattle.wild_types.specs.declared.layout.Layout.{Layout}
 use Rattle.wild_types.specs.Faults.{Answers, Refuses}
-use Rattle.wild_walk.specs.Runs.{Ran, none, more, stop}
+use Rattle.wild_words.specs.Runs.{Ran, none, more, stop}
 use Rattle.wild_needs.specs.TableSymbols.{TableSymbol, file_items}
 use Rattle.wild_types.specs.Lookups.{has_table}
 use Rattle.wild_layout.specs.Faults.{flat_map_from, table_error, table_errors}

@@ -13,15 +13,15 @@ use Rattle.wild_types.specs.declared.part.Role.{Role}
 use Rattle.wild_types.specs.declared.file.Group.{Group}
 use Rattle.wild_needs.specs.TableSymbols.{TableSymbol, is_on, file_items, table_strings, has_long}
 use Rattle.wild_layout.specs.Content.{indexes_of}
-use Rattle.wild_symbols.specs.Strings.{string, string_bytes}
-use Rattle.wild_symbols.specs.Symbols.{symbol_bytes}
-use Rattle.wild_symbols.specs.DynamicEntries.{entry_at}
-use Rattle.wild_symbols.specs.TableEntries.{NamedEntry, named_entry, null_entry, section_entry, null_entries, name_at, behind_name, is_side, side_entries, long_indexes, index_bytes, file_table, group_table, table_entries}
-use Rattle.wild_symbols.specs.TableLaws.{names_of, NamesOfFiles}
+use Rattle.wild_table_formats.specs.Strings.{string, string_bytes}
+use Rattle.wild_table_formats.specs.Symbols.{symbol_bytes}
+use Rattle.wild_table_formats.specs.DynamicEntries.{entry_at}
+use Rattle.wild_table_formats.specs.TableEntries.{NamedEntry, named_entry, null_entry, section_entry, null_entries, name_at, behind_name, is_side, side_entries, long_indexes, index_bytes, file_table, group_table, table_entries}
+use Rattle.wild_table_formats.specs.TableLaws.{names_of, NamesOfFiles}
 use Rattle.wild_contents.specs.Walks.{taken_bytes, sunk, Walks, Written, with_entry, Writes, WritesSection}
 use Rattle.wild_needs.specs.declared.table.TablePart.{TablePart}
 use Rattle.wild_needs.specs.declared.table.TablePart.TheVariants.{Side, Long, Strings}
-use Rattle.wild_walk.specs.Runs.{Ran, none, more, stop}
+use Rattle.wild_words.specs.Runs.{Ran, none, more, stop}
 
 -- ---- steps
 

@@ -17,7 +17,7 @@ use Rattle.wild_contents.specs.declared.slots.SlotPart.TheVariants as parts
 use Rattle.wild_needs.specs.Entries.{packed_place, words_of}
 use Rattle.wild_needs.specs.SlotShares.{words_in}
 use Rattle.wild_relr.specs.Written.{word_bytes}
-use Rattle.wild_tables.specs.Entries.{rela_bytes}
+use Rattle.wild_table_formats.specs.RelativeEntries.{rela_bytes}
 use Rattle.wild_layout.specs.Moved.{listed_entry, section_entries}
 use Rattle.wild_layout.specs.SlotBytes.{symbol_entries, flat_in, stub_bytes}
 

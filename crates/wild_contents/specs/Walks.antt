@@ -19,10 +19,10 @@ use Rattle.wild_needs.specs.declared.table.TablePart.{TablePart}
 use Rattle.wild_needs.specs.declared.table.TablePart.TheVariants as parts
 use Rattle.wild_types.specs.declared.layout.Layout.{Layout}
 use Rattle.wild_needs.specs.TableSymbols.{TableSymbol, item}
-use Rattle.wild_symbols.specs.Strings.{string_bytes}
-use Rattle.wild_symbols.specs.Symbols.{symbol_bytes}
-use Rattle.wild_symbols.specs.DynamicEntries.{entry_at}
-use Rattle.wild_symbols.specs.TableEntries.{NamedEntry, named_entry, section_entry, is_side, name_at, behind_name}
+use Rattle.wild_table_formats.specs.Strings.{string_bytes}
+use Rattle.wild_table_formats.specs.Symbols.{symbol_bytes}
+use Rattle.wild_table_formats.specs.DynamicEntries.{entry_at}
+use Rattle.wild_table_formats.specs.TableEntries.{NamedEntry, named_entry, section_entry, is_side, name_at, behind_name}
 use Rattle.wild_layout.specs.Faults.{table_error}
 
 -- the entry of symbol i of a file, or of the symbol that names its GOT entry, its stub or a thunk to it

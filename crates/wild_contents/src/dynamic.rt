@@ -4,7 +4,7 @@ ghost use Rattle.std.specs.Prelude.{◌≡◌, ◌++◌, Some, OnOk};
 ghost use Rattle.wild_needs.specs.DynamicStrings.{needed_of, needed_entries, needed_count};
 ghost use Rattle.wild_types.specs.declared.file.File.{File};
 ghost use Rattle.wild_types.specs.Lists.{total};
-ghost use Rattle.wild_tables.specs.Dynamic.{entries_bytes, dynamic_bytes};
+ghost use Rattle.wild_table_formats.specs.DynamicSection.{entries_bytes, dynamic_bytes};
 ghost use Rattle.wild_layout.specs.Content.{room_behind, dynamic_room, dynamic_of};
 
 use crate::part_bytes::PartBytes;

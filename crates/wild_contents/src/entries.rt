@@ -3,7 +3,7 @@
 ghost use Rattle.std.specs.Prelude.{◌≡◌, [], ◌∷◌, ◌++◌, OnOk};
 ghost use Rattle.std.specs.List.{flat_map};
 ghost use Rattle.wild_needs.specs.Entries.{listed_place};
-ghost use Rattle.wild_tables.specs.Entries.{rela_bytes};
+ghost use Rattle.wild_table_formats.specs.RelativeEntries.{rela_bytes};
 ghost use Rattle.wild_contents.specs.Own.{entry_bytes, section_entry_bytes};
 
 use crate::part_bytes::PartBytes;

@@ -4,7 +4,7 @@ ghost use Rattle.std.specs.Prelude.{◌≡◌, ◌++◌, OnOk};
 ghost use Rattle.std.specs.List.{flat_map};
 ghost use Rattle.wild_types.specs.FileSymbols.{copies_of};
 ghost use Rattle.wild_slot.specs.Treatment.{treatment};
-ghost use Rattle.wild_tables.specs.Entries.{rela_bytes};
+ghost use Rattle.wild_table_formats.specs.RelativeEntries.{rela_bytes};
 ghost use Rattle.wild_layout.specs.Left.{entry_for, index_or_zero, copy_entry};
 ghost use Rattle.wild_contents.specs.General.{left_in, left_bytes, section_general_bytes, copy_bytes};
 

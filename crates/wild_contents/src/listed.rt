@@ -3,7 +3,7 @@ ghost use Rattle.std.specs.Prelude.{◌≡◌, ◌++◌, true, slice_get};
 ghost use Rattle.std.specs.List.{flat_map};
 ghost use Rattle.wild_types.specs.Faults.{Answers};
 ghost use Rattle.wild_types.specs.Kinds.{needs_dynsym};
-ghost use Rattle.wild_symbols.specs.DynamicEntries.{listed_of, or_none};
+ghost use Rattle.wild_table_formats.specs.DynamicEntries.{listed_of, or_none};
 ghost use Rattle.wild_layout.specs.Faults.{at_file, flat_map_from, listed_error, listed_errors, table_errors};
 
 use crate::symtab_faults::check_table;

@@ -5,7 +5,7 @@ ghost use Rattle.wild_relr.specs.Written.{word_bytes};
 ghost use Rattle.wild_slot.specs.SlotParts.{slot_words};
 ghost use Rattle.wild_needs.specs.SlotShares.{storage_words, words_of_block};
 ghost use Rattle.wild_slot.specs.declared.slot_parts.WordPart.TheVariants as words;
-ghost use Rattle.wild_tables.specs.Entries.{rela_bytes};
+ghost use Rattle.wild_table_formats.specs.RelativeEntries.{rela_bytes};
 ghost use Rattle.wild_layout.specs.SlotBytes.{storage_entries, header_bytes, block_bytes};
 
 use crate::part_bytes::PartBytes;

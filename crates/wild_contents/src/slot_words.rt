@@ -2,7 +2,7 @@
 ghost use Rattle.std.specs.Prelude.{◌≡◌, ◌∷◌, [], ◌++◌, OnOk};
 ghost use Rattle.wild_slot.specs.SlotParts.{slot_words, slot_entries, flat_places};
 ghost use Rattle.wild_relr.specs.Written.{word_bytes};
-ghost use Rattle.wild_tables.specs.Entries.{rela_bytes};
+ghost use Rattle.wild_table_formats.specs.RelativeEntries.{rela_bytes};
 
 use crate::entries::add_entry;
 use crate::part_bytes::PartBytes;

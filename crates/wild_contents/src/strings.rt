@@ -5,7 +5,7 @@ ghost use Rattle.std.specs.List.{flat_map, filter};
 ghost use Rattle.wild_needs.specs.DynamicStrings.{epilogue_strings, lead_strings, listed_names, symbol_names, entry_names, file_strings};
 ghost use Rattle.wild_needs.specs.DynamicSymbols.{is_undefined_entry};
 ghost use Rattle.wild_needs.specs.Versions.{needs_of, needed_names, need_names, definition_names, own_names, version_names};
-ghost use Rattle.wild_symbols.specs.Strings.{string, string_bytes};
+ghost use Rattle.wild_table_formats.specs.Strings.{string, string_bytes};
 
 use crate::part_bytes::PartBytes;
 use std::alloc::AllocError;

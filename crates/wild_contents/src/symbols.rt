@@ -6,8 +6,8 @@ ghost use Rattle.std.specs.List.{filter};
 ghost use Rattle.wild_needs.specs.DynamicStrings.{behind_text, undefined_symbols};
 ghost use Rattle.wild_needs.specs.DynamicSymbols.{is_undefined_entry};
 ghost use Rattle.wild_types.specs.Kinds.{needs_dynsym};
-ghost use Rattle.wild_symbols.specs.Symbols.{symbol_bytes};
-ghost use Rattle.wild_symbols.specs.DynamicEntries.{NamedFields, undefined, listed, file_symbols, entry_at, entries_at, null_entries, behind_lead, file_entries, group_symbols};
+ghost use Rattle.wild_table_formats.specs.Symbols.{symbol_bytes};
+ghost use Rattle.wild_table_formats.specs.DynamicEntries.{NamedFields, undefined, listed, file_symbols, entry_at, entries_at, null_entries, behind_lead, file_entries, group_symbols};
 
 use crate::listed::listed_or_none;
 use crate::part_bytes::PartBytes;
@@ -142,7 +142,7 @@ fn add_file<A: Arch>(
 }
 
 /// Appends the entries of a group.
-#[tactic(auto, unfolding(wild_symbols::specs::DynamicEntries::group_symbols))]
+#[tactic(auto, unfolding(wild_table_formats::specs::DynamicEntries::group_symbols))]
 pub(crate) fn add_group_symbols<A: Arch>(
     resolved: &Resolved<A>,
     group: &Group,

@@ -7,9 +7,9 @@ ghost use Rattle.wild_needs.specs.declared.table.TablePart.TheVariants.{Side, Lo
 ghost use Rattle.wild_words.specs.Words.{word};
 ghost use Rattle.wild_needs.specs.DynamicStrings.{behind_text};
 ghost use Rattle.wild_needs.specs.TableSymbols.{full_name, table_strings};
-ghost use Rattle.wild_symbols.specs.Strings.{string, string_bytes};
-ghost use Rattle.wild_symbols.specs.Symbols.{symbol_bytes};
-ghost use Rattle.wild_symbols.specs.TableEntries.{is_side, null_entry, section_entry, null_entries, file_table, fields_of, table_entries};
+ghost use Rattle.wild_table_formats.specs.Strings.{string, string_bytes};
+ghost use Rattle.wild_table_formats.specs.Symbols.{symbol_bytes};
+ghost use Rattle.wild_table_formats.specs.TableEntries.{is_side, null_entry, section_entry, null_entries, file_table, fields_of, table_entries};
 ghost use Rattle.wild_layout.specs.Content.{indexes_of};
 ghost use Rattle.wild_contents.specs.Walks.{entry_of, taken_bytes, with_entry, Walks};
 
@@ -26,7 +26,7 @@ use wild_symbols::{
     section_fields, table_fields,
 };
 use wild_types::{Fault, File, Group, Role, Symbol, SymbolIndex};
-use wild_walk::Sink;
+use wild_words::Sink;
 
 /// The fields of the entry of a symbol of a file, or of the symbol that names its GOT entry, its stub or a thunk to it; or a fault.
 pub(crate) fn fields_of<A: Arch>(
@@ -55,7 +55,7 @@ pub(crate) fn fields_of<A: Arch>(
 }
 
 /// The same fields, of a symbol without a fault.
-#[tactic(auto, unfolding(wild_symbols::specs::TableEntries::table_fields))]
+#[tactic(auto, unfolding(wild_table_formats::specs::TableEntries::table_fields))]
 fn fields_or_none<A: Arch>(
     resolved: &Resolved<A>,
     file: &File,

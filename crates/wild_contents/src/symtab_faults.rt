@@ -37,7 +37,7 @@ impl<'r, 'l, 'f, A: Arch> TableSink for Look<'r, 'l, 'f, A> {
     ghost refuses = { Lacks };
 
     #[inline(always)]
-    #[tactic(auto, using(crate::proofs::SymtabFaultLemmas::looks), unfolding(wild_symbols::specs::TableEntries::table_fields))]
+    #[tactic(auto, using(crate::proofs::SymtabFaultLemmas::looks), unfolding(wild_table_formats::specs::TableEntries::table_fields))]
     fn take(&mut self, named: Named, index: usize, symbol: &Symbol) -> Result<(), Error> {
         match fields_of(self.resolved, self.file, named, index, symbol) {
             Ok(_) => Ok(()),

@@ -1,8 +1,8 @@
 //! The versions of dynamic symbols, those that the output defines, and those that it needs of libraries (LSB, "Symbol
 //! Versioning").
 ghost use Rattle.std.specs.Prelude.{◌≡◌, ◌++◌, OnOk};
-ghost use Rattle.wild_versions.specs.Symbols.{version_bytes};
-ghost use Rattle.wild_versions.specs.Names.{symbol_versions, file_definitions, group_needs};
+ghost use Rattle.wild_table_formats.specs.SymbolVersions.{version_bytes};
+ghost use Rattle.wild_table_formats.specs.VersionNames.{symbol_versions, file_definitions, group_needs};
 ghost use Rattle.wild_contents.specs.Given.{NeedsFit};
 
 use crate::part_bytes::PartBytes;

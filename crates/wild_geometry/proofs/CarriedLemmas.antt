@@ -8,20 +8,20 @@ use Rattle.wild_records.specs.Abi.Segment.{pt_load}
 use Rattle.wild_types.specs.declared.part.Part.{Part}
 use Rattle.wild_types.specs.declared.section.Section.{Section}
 use Rattle.wild_types.specs.declared.section.Segment.{Segment}
-use Rattle.wild_clauses.specs.declared.loaded.Side.TheVariants as side
+use Rattle.wild_plan_rules.specs.declared.side.Side.TheVariants as side
 use Rattle.wild_types.specs.declared.input.Slot.{Slot}
 use Rattle.wild_types.specs.declared.input.Slot.TheVariants as slot
 use Rattle.wild_types.specs.declared.input.InputSection.{InputSection}
 use Rattle.wild_types.specs.declared.layout.Layout.{Layout}
 use Rattle.wild_types.specs.Kinds.{is_partial_link}
 use Rattle.wild_types.specs.Lookups.{allocated, without_data, flags_of, section_of_part, is_allocated_section, is_allocated_part, is_without_data, is_hollow, hollow, is_hollow_at, fills_file, has_data, takes_file_bytes, is_loaded, is_filled}
-use Rattle.wild_clauses.specs.Places.{within, is_level, lies_in, lies_by, part_lies}
+use Rattle.wild_plan_rules.specs.Places.{within, is_level, lies_in, lies_by, part_lies}
 use Rattle.wild_types.specs.Parts.{is_loaded_role}
-use Rattle.wild_clauses.specs.Segments.{at_equal_distance, has_byte, has_file_bytes, all_below, bytes_are_loaded}
-use Rattle.wild_clauses.proofs.CoverLemmas.{all_below_each}
+use Rattle.wild_plan_rules.specs.Segments.{at_equal_distance, has_byte, has_file_bytes, all_below, bytes_are_loaded}
+use Rattle.wild_plan_rules.proofs.CoverLemmas.{all_below_each}
 use Rattle.wild_types.specs.FilePlaces.{bool_eq}
-use Rattle.wild_clauses.specs.Contents.{has_room}
-use Rattle.wild_clauses.specs.Indexes.{part_index_fits}
+use Rattle.wild_plan_rules.specs.Contents.{has_room}
+use Rattle.wild_plan_rules.specs.Indexes.{part_index_fits}
 use Rattle.wild_layout.specs.Loadable.{CarriesByte, IsMapped, IsPartMapped}
 use Rattle.wild_geometry.proofs.LaidLemmas.{Laid}
 use Rattle.wild_geometry.proofs.SectionLemmas.{Holds, Stood}

@@ -7,16 +7,16 @@ use Rattle.wild_words.proofs.Basics.{length-if, nil_if, flat_map-none}
 use Rattle.wild_records.specs.Dynamic.{dynamic_entry_size}
 use Rattle.wild_records.specs.SymtabEntry.{symtab_entry_size}
 use Rattle.wild_relr.proofs.SpellLemmas.{length-word_bytes}
-use Rattle.wild_tables.proofs.EntryLemmas.{length-rela_bytes}
-use Rattle.wild_tables.specs.Dynamic.{entries_bytes, dynamic_bytes}
-use Rattle.wild_tables.proofs.DynamicLemmas.{length_entries}
-use Rattle.wild_symbols.specs.DynamicEntries.{group_symbols}
-use Rattle.wild_headers.proofs.LengthLemmas.{lengths_of_headers}
-use Rattle.wild_symbols.proofs.StringLemmas.{length-string_bytes}
-use Rattle.wild_symbols.proofs.SymbolLemmas.{length-symbol_bytes}
-use Rattle.wild_symbols.proofs.TableLemmas.{length-long_indexes, length-index_bytes, length-file_side, length-table_entries}
-use Rattle.wild_symbols.specs.TableLaws.{side_count}
-use Rattle.wild_versions.proofs.RoomLemmas.{length-symbol_versions, length-file_definitions, length-group_needs}
+use Rattle.wild_table_formats.proofs.EntryLemmas.{length-rela_bytes}
+use Rattle.wild_table_formats.specs.DynamicSection.{entries_bytes, dynamic_bytes}
+use Rattle.wild_table_formats.proofs.DynamicLemmas.{length_entries}
+use Rattle.wild_table_formats.specs.DynamicEntries.{group_symbols}
+use Rattle.wild_table_formats.proofs.HeaderLengths.{lengths_of_headers}
+use Rattle.wild_table_formats.proofs.StringLemmas.{length-string_bytes}
+use Rattle.wild_table_formats.proofs.SymbolLemmas.{length-symbol_bytes}
+use Rattle.wild_table_formats.proofs.SymtabLemmas.{length-long_indexes, length-index_bytes, length-file_side, length-table_entries}
+use Rattle.wild_table_formats.specs.TableLaws.{side_count}
+use Rattle.wild_table_formats.proofs.VersionRooms.{length-symbol_versions, length-file_definitions, length-group_needs}
 use Rattle.wild_types.specs.declared.input.InputRelocation.{InputRelocation}
 use Rattle.wild_types.specs.declared.input.InputSection.{InputSection}
 use Rattle.wild_types.specs.declared.part.Role.{Role}
@@ -37,13 +37,13 @@ use Rattle.wild_types.specs.FileRoles.{is_prelude, is_epilogue}
 use Rattle.wild_types.specs.Parts.{role_place}
 use Rattle.wild_needs.specs.TableSymbols.{TableSymbol, file_items, side, null_count, has_long, local_count, global_count, table_strings}
 use Rattle.wild_needs.specs.Versions.{needs_room}
-use Rattle.wild_symbols.specs.TableEntries.{file_table, table_entries, long_indexes, index_bytes}
+use Rattle.wild_table_formats.specs.TableEntries.{file_table, table_entries, long_indexes, index_bytes}
 use Rattle.wild_needs.specs.SlotShares.{block_share}
 use Rattle.wild_needs.proofs.DynamicLemmas.{length_needed_entries}
 use Rattle.wild_layout.specs.Content.{whole_bytes, own_bytes, dynamic_room, file_content, dynamic_of, last_words, group_bytes, content}
 use Rattle.wild_layout.specs.Notes.{build_id_note, property_note}
 use Rattle.wild_layout.specs.Left.{left_entry, section_generals, copy_entry, file_generals}
-use Rattle.wild_tables.specs.Tables.{relative_entry}
+use Rattle.wild_table_formats.specs.GroupTables.{relative_entry}
 use Rattle.wild_layout.specs.Moved.{moved_value, listed_entry, section_entries, file_entries, file_words}
 use Rattle.wild_layout.specs.SlotBytes.{slot_bytes, header_bytes, block_bytes}
 use Rattle.wild_relr.specs.Written.{word_bytes}

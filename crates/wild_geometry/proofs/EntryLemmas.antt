@@ -12,11 +12,11 @@ use Rattle.wild_types.specs.Lists.{total}
 use Rattle.wild_types.specs.Lookups.{allocated, flags_of, kind_of, kind_at, without_data, has_data, is_hollow, hollow, is_hollow_at, is_allocated_section}
 use Rattle.wild_types.specs.Parts.{has_role, part_with, is_entry_role, entry_parts, bytes_in}
 use Rattle.wild_types.specs.Kinds.{is_fixed_static}
-use Rattle.wild_clauses.specs.Places.{part_lies}
-use Rattle.wild_clauses.specs.LoadedTables.{holds_entries, entries_astray, stands_in_entries}
-use Rattle.wild_clauses.specs.ClauseTests.{check_entries}
+use Rattle.wild_plan_rules.specs.Places.{part_lies}
+use Rattle.wild_plan_rules.specs.LoadedTables.{holds_entries, entries_astray, stands_in_entries}
+use Rattle.wild_plan_rules.specs.ClauseTests.{check_entries}
 use Rattle.wild_types.proofs.ListLemmas.{All-from_none_fails}
-use Rattle.wild_clauses.proofs.ClauseLemmas.{None-from_fails}
+use Rattle.wild_plan_rules.proofs.ClauseLemmas.{None-from_fails}
 use Rattle.wild_layout.specs.Loadable.{EntriesLie, HasEntriesAlone}
 use Rattle.wild_geometry.proofs.ClauseLemmas.{Both-from_first_error}
 use Rattle.wild_geometry.proofs.LaidLemmas.{Laid}

@@ -21,9 +21,9 @@ use Rattle.wild_types.specs.FilePlaces.{given}
 use Rattle.wild_types.specs.FileThunks.{thunks_of}
 use Rattle.wild_types.specs.Lists.{total}
 use Rattle.wild_types.specs.Lookups.{section_of_part, has_range, has_counted, has_bytes, is_given, is_filled, brings_bytes, has_data, is_hollow_at, is_hollow_part}
-use Rattle.wild_clauses.specs.Contents.{is_raw, holds_bytes, has_front, takes_bytes, leaves_front, file_leaves_front, group_leaves_front, section_misplaced}
-use Rattle.wild_clauses.specs.Fronts.{given_by, fills_front, merged_size, stands_in_front, front_shared}
-use Rattle.wild_clauses.specs.Thunks.{standing}
+use Rattle.wild_plan_rules.specs.Contents.{is_raw, holds_bytes, has_front, takes_bytes, leaves_front, file_leaves_front, group_leaves_front, section_misplaced}
+use Rattle.wild_plan_rules.specs.Fronts.{given_by, fills_front, merged_size, stands_in_front, front_shared}
+use Rattle.wild_plan_rules.specs.Thunks.{standing}
 use Rattle.wild_layout.specs.Image.{some_piece, offset_in, offset_of_part, merged_bytes, front_piece, once_pieces}
 use Rattle.wild_layout.specs.SectionPlaces.{HasRoom, FrontLies}
 use Rattle.wild_geometry.proofs.LaidLemmas.{Laid}

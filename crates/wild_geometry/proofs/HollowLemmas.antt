@@ -15,8 +15,8 @@ use Rattle.wild_types.specs.Lookups.{allocated, flags_of, kind_of, kind_at, sect
 use Rattle.wild_types.specs.Hollow.{is_hollow_role, KeepsAll}
 use Rattle.wild_types.specs.Parts.{role_place, has_role, part_with, is_loaded_role}
 use Rattle.wild_types.proofs.PartLemmas.{not_raw}
-use Rattle.wild_clauses.specs.Fronts.{dynamic_is_dropped}
-use Rattle.wild_clauses.specs.Places.{stands_loaded}
+use Rattle.wild_plan_rules.specs.Fronts.{dynamic_is_dropped}
+use Rattle.wild_plan_rules.specs.Places.{stands_loaded}
 use Rattle.wild_meaning.specs.Section.{IsHollow}
 use Rattle.wild_meaning.proofs.BitLemmas.{alloc_bit, bit_alloc}
 use Rattle.wild_geometry.proofs.LaidLemmas.{Laid}

@@ -8,8 +8,8 @@ use Rattle.wild_types.specs.declared.file.Group.{Group}
 use Rattle.wild_types.specs.declared.layout.Layout.{Layout}
 use Rattle.wild_types.specs.FilePlaces.{file_misplaced}
 use Rattle.wild_needs.specs.DynamicStrings.{needed_entries}
-use Rattle.wild_tables.specs.Dynamic.{entries_bytes, dynamic_bytes}
-use Rattle.wild_tables.proofs.DynamicLemmas.{entries_joined}
+use Rattle.wild_table_formats.specs.DynamicSection.{entries_bytes, dynamic_bytes}
+use Rattle.wild_table_formats.proofs.DynamicLemmas.{entries_joined}
 use Rattle.wild_layout.specs.Content.{dynamic_room, content}
 use Rattle.wild_layout.specs.TablePlaces.{table_bytes, all_needed}
 use Rattle.wild_geometry.proofs.ContentLemmas.{dynamic_content}

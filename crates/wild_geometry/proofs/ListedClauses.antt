@@ -9,10 +9,10 @@ use Rattle.wild_types.specs.declared.layout.DynamicSymbol.{DynamicSymbol}
 use Rattle.wild_types.specs.declared.layout.Layout.{Layout}
 use Rattle.wild_needs.specs.DynamicSymbols.{dynamic_symbols, is_named, has_position, dynsym_of, position_fits, misplaced, symbol_listed_fits, listed_fits, misfit, first_listed}
 use Rattle.wild_types.specs.Lists.{first_failing, unless}
-use Rattle.wild_clauses.specs.ZeroFree.{name_fits, option_names_fit, section_name_fits, symbol_name_fits, group_names_fit, listed_name_fits}
-use Rattle.wild_clauses.specs.ClauseTests.{fails, check_dynsyms, check_names}
+use Rattle.wild_plan_rules.specs.ZeroFree.{name_fits, option_names_fit, section_name_fits, symbol_name_fits, group_names_fit, listed_name_fits}
+use Rattle.wild_plan_rules.specs.ClauseTests.{fails, check_dynsyms, check_names}
 use Rattle.wild_types.proofs.ListLemmas.{All-from_none_fails}
-use Rattle.wild_clauses.proofs.ClauseLemmas.{None-from_fails}
+use Rattle.wild_plan_rules.proofs.ClauseLemmas.{None-from_fails}
 use Rattle.wild_hashes.specs.Reading.{HasNoZero}
 use Rattle.wild_layout.specs.ListedSymbols.{IsEntry, IsThere, AreListed}
 use Rattle.wild_geometry.proofs.ClauseLemmas.{Both-from_first_error}

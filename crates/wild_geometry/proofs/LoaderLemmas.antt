@@ -15,16 +15,16 @@ use Rattle.wild_types.specs.declared.layout.Layout.{Layout}
 use Rattle.wild_types.specs.Kinds.{needs_dynamic, is_fixed_static}
 use Rattle.wild_types.specs.Lookups.{is_hollow_at}
 use Rattle.wild_types.specs.Parts.{role_place, has_role, part_with, is_table_role, is_look_up_role, has_hashes}
-use Rattle.wild_clauses.specs.Places.{within}
-use Rattle.wild_clauses.specs.Segments.{size_in_file, is_segment_of, dynamic_astray}
-use Rattle.wild_clauses.specs.LoadedTables.{begins_behind, entries_follow, rest_of_table, is_asked_whole, holds_part, carries_part, carries_rest, carries_table, table_is_loaded}
+use Rattle.wild_plan_rules.specs.Places.{within}
+use Rattle.wild_plan_rules.specs.Segments.{size_in_file, is_segment_of, dynamic_astray}
+use Rattle.wild_plan_rules.specs.LoadedTables.{begins_behind, entries_follow, rest_of_table, is_asked_whole, holds_part, carries_part, carries_rest, carries_table, table_is_loaded}
 use Rattle.wild_layout.specs.Loadable.{IsStatic, HasSegment, IsCarriedWhole, BeginsBehind, AreCarriedTogether}
 use Rattle.wild_geometry.proofs.LaidLemmas.{Laid}
 use Rattle.wild_geometry.proofs.RoleLemmas.{FoundAt-from_find, no_count, nothing_shared}
 use Rattle.wild_records.specs.declared.dynamic.DynamicEntry.{DynamicEntry}
 use Rattle.wild_needs.specs.Dynamic.{dynamic_entries, dynamic_count}
 use Rattle.wild_loader.specs.Laws.{before_null}
-use Rattle.wild_tables.proofs.FoundLemmas.{behind_null}
+use Rattle.wild_table_formats.proofs.FoundLemmas.{behind_null}
 use Rattle.wild_geometry.proofs.TableLemmas.{same_role}
 
 -- ---- the segment of the dynamic section

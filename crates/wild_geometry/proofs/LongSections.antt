@@ -14,7 +14,7 @@ use Rattle.wild_types.specs.declared.layout.Layout.{Layout}
 use Rattle.wild_types.specs.Lookups.{is_rela}
 use Rattle.wild_laid.specs.Turned.{turned_offset, turned, as_turned}
 use Rattle.wild_laid.specs.Laid.{base_of, counted_from, relocations_at, target_relocations, tabled}
-use Rattle.wild_clauses.specs.Partial.{is_group, has_entries, table_fits, file_tables_fit, table_has_data}
+use Rattle.wild_plan_rules.specs.Partial.{is_group, has_entries, table_fits, file_tables_fit, table_has_data}
 use Rattle.wild_layout.specs.Sites.{section_bytes}
 use Rattle.wild_layout.specs.SectionPlaces.{FieldLies}
 use Rattle.wild_layout.specs.Geometry.{NamesSymbol}

@@ -16,7 +16,7 @@ use Rattle.wild_types.specs.FileRoles.{is_prelude, is_epilogue}
 use Rattle.wild_types.specs.FileThunks.{thunks_of}
 use Rattle.wild_types.specs.Lookups.{is_given, is_filled, is_hollow_part, image_size, files_of}
 use Rattle.wild_types.proofs.FileLemmas.{same_bool}
-use Rattle.wild_clauses.specs.Thunks.{standing}
+use Rattle.wild_plan_rules.specs.Thunks.{standing}
 use Rattle.wild_layout.specs.Sites.{extent_of}
 use Rattle.wild_layout.specs.Thunks.{thunk_bytes}
 use Rattle.wild_layout.specs.Image.{thunk_piece, thunk_pieces, of_first_file, once_pieces, owned_pieces}

@@ -13,16 +13,16 @@ use Rattle.wild_types.specs.declared.part.Role.TheVariants as role
 use Rattle.wild_types.specs.declared.file.Group.{Group}
 use Rattle.wild_types.specs.declared.layout.Layout.{Layout}
 use Rattle.wild_types.specs.FilePlaces.{given}
-use Rattle.wild_clauses.specs.Contents.{has_share_for_each_part}
+use Rattle.wild_plan_rules.specs.Contents.{has_share_for_each_part}
 use Rattle.wild_needs.specs.Needs.{has_last, total_share, group_share}
-use Rattle.wild_clauses.specs.Counts.{role_given}
+use Rattle.wild_plan_rules.specs.Counts.{role_given}
 use Rattle.wild_types.specs.Lists.{total}
 use Rattle.wild_types.specs.Lookups.{is_hollow_at}
 use Rattle.wild_needs.specs.Dynamic.{dynamic_count}
 use Rattle.wild_types.specs.Shares.{part_of_role, part_of, given_by, share_of}
 use Rattle.wild_records.specs.Dynamic.{dynamic_entry_size}
-use Rattle.wild_tables.specs.Dynamic.{dynamic_bytes}
-use Rattle.wild_tables.proofs.DynamicLemmas.{lengths}
+use Rattle.wild_table_formats.specs.DynamicSection.{dynamic_bytes}
+use Rattle.wild_table_formats.proofs.DynamicLemmas.{lengths}
 use Rattle.wild_types.specs.Parts.{role_place, has_role, part_with}
 use Rattle.wild_types.proofs.ListLemmas.{total-prefix}
 use Rattle.wild_types.proofs.PartLemmas.{not_raw}

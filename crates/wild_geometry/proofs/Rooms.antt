@@ -18,7 +18,7 @@ use Rattle.wild_types.specs.Lookups.{is_filled, is_loaded, is_rela, has_range, f
 use Rattle.wild_laid.specs.Turned.{as_turned}
 use Rattle.wild_laid.specs.Laid.{Input, unread, tabled, laid_by, laid_section, laid_sections, laid_file, laid_files, sorted_inputs, of_last_file}
 use Rattle.wild_laid.proofs.LaidFiles.{joined_sections, joined_laid}
-use Rattle.wild_clauses.specs.Thunks.{standing}
+use Rattle.wild_plan_rules.specs.Thunks.{standing}
 use Rattle.wild_layout.specs.Image.{offset_in, section_piece, section_pieces, of_first_file, sorted_piece, once_pieces, thunk_pieces, file_pieces, owned_pieces}
 use Rattle.wild_layout.specs.Sites.{section_bytes, extent_of}
 use Rattle.wild_geometry.proofs.StandingLemmas.{EachIn}

@@ -8,14 +8,14 @@ use Rattle.wild_types.specs.declared.layout.Layout.{Layout}
 use Rattle.wild_types.specs.declared.symbol.Symbol.{Symbol}
 use Rattle.wild_types.specs.Lookups.{canonical, files_of}
 use Rattle.wild_types.specs.Lists.{first_failing, unless}
-use Rattle.wild_clauses.specs.SlotPlaces.{slots_astray, slot_is_even, block_is_asked, block_has_base, pair_follows, pair_follows_by}
-use Rattle.wild_clauses.specs.SlotFlags.{is_asked, first_asked_failing, dynamic_is_interposable, stub_is_value, stub_has_slot, one_slot_for_address, thread_slot_alone, resolver_is_own, slot_agrees, resolver_moves, second_slot_fits}
-use Rattle.wild_clauses.specs.ClauseTests.{fails, check_indexes, check_slots, check_slot_flags}
-use Rattle.wild_clauses.specs.Indexes.{part_index_fits, primary_is_there, thunks_are_there, symbol_misfit, group_indexes_fit, listed_misfit, sorted_is_there, merged_is_there, identity_is_there, entry_is_there, definition_is_own, defines_itself}
+use Rattle.wild_plan_rules.specs.SlotPlaces.{slots_astray, slot_is_even, block_is_asked, block_has_base, pair_follows, pair_follows_by}
+use Rattle.wild_plan_rules.specs.SlotFlags.{is_asked, first_asked_failing, dynamic_is_interposable, stub_is_value, stub_has_slot, one_slot_for_address, thread_slot_alone, resolver_is_own, slot_agrees, resolver_moves, second_slot_fits}
+use Rattle.wild_plan_rules.specs.ClauseTests.{fails, check_indexes, check_slots, check_slot_flags}
+use Rattle.wild_plan_rules.specs.Indexes.{part_index_fits, primary_is_there, thunks_are_there, symbol_misfit, group_indexes_fit, listed_misfit, sorted_is_there, merged_is_there, identity_is_there, entry_is_there, definition_is_own, defines_itself}
 use Rattle.wild_types.specs.FileSymbols.{copied_again}
-use Rattle.wild_clauses.specs.VersionTables.{parent_is_there}
+use Rattle.wild_plan_rules.specs.VersionTables.{parent_is_there}
 use Rattle.wild_types.proofs.ListLemmas.{All-from_none_fails}
-use Rattle.wild_clauses.proofs.ClauseLemmas.{None-from_fails}
+use Rattle.wild_plan_rules.proofs.ClauseLemmas.{None-from_fails}
 use Rattle.wild_layout.specs.Geometry.{DefinitionsAreFinal}
 use Rattle.wild_layout.specs.SlotOrder.{SlotsFollow, FlagsAgree, EachAgrees, SlotsAreInOrder}
 use Rattle.wild_geometry.proofs.ClauseLemmas.{Both-from_first_error, holds_from_unless, NoneFails-from_first_clause, SharesHold-from_check}

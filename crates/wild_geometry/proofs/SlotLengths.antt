@@ -20,8 +20,8 @@ use Rattle.wild_needs.specs.SlotShares.{word_size, stub_size, words_in, entries_
 use Rattle.wild_types.specs.FileSymbols.{own_symbols}
 use Rattle.wild_types.proofs.ListLemmas.{total-none}
 use Rattle.wild_slot.specs.SymbolWords.{slots_of}
-use Rattle.wild_tables.specs.Entries.{rela_bytes}
-use Rattle.wild_tables.proofs.EntryLemmas.{length-rela_bytes}
+use Rattle.wild_table_formats.specs.RelativeEntries.{rela_bytes}
+use Rattle.wild_table_formats.proofs.EntryLemmas.{length-rela_bytes}
 use Rattle.wild_layout.specs.SlotBytes.{symbol_entries, stub_bytes, flat_in, slot_words_of, slot_entries_of, stubs_of, flat_places_of, slot_bytes, storage_entries, header_bytes, block_bytes}
 use Rattle.wild_slot.proofs.StubLemmas.{length-stub_of}
 

@@ -12,7 +12,7 @@ use Rattle.wild_types.specs.declared.layout.Layout.{Layout}
 use Rattle.wild_types.specs.FileRoles.{is_epilogue}
 use Rattle.wild_types.specs.Lookups.{is_loaded}
 use Rattle.wild_laid.specs.Laid.{Input, as_loaded, unread, sorted_by, sorted_in_file, sorted_in_group, files_at, sorted_input, sorted_inputs, of_last_file}
-use Rattle.wild_clauses.specs.Thunks.{standing}
+use Rattle.wild_plan_rules.specs.Thunks.{standing}
 use Rattle.wild_geometry.proofs.RunLemmas.{sections_in}
 
 -- the input sections, in the order of processing

@@ -9,9 +9,9 @@ use Rattle.wild_types.specs.declared.part.Role.{Role}
 use Rattle.wild_types.specs.declared.part.Role.TheVariants as role
 use Rattle.wild_types.specs.declared.file.Group.{Group}
 use Rattle.wild_types.specs.declared.layout.Layout.{Layout}
-use Rattle.wild_clauses.specs.declared.starts.Starts.{Starts}
+use Rattle.wild_plan_rules.specs.declared.group_starts.Starts.{Starts}
 use Rattle.wild_types.specs.FilePlaces.{given}
-use Rattle.wild_clauses.specs.GroupStarts.{given_at, place_with, start_places, no_starts, starts_behind, begins_at, start_astray}
+use Rattle.wild_plan_rules.specs.GroupStarts.{given_at, place_with, start_places, no_starts, starts_behind, begins_at, start_astray}
 use Rattle.wild_types.specs.Lists.{total}
 use Rattle.wild_needs.specs.Needs.{group_share}
 use Rattle.wild_types.specs.Parts.{role_place, has_role, part_with}

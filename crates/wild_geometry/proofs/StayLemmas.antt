@@ -23,9 +23,9 @@ use Rattle.wild_laid.specs.FrameInputs.{frames_of, kept_size}
 use Rattle.wild_laid.specs.Laid.{Input, entry_relocations, moved_by, laid_relocations, framed, without_relocations, unread, tabled, laid_by, laid_section, laid_sections, laid_file, file_frames, frames_at, laid_files, sorted_inputs, sorted_sections, of_last_file, processed}
 use Rattle.wild_laid.proofs.LaidFiles.{All-low_sections, All-low_files}
 use Rattle.wild_laid.proofs.TurnedBytes.{length-turned_bytes}
-use Rattle.wild_clauses.specs.Contents.{may_lack_bytes}
-use Rattle.wild_clauses.specs.Fronts.{is_whole_word}
-use Rattle.wild_clauses.specs.Thunks.{standing}
+use Rattle.wild_plan_rules.specs.Contents.{may_lack_bytes}
+use Rattle.wild_plan_rules.specs.Fronts.{is_whole_word}
+use Rattle.wild_plan_rules.specs.Thunks.{standing}
 use Rattle.wild_layout.specs.Geometry.{NamesSymbol, EachSection}
 use Rattle.wild_layout.specs.SectionPlaces.{FieldLies, IsWord}
 use Rattle.wild_geometry.proofs.StandingLemmas.{EachStanding, sorted_loaded}

@@ -12,8 +12,8 @@ use Rattle.wild_types.specs.FileRoles.{is_prelude, is_epilogue}
 use Rattle.wild_types.specs.Kinds.{needs_dynsym}
 use Rattle.wild_types.specs.Lists.{total}
 use Rattle.wild_needs.specs.Needs.{dynsym_count}
-use Rattle.wild_symbols.specs.DynamicEntries.{listed, undefined, file_symbols, entry_at, no_fields, entries_at, null_entries, behind_lead, file_entries, entries_from, group_symbols}
-use Rattle.wild_versions.proofs.BesideLemmas.{length-entries_at}
+use Rattle.wild_table_formats.specs.DynamicEntries.{listed, undefined, file_symbols, entry_at, no_fields, entries_at, null_entries, behind_lead, file_entries, entries_from, group_symbols}
+use Rattle.wild_table_formats.proofs.EntryLengths.{length-entries_at}
 
 one_length : {X : Type 0} (b : Bool) (x : X) → length (if b then x ∷ [] else []) ≡ (if b then 1 else 0)
 one_length true x = refl

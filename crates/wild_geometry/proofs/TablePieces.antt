@@ -13,7 +13,7 @@ use Rattle.wild_types.specs.Lookups.{is_filled, has_data, is_hollow_at, image_si
 use Rattle.wild_types.specs.FilePlaces.{given}
 use Rattle.wild_types.specs.Parts.{role_place, has_role}
 use Rattle.wild_types.proofs.ListLemmas.{total-prefix}
-use Rattle.wild_clauses.specs.Places.{takes_room, ends_low}
+use Rattle.wild_plan_rules.specs.Places.{takes_room, ends_low}
 use Rattle.wild_laid.specs.Laid.{sorted_inputs}
 use Rattle.wild_layout.specs.Content.{content}
 use Rattle.wild_layout.specs.Image.{some_piece, given_before, table_piece, table_pieces, owned_pieces, pieces}

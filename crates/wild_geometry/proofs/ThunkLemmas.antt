@@ -19,10 +19,10 @@ use Rattle.wild_types.specs.Kinds.{is_partial_link}
 use Rattle.wild_types.specs.FileThunks.{thunk_size, block_of, thunks_of}
 use Rattle.wild_types.specs.Lookups.{is_filled, image_size, is_allocated_section, section_of_part, has_data, is_hollow_at, is_hollow_part}
 use Rattle.wild_types.specs.FilePlaces.{given}
-use Rattle.wild_clauses.specs.Contents.{is_raw, holds_thunks, section_misplaced}
-use Rattle.wild_clauses.specs.Indexes.{part_index_fits}
-use Rattle.wild_clauses.specs.Places.{part_lies}
-use Rattle.wild_clauses.specs.Thunks.{is_used, has_thunks, misplaced_from, misplaced_in, owns, is_owned, block_lost, machine_takes}
+use Rattle.wild_plan_rules.specs.Contents.{is_raw, holds_thunks, section_misplaced}
+use Rattle.wild_plan_rules.specs.Indexes.{part_index_fits}
+use Rattle.wild_plan_rules.specs.Places.{part_lies}
+use Rattle.wild_plan_rules.specs.Thunks.{is_used, has_thunks, misplaced_from, misplaced_in, owns, is_owned, block_lost, machine_takes}
 use Rattle.wild_layout.specs.Thunks.{thunk_bytes}
 use Rattle.wild_layout.specs.Image.{thunk_offset, thunk_piece, unless_hollow}
 use Rattle.wild_layout.specs.SectionPlaces.{HasRoom}

@@ -15,10 +15,10 @@ use Rattle.wild_types.specs.Lists.{total}
 use Rattle.wild_types.specs.Lookups.{is_given}
 use Rattle.wild_types.specs.FilePlaces.{given}
 use Rattle.wild_types.specs.FileThunks.{thunk_size, thunks_of}
-use Rattle.wild_clauses.specs.Contents.{ends_of, parts_placed, section_misplaced}
-use Rattle.wild_clauses.specs.SlotPlaces.{and_then, walk}
-use Rattle.wild_clauses.specs.Thunks.{standing, is_used, next_code, stand_from, block_step, section_step, file_step, or_next, misplaced_from}
-use Rattle.wild_clauses.proofs.BlockLemmas.{length-ends_of, get_or-ends_of}
+use Rattle.wild_plan_rules.specs.Contents.{ends_of, parts_placed, section_misplaced}
+use Rattle.wild_plan_rules.specs.SlotPlaces.{and_then, walk}
+use Rattle.wild_plan_rules.specs.Thunks.{standing, is_used, next_code, stand_from, block_step, section_step, file_step, or_next, misplaced_from}
+use Rattle.wild_plan_rules.proofs.BlockLemmas.{length-ends_of, get_or-ends_of}
 use Rattle.wild_geometry.proofs.RunLemmas.{sections_in, Owns, From, To, Run-from_group, each_part_placed}
 
 -- the thunks of a group, and all, in the order of processing

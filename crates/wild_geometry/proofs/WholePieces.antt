@@ -13,8 +13,8 @@ use Rattle.wild_types.specs.declared.layout.Layout.{Layout}
 use Rattle.wild_types.specs.Kinds.{is_partial_link}
 use Rattle.wild_types.specs.Lookups.{image_size, is_hollow_at}
 use Rattle.wild_types.specs.Parts.{has_role}
-use Rattle.wild_clauses.specs.Fronts.{is_header_role}
-use Rattle.wild_headers.specs.Headers.{offset_of_role, program_header_bytes}
+use Rattle.wild_plan_rules.specs.Fronts.{is_header_role}
+use Rattle.wild_table_formats.specs.Headers.{offset_of_role, program_header_bytes}
 use Rattle.wild_layout.specs.Content.{whole_bytes, content}
 use Rattle.wild_layout.specs.Image.{given_before, table_piece, table_pieces, owned_pieces, group_pieces, pieces}
 use Rattle.wild_layout.specs.TablePlaces.{IsPiece, HasTables}

@@ -17,7 +17,7 @@ use Rattle.wild_types.specs.declared.layout.Tls.{Tls}
 use Rattle.wild_types.specs.Rows.{row_of}
 use Rattle.wild_slot.specs.SlotParts.{type_of}
 use Rattle.wild_slot.specs.Storage.{thread_pointer}
-use Rattle.wild_headers.specs.Headers.{machine_number}
+use Rattle.wild_table_formats.specs.Headers.{machine_number}
 use Rattle.wild_loader.specs.declared.memory.Machine.{Machine as Processor}
 use Rattle.wild_loader.specs.declared.kind.DynamicKind.TheVariants as kinds
 use Rattle.wild_loader.specs.Changes.{kind_of}

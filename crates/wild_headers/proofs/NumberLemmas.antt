@@ -2,8 +2,8 @@
 use Rattle.std.proofs.Common.{◌≡◌, ℕ, length, refl, arith, false, true, nat_lt}
 use Rattle.std.proofs.lemmas.Bool.Decides.{nat_tests}
 use Rattle.wild_records.specs.Abi.Section.{shn_undef, shn_xindex}
-use Rattle.wild_headers.specs.Headers.{file_header, null_header, name_table, or_escape, or_none}
-use Rattle.wild_headers.specs.Laws.{IsTold, SectionCountStands, NameTableStands, CountsAtTheLimit}
+use Rattle.wild_table_formats.specs.Headers.{file_header, null_header, name_table, or_escape, or_none}
+use Rattle.wild_table_formats.specs.HeaderLaws.{IsTold, SectionCountStands, NameTableStands, CountsAtTheLimit}
 
 told : (n escape : ℕ) → IsTold n escape (or_escape n escape) (or_none n)
 told n escape = record {

@@ -11,11 +11,11 @@ use Rattle.wild_records.specs.declared.section_header.SectionHeader.{SectionHead
 use Rattle.wild_types.specs.declared.section.Section.{Section}
 use Rattle.wild_types.specs.declared.layout.Layout.{Layout}
 use Rattle.wild_types.specs.Lists.{total}
-use Rattle.wild_headers.specs.declared.section_headers.Told.{Told}
-use Rattle.wild_headers.specs.Headers.{program_header, told_of, section_header, headers_from, section_headers_of}
-use Rattle.wild_headers.specs.Laws.{ProgramHeadersStand, SectionHeadersStand, NamesStand}
-use Rattle.wild_headers.proofs.HeaderLemmas.{length-program_header, length-section_header, named}
-use Rattle.wild_headers.proofs.LengthLemmas.{length-section_headers_of}
+use Rattle.wild_table_formats.specs.declared.section_info.Told.{Told}
+use Rattle.wild_table_formats.specs.Headers.{program_header, told_of, section_header, headers_from, section_headers_of}
+use Rattle.wild_table_formats.specs.HeaderLaws.{ProgramHeadersStand, SectionHeadersStand, NamesStand}
+use Rattle.wild_table_formats.proofs.HeaderLemmas.{length-program_header, length-section_header, named}
+use Rattle.wild_table_formats.proofs.HeaderLengths.{length-section_headers_of}
 
 Stands-behind : (xs ys part : List ℕ) (n at whole : ℕ) → length xs ≡ n → whole ≡ n + at → Stands ys at part → Stands (xs ++ ys) whole part
 Stands-behind xs ys part n at whole len is s = record {

@@ -1,7 +1,7 @@
 //! The file header (gABI, "ELF Header").
 ghost use Rattle.std.specs.Prelude.{◌≡◌, ◌^◌, ◌<◌, length};
 ghost use Rattle.wild_records.specs.FileHeader.{file_header_size};
-ghost use Rattle.wild_headers.specs.Headers.{file_type, machine_number, file_header, file_header_bytes};
+ghost use Rattle.wild_table_formats.specs.Headers.{file_type, machine_number, file_header, file_header_bytes};
 
 use crate::numbers::{or_escape, or_partial, section_headers_offset, section_of_role};
 use wild_needs::elf_entry_address;
@@ -36,7 +36,7 @@ fn machine_number(machine: Machine) -> u16
     }
 }
 
-#[tactic(auto, unfolding(crate::specs::Headers::file_header))]
+#[tactic(auto, unfolding(wild_table_formats::specs::Headers::file_header))]
 fn file_header(layout: &Layout) -> FileHeader
     requires { length layout.now.segments < 2 ^ 16 }
     ensures { result ≡ file_header layout.now }

@@ -1,5 +1,5 @@
 //! Laws of the headers.
-ghost use Rattle.wild_headers.specs.Laws.{HeadersHaveTheirLengths, SectionCountStands, NameTableStands, CountsAtTheLimit, ProgramHeadersStand, SectionHeadersStand, NamesStand};
+ghost use Rattle.wild_table_formats.specs.HeaderLaws.{HeadersHaveTheirLengths, SectionCountStands, NameTableStands, CountsAtTheLimit, ProgramHeadersStand, SectionHeadersStand, NamesStand};
 
 /// The headers and the section names have exactly the lengths that `wild_needs` computes for their parts.
 pub fn headers_have_their_lengths()

@@ -1,6 +1,6 @@
 //! The numbers in the headers that are computed from the parts and the libraries of the layout.
 ghost use Rattle.std.specs.Prelude.{◌≡◌, ◌%◌, ◌^◌};
-ghost use Rattle.wild_headers.specs.Headers.{offset_of_role, section_of_role, size_of_role, or_escape, or_none, or_partial};
+ghost use Rattle.wild_table_formats.specs.Headers.{offset_of_role, section_of_role, size_of_role, or_escape, or_none, or_partial};
 ghost use Rattle.wild_types.specs.Parts.{has_role};
 ghost use Rattle.wild_needs.specs.Versions.{has_needs, need_count};
 ghost use Rattle.wild_types.specs.declared.part.Role.TheVariants.{SectionHeaders};

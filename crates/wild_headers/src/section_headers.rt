@@ -4,15 +4,16 @@ ghost use Rattle.wild_words.specs.Words.{place};
 ghost use Rattle.wild_words.specs.Record.{spell};
 ghost use Rattle.wild_records.specs.SectionHeader.{section_header_size, section_header_fields};
 ghost use Rattle.wild_needs.specs.Needs.{name_bytes};
-ghost use Rattle.wild_headers.specs.Headers.{name_table, told_at, local_symbols, told_of, null_header, uncompressed, info_at, type_told, section_header, section_header_bytes};
+ghost use Rattle.wild_table_formats.specs.Headers.{name_table, told_at, local_symbols, told_of, null_header, uncompressed, info_at, type_told, section_header, section_header_bytes};
 
 use crate::numbers::{need_count, or_none, or_partial, section_of_role, size_of_role};
 use wild_records::abi::section::{SHF_COMPRESSED, SHT_NOBITS, SHT_NULL};
 use wild_records::{SectionHeader, SymtabEntry};
+use wild_table_formats::Told;
 use wild_types::{Layout, Role, Section, SectionIndex};
 use wild_words::put;
 
-#[tactic(auto, unfolding(crate::specs::Headers::null_header))]
+#[tactic(auto, unfolding(wild_table_formats::specs::Headers::null_header))]
 fn null_header(layout: &Layout) -> SectionHeader
     requires { name_table layout.now < 2 ^ 32 }
     ensures { result ≡ null_header layout.now }
@@ -43,13 +44,6 @@ fn uncompressed(flags: u64) -> u64
     }
 }
 
-/// An `sh_info` that the writer computes, and the section that gets it instead of the layout's value.
-#[derive(Clone, Copy)]
-struct Told {
-    section: SectionIndex,
-    info: u32,
-}
-
 /// `sh_info` of the section that holds the part with this role: a number, modulo 2^32.
 fn told_at(layout: &Layout, role: Role, number: u64) -> Told
     ensures { result ≡ told_at layout.now role number }
@@ -69,7 +63,7 @@ fn local_symbols(layout: &Layout) -> u64
 
 /// Every computed `sh_info`: for `.dynsym` and `.symtab` the number of local symbols, which come first; for `.rela.plt`
 /// the section of the GOT words; for `.gnu.version_d` and `.gnu.version_r` the number of their records.
-#[tactic(auto, unfolding(crate::specs::Headers::told_of))]
+#[tactic(auto, unfolding(wild_table_formats::specs::Headers::told_of))]
 fn told_of(layout: &Layout) -> [Told; 5]
     ensures { result ≡ told_of layout.now }
 {
@@ -107,7 +101,7 @@ fn type_told(layout: &Layout, section: &Section) -> u32
 }
 
 /// The header of a section other than section 0. In a relocatable object `sh_addr` is 0.
-#[tactic(auto, unfolding(crate::specs::Headers::section_header))]
+#[tactic(auto, unfolding(wild_table_formats::specs::Headers::section_header))]
 fn section_header(layout: &Layout, info: u32, name: u32, section: &Section) -> SectionHeader
     ensures { result ≡ section_header layout.now info name section.now }
 {

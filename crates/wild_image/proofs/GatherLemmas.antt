@@ -13,7 +13,7 @@ use Rattle.wild_types.specs.Kinds.{is_partial_link}
 use Rattle.wild_types.specs.Lists.{total}
 use Rattle.wild_types.specs.Hollow.{is_dropped}
 use Rattle.wild_types.specs.Lookups.{is_counted, section_of, section_of_part}
-use Rattle.wild_clauses.specs.Places.{relocation_count}
+use Rattle.wild_plan_rules.specs.Places.{relocation_count}
 use Rattle.wild_layout.specs.Image.{counted, count_of, counts}
 use Rattle.wild_layout.specs.Geometry.{IsLaidOut}
 use Rattle.wild_crew.specs.Sums.{between, n_if, counted as counted_in}

@@ -5,13 +5,13 @@ use Rattle.std.proofs.lemmas.Bool.{cases_Bool, and_parts, ltb-true}
 use Rattle.wild_words.specs.Overlay.{overlay}
 use Rattle.wild_types.specs.declared.fault.Error.{Error}
 use Rattle.wild_types.specs.declared.layout.Layout.{Layout}
-use Rattle.wild_clauses.specs.Places.{relocation_count}
+use Rattle.wild_plan_rules.specs.Places.{relocation_count}
 use Rattle.wild_needs.specs.Needs.{total_share, name_bytes}
-use Rattle.wild_clauses.specs.Counts.{counts_fit}
+use Rattle.wild_plan_rules.specs.Counts.{counts_fit}
 use Rattle.wild_needs.specs.Versions.{versions_fit}
-use Rattle.wild_clauses.specs.ClauseTests.{check_sizes, check_counts}
-use Rattle.wild_clauses.specs.WellFormed.{first_clause}
-use Rattle.wild_headers.specs.Headers.{section_of_role}
+use Rattle.wild_plan_rules.specs.ClauseTests.{check_sizes, check_counts}
+use Rattle.wild_plan_rules.specs.WellFormed.{first_clause}
+use Rattle.wild_table_formats.specs.Headers.{section_of_role}
 use Rattle.wild_layout.specs.Image.{group_pieces, pieces, padding, bytes}
 use Rattle.wild_layout.specs.Faults.{clause_errors, flat_map_from, part_errors, group_errors, errors}
 use Rattle.wild_layout.specs.Geometry.{IsLaidOut}
@@ -25,8 +25,8 @@ use Rattle.wild_layout.specs.SearchTable.{address_of_role}
 use Rattle.std.proofs.lemmas.List.Elements.{All-head, All-tail}
 use Rattle.wild_types.specs.declared.part.Role.TheVariants as role
 use Rattle.wild_types.specs.Faults.{Refuses}
-use Rattle.wild_clauses.proofs.ClauseLemmas.{test_holds, first_holds, rest_holds}
-use Rattle.wild_headers.proofs.LengthLemmas.{role_below}
+use Rattle.wild_plan_rules.proofs.ClauseLemmas.{test_holds, first_holds, rest_holds}
+use Rattle.wild_table_formats.proofs.HeaderLengths.{role_below}
 use Rattle.wild_layout.proofs.LayoutLemmas.{definitions_fit}
 use Rattle.wild_sections.proofs.FaultLemmas.{Refuses-front, Refuses-behind}
 use Rattle.wild_contents.proofs.HashLemmas.{sysv_stands, gnu_stands}

@@ -12,7 +12,7 @@ use Rattle.wild_types.specs.declared.part.Role.TheVariants as role
 use Rattle.wild_types.specs.FilePlaces.{given}
 use Rattle.wild_types.specs.Lists.{total}
 use Rattle.wild_types.specs.Parts.{has_role}
-use Rattle.wild_clauses.specs.WellFormed.{first_clause}
+use Rattle.wild_plan_rules.specs.WellFormed.{first_clause}
 use Rattle.wild_geometry.proofs.ClauseLemmas.{NoneFails-from_first_clause, SharesHold-from_check}
 use Rattle.wild_geometry.proofs.ShareLemmas.{size_from_shares}
 use Rattle.wild_geometry.proofs.TableLemmas.{role_place-0}

@@ -24,7 +24,7 @@ use Rattle.wild_layout.specs.Sites.{bytes_by, section_bytes}
 use Rattle.wild_layout.specs.Image.{offset_in, merged_bytes, section_piece, section_pieces, sorted_piece, file_pieces, owned_pieces, of_first_file, once_pieces, thunk_pieces}
 use Rattle.wild_layout.specs.SectionPlaces.{SectionLies, IsWord, FrontLies, PartLies}
 use Rattle.wild_layout.specs.Geometry.{IsLaidOut}
-use Rattle.wild_clauses.specs.WellFormed.{first_clause}
+use Rattle.wild_plan_rules.specs.WellFormed.{first_clause}
 use Rattle.wild_image.specs.Pieces.{standing, has_room, some_by, ranged_room, section_owned, input_owned, sorted_owned, owned_in, input_in, sorted_in}
 use Rattle.wild_image.specs.Owners.{ranged_piece, ranged_pieces, sorted_pieces, all_sorted_pieces, ends_pieces, standing_pieces}
 use Rattle.wild_image.specs.Append.{MergedLies, RangedLies, InputLies, SortedLies, FileLies, EachFileLies, IsTurned, IsOfKind, InputStands, SortedStands, FileStands, StandFrom, GroupStands, EachStands}

@@ -1,6 +1,6 @@
 //! The work of writing an image, divided into batches of groups.
 ghost use Rattle.std.specs.Prelude.{◌≡◌, ◌<◌, ◌^◌, length, Ok, []};
-ghost use Rattle.wild_clauses.specs.WellFormed.{first_clause};
+ghost use Rattle.wild_plan_rules.specs.WellFormed.{first_clause};
 ghost use Rattle.wild_layout.specs.Faults.{flat_map_from, part_errors};
 ghost use Rattle.wild_image.specs.Batches.{AreBatches};
 ghost use Rattle.wild_image.specs.Known.{IsKnown};

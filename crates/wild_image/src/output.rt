@@ -1,8 +1,8 @@
 //! Writes the image of a layout.
 ghost use Rattle.std.specs.Prelude.{◌≡◌, ◌<◌, ◌≤◌, ◌^◌, ℕ, [], length, Ok, Some, slice_get, replicate, OnOk, IfOk};
 ghost use Rattle.wild_types.specs.Faults.{Answers};
-ghost use Rattle.wild_clauses.specs.Places.{relocation_count};
-ghost use Rattle.wild_clauses.specs.WellFormed.{first_clause};
+ghost use Rattle.wild_plan_rules.specs.Places.{relocation_count};
+ghost use Rattle.wild_plan_rules.specs.WellFormed.{first_clause};
 ghost use Rattle.wild_clauses.specs.Seen.{IsSeen};
 ghost use Rattle.wild_sections.specs.Owners.{asks_owners};
 ghost use Rattle.wild_layout.specs.Image.{padding, bytes, counts};

@@ -15,8 +15,8 @@ use Rattle.wild_frames.specs.Walks.{Lies, MovesBack, AreOwn, IsNext, FieldLies}
 use Rattle.wild_frames.specs.Passes.{brief, IsOn, IsPassed}
 use Rattle.wild_laid.specs.Laid.{entry_relocations, moved_by, kept_relocations, laid_relocations}
 use Rattle.wild_laid.specs.Stood.{StaysLow, StayLow, found_moved, found_laid, found_kept}
-use Rattle.wild_walk.specs.Runs.{Ran, Left}
-use Rattle.wild_walk.proofs.RunLemmas.{left_done, left_next, left_out}
+use Rattle.wild_words.specs.Runs.{Ran, Left}
+use Rattle.wild_words.proofs.RunLemmas.{left_done, left_next, left_out}
 
 -- ---- a list made of what a walk finds
 

@@ -7,7 +7,7 @@ ghost use Rattle.wild_laid.specs.Turned.{turned_offset, as_turned};
 ghost use Rattle.wild_laid.specs.FrameInputs.{frames_of};
 ghost use Rattle.wild_laid.specs.Laid.{moved_by, laid_relocations, laid_section, unread, target_relocations};
 ghost use Rattle.wild_laid.specs.Stood.{StaysLow, StayLow, found_moved, found_laid, placed_at};
-ghost use Rattle.wild_walk.specs.Runs.{Ran};
+ghost use Rattle.wild_words.specs.Runs.{Ran};
 
 use crate::frames::FileFrames;
 use crate::kept::moved_by;
@@ -15,11 +15,11 @@ use crate::tables::{placed_at, target_of};
 use crate::words::turned_offset;
 use wild_frames::{Found, FrameSource, KeptEntry, Pass, goes_on};
 use wild_types::{File, InputRelocation, InputSection, Layout, Slot};
-use wild_walk::Sink;
+use wild_words::Sink;
 
 /// Passes relocations unchanged.
 #[inline(always)]
-#[tactic(auto, using(wild_walk::proofs::RunLemmas::item_loops))]
+#[tactic(auto, using(wild_words::proofs::RunLemmas::item_loops))]
 fn give_all<S: Sink<InputRelocation>>(
     relocations: &[InputRelocation],
     sink: &mut S,
@@ -34,7 +34,7 @@ fn give_all<S: Sink<InputRelocation>>(
 
 /// Passes relocations of a section of `size` bytes at the new offsets of their reversed words.
 #[inline(always)]
-#[tactic(auto, using(wild_walk::proofs::RunLemmas::mapped_loops))]
+#[tactic(auto, using(wild_words::proofs::RunLemmas::mapped_loops))]
 fn give_reversed<S: Sink<InputRelocation>>(
     size: u64,
     relocations: &[InputRelocation],
@@ -67,7 +67,7 @@ fn give_words<S: Sink<InputRelocation>>(
 
 /// Passes the relocations of a loaded or sorted section as placed: none in a relocatable object.
 #[inline(always)]
-#[tactic(auto, using(wild_walk::proofs::RunLemmas::runs, crate::proofs::TableLemmas::none_read))]
+#[tactic(auto, using(wild_words::proofs::RunLemmas::runs, crate::proofs::TableLemmas::none_read))]
 pub fn give_turned<S: Sink<InputRelocation>>(
     layout: &Layout,
     section: &InputSection,
@@ -84,7 +84,7 @@ pub fn give_turned<S: Sink<InputRelocation>>(
 
 /// Passes the relocations of the target of a table, with the offsets that the table has.
 #[inline(always)]
-#[tactic(auto, using(wild_walk::proofs::RunLemmas::mapped_loops))]
+#[tactic(auto, using(wild_words::proofs::RunLemmas::mapped_loops))]
 fn give_placed<S: Sink<InputRelocation>>(
     target: &InputSection,
     relocations: &[InputRelocation],
@@ -115,7 +115,7 @@ fn give_table<S: Sink<InputRelocation>>(
 
 /// Passes the relocations of a kept entry, at the entry's new offset.
 #[inline(always)]
-#[tactic(auto, using(wild_walk::proofs::RunLemmas::mapped_loops))]
+#[tactic(auto, using(wild_words::proofs::RunLemmas::mapped_loops))]
 fn give_moved<S: Sink<InputRelocation>>(
     entry: &KeptEntry,
     relocations: &[InputRelocation],
@@ -132,7 +132,7 @@ fn give_moved<S: Sink<InputRelocation>>(
 
 /// Passes the relocations of what a walk found.
 #[inline(always)]
-#[tactic(auto, using(wild_walk::proofs::RunLemmas::runs))]
+#[tactic(auto, using(wild_words::proofs::RunLemmas::runs))]
 fn give_found<S: Sink<InputRelocation>>(
     found: &Found,
     relocations: &[InputRelocation],

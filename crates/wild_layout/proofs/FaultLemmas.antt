@@ -20,7 +20,7 @@ use Rattle.wild_types.specs.Hollow.{is_hollow_role, KeepsAll}
 use Rattle.wild_types.specs.Lookups.{is_hollow_part}
 use Rattle.wild_types.proofs.LookupLemmas.{not_hollow_role, not_hollow_part}
 use Rattle.wild_slot.specs.SymbolWords.{slots_of}
-use Rattle.wild_clauses.specs.WellFormed.{first_clause}
+use Rattle.wild_plan_rules.specs.WellFormed.{first_clause}
 use Rattle.wild_laid.specs.Laid.{file_frames, frames_at, behind, of_last_file}
 use Rattle.wild_layout.specs.SymbolValues.{raw_address}
 use Rattle.wild_layout.specs.SlotValues.{index_of}

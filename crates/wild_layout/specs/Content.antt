@@ -20,17 +20,17 @@ use Rattle.wild_needs.specs.Needs.{has_last}
 use Rattle.wild_types.specs.Kinds.{needs_dynsym}
 use Rattle.wild_needs.specs.TableSymbols.{has_long, table_strings}
 use Rattle.wild_hashes.specs.Tables.{sysv_hash_of, gnu_hash_of, gnu_header, gnu_table, sysv_table}
-use Rattle.wild_versions.specs.Symbols.{version_bytes}
-use Rattle.wild_versions.specs.Names.{symbol_versions, file_definitions, group_needs}
-use Rattle.wild_symbols.specs.Strings.{string_bytes}
-use Rattle.wild_symbols.specs.TableEntries.{file_table, table_entries, long_indexes, index_bytes}
-use Rattle.wild_symbols.specs.Symbols.{symbol_bytes}
-use Rattle.wild_symbols.specs.DynamicEntries.{group_symbols}
+use Rattle.wild_table_formats.specs.SymbolVersions.{version_bytes}
+use Rattle.wild_table_formats.specs.VersionNames.{symbol_versions, file_definitions, group_needs}
+use Rattle.wild_table_formats.specs.Strings.{string_bytes}
+use Rattle.wild_table_formats.specs.TableEntries.{file_table, table_entries, long_indexes, index_bytes}
+use Rattle.wild_table_formats.specs.Symbols.{symbol_bytes}
+use Rattle.wild_table_formats.specs.DynamicEntries.{group_symbols}
 use Rattle.wild_types.specs.FileRoles.{is_prelude, is_epilogue}
 use Rattle.wild_types.specs.Shares.{share_of}
 use Rattle.wild_relr.specs.Written.{word_bytes}
-use Rattle.wild_tables.specs.Entries.{rela_bytes}
-use Rattle.wild_tables.specs.Dynamic.{entries_bytes, dynamic_bytes}
+use Rattle.wild_table_formats.specs.RelativeEntries.{rela_bytes}
+use Rattle.wild_table_formats.specs.DynamicSection.{entries_bytes, dynamic_bytes}
 use Rattle.wild_layout.specs.Moved.{file_entries, file_words}
 use Rattle.wild_layout.specs.Left.{file_generals}
 use Rattle.wild_types.specs.declared.input.InputSection.{InputSection}
@@ -42,7 +42,7 @@ use Rattle.wild_layout.specs.Sites.{item_bytes}
 use Rattle.wild_layout.specs.Notes.{build_id_note, property_note}
 use Rattle.wild_layout.specs.SearchTable.{search_table}
 use Rattle.wild_layout.specs.SlotBytes.{slot_bytes, header_bytes, block_bytes}
-use Rattle.wild_headers.specs.Headers.{file_header_bytes, program_header_bytes, section_header_bytes, names_of}
+use Rattle.wild_table_formats.specs.Headers.{file_header_bytes, program_header_bytes, section_header_bytes, names_of}
 
 -- a table that the image has once, by role; empty for the other roles
 abbrev pub whole_bytes : Layout → Role → List ℕ

@@ -22,7 +22,7 @@ use Rattle.wild_types.specs.Kinds.{is_partial_link, needs_dynamic, is_fixed_stat
 use Rattle.wild_types.specs.Lookups.{allocated, image_size, is_loaded, is_filled, is_hollow, is_hollow_at}
 use Rattle.wild_types.specs.Lists.{total}
 use Rattle.wild_types.specs.Parts.{is_loaded_role, part_with, is_table_role, is_look_up_role, has_hashes, is_entry_role, entry_parts, bytes_in}
-use Rattle.wild_clauses.specs.Segments.{size_in_file}
+use Rattle.wild_plan_rules.specs.Segments.{size_in_file}
 use Rattle.wild_layout.specs.Image.{offset_in}
 
 -- the segment loads the byte at that file offset to that address

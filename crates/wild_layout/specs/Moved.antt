@@ -11,7 +11,7 @@ use Rattle.wild_types.specs.declared.input.InputSection.{InputSection}
 use Rattle.wild_types.specs.declared.file.File.{File}
 use Rattle.wild_types.specs.declared.layout.Layout.{Layout}
 use Rattle.wild_needs.specs.Entries.{moved_of, listed_place, words_of}
-use Rattle.wild_tables.specs.Tables.{relative_entry}
+use Rattle.wild_table_formats.specs.GroupTables.{relative_entry}
 use Rattle.wild_layout.specs.SymbolValues.{sum}
 use Rattle.wild_layout.specs.Merged.{address_for}
 use Rattle.wild_laid.specs.Laid.{processed}

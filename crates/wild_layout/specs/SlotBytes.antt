@@ -27,7 +27,7 @@ use Rattle.wild_slot.specs.SymbolWords.{slots_of}
 use Rattle.wild_needs.specs.SlotShares.{words_in, storage_words, header_words, block_words}
 use Rattle.wild_slot.specs.MachineStub.{stub_in}
 use Rattle.wild_relr.specs.Written.{word_bytes}
-use Rattle.wild_tables.specs.Entries.{rela_bytes}
+use Rattle.wild_table_formats.specs.RelativeEntries.{rela_bytes}
 
 -- ---- by symbol
 

@@ -15,7 +15,7 @@ use Rattle.wild_types.specs.Lists.{total}
 use Rattle.wild_types.specs.Parts.{part_with}
 use Rattle.wild_needs.specs.DynamicStrings.{needed_entries}
 use Rattle.wild_records.specs.declared.dynamic.DynamicEntry.{DynamicEntry}
-use Rattle.wild_headers.specs.Headers.{offset_of_role, file_header_bytes, program_header_bytes, section_header_bytes}
+use Rattle.wild_table_formats.specs.Headers.{offset_of_role, file_header_bytes, program_header_bytes, section_header_bytes}
 use Rattle.wild_layout.specs.Content.{content}
 use Rattle.wild_layout.specs.Image.{pieces, bytes}
 

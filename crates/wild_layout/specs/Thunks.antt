@@ -16,7 +16,7 @@ use Rattle.wild_types.specs.declared.layout.Thunk.{Thunk}
 use Rattle.wild_types.specs.declared.layout.Layout.{Layout}
 use Rattle.wild_types.specs.FileThunks.{block_of, thunks_of}
 use Rattle.wild_types.specs.Lookups.{canonical}
-use Rattle.wild_clauses.specs.Thunks.{ascends}
+use Rattle.wild_plan_rules.specs.Thunks.{ascends}
 use Rattle.wild_relax.specs.ThunkAArch64.{thunk_aarch64}
 use Rattle.wild_layout.specs.SymbolValues.{raw_address}
 use Rattle.wild_layout.specs.SlotValues.{resolution_of, stub_of}

@@ -18,13 +18,13 @@ use Rattle.wild_types.specs.Hollow.{KeepsAll}
 use Rattle.wild_types.specs.Parts.{is_loaded_role}
 use Rattle.wild_types.proofs.LookupLemmas.{not_hollow_role}
 use Rattle.wild_needs.specs.SlotShares.{word_size}
-use Rattle.wild_clauses.specs.SlotPlaces.{start_of}
+use Rattle.wild_plan_rules.specs.SlotPlaces.{start_of}
 use Rattle.wild_layout.specs.Numbers.{NumbersFit}
 use Rattle.wild_layout.specs.Faults.{flat_map_from, group_errors}
 use Rattle.wild_layout.specs.SectionPlaces.{SectionLies}
 use Rattle.wild_layout.specs.Geometry.{IsLaidOut}
 use Rattle.wild_relr.specs.Packed.{FlatIsARun}
-use Rattle.wild_tables.specs.Laws.{PlacesAreLoaded}
+use Rattle.wild_table_formats.specs.EntryLaws.{PlacesAreLoaded}
 use Rattle.wild_loader.specs.Places.{places}
 use Rattle.wild_loader.specs.declared.memory.Memory.{Memory}
 use Rattle.wild_loader.specs.declared.world.World.{World}

@@ -13,7 +13,7 @@ use Rattle.wild_types.specs.declared.layout.Layout.{Layout}
 use Rattle.wild_types.specs.Item.{Item}
 use Rattle.wild_types.specs.Lookups.{image_size, is_hollow}
 use Rattle.wild_types.specs.Parts.{part_with}
-use Rattle.wild_headers.specs.Headers.{file_header, program_header, null_header, section_header, info_at, told_of, headers_from, section_headers_of}
+use Rattle.wild_table_formats.specs.Headers.{file_header, program_header, null_header, section_header, info_at, told_of, headers_from, section_headers_of}
 use Rattle.wild_layout.specs.Image.{bytes}
 use Rattle.wild_layout.specs.Loadable.{SegmentLoads}
 use Rattle.wild_layout.specs.Numbers.{NumbersFit}

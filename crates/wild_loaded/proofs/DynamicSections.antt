@@ -23,7 +23,7 @@ use Rattle.wild_types.specs.Hollow.{KeepsAll}
 use Rattle.wild_types.specs.Kinds.{needs_dynamic}
 use Rattle.wild_types.proofs.LookupLemmas.{not_hollow_at}
 use Rattle.wild_types.specs.Lookups.{image_size}
-use Rattle.wild_headers.specs.Headers.{program_header}
+use Rattle.wild_table_formats.specs.Headers.{program_header}
 use Rattle.wild_layout.specs.Image.{bytes}
 use Rattle.wild_layout.specs.Numbers.{NumbersFit}
 use Rattle.wild_layout.specs.Loadable.{SegmentLoads, first_dynamic}
@@ -33,7 +33,7 @@ use Rattle.wild_layout.specs.Content.{dynamic_room}
 use Rattle.wild_loader.specs.Tables.{first_dynamic as found_dynamic, tagged}
 use Rattle.wild_loader.specs.SegmentLaws.{word_bytes, rela_bytes}
 use Rattle.wild_loader.specs.Laws.{HasDynamic, HasTables, IsTableOf, before_null}
-use Rattle.wild_tables.specs.Dynamic.{dynamic_records, dynamic_bytes, entries_bytes, IsNeeded, NeededAreOfLibraries, LengthsOfRecords, RecordsStand, RecordsFit, EntriesAreFound, TablesAreNamed}
+use Rattle.wild_table_formats.specs.DynamicSection.{dynamic_records, dynamic_bytes, entries_bytes, IsNeeded, NeededAreOfLibraries, LengthsOfRecords, RecordsStand, RecordsFit, EntriesAreFound, TablesAreNamed}
 use Rattle.wild_relr.specs.Laws.{WordsFit}
 use Rattle.wild_loader.proofs.TableLemmas.{no_tag}
 use Rattle.wild_slots.specs.Stand.{PairStands}

@@ -38,7 +38,7 @@ use Rattle.wild_loader.specs.SegmentLaws.{rela_bytes, AreLoadable}
 use Rattle.wild_loader.specs.Tables.{first_dynamic as found_dynamic, tagged, section_of, named_tables}
 use Rattle.wild_loader.proofs.RecordLists.{length-rela}
 use Rattle.wild_loader.proofs.TableLemmas.{section-found, named-found}
-use Rattle.wild_tables.specs.Dynamic.{null_entry, dynamic_records, NeededAreOfLibraries, EntriesAreFound}
+use Rattle.wild_table_formats.specs.DynamicSection.{null_entry, dynamic_records, NeededAreOfLibraries, EntriesAreFound}
 use Rattle.wild_reloc.specs.declared.dynamic.DynamicRelocationKind.TheVariants.{Relative}
 use Rattle.wild_geometry.proofs.MachineLemmas.{facts_of}
 use Rattle.wild_meaning.specs.Section.{IsSet}

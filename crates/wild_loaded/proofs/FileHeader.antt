@@ -19,7 +19,7 @@ use Rattle.wild_needs.specs.EntryPoint.{entry_point, told, entry_by, entry_value
 use Rattle.wild_types.specs.Flags.{has_flag, ifunc}
 use Rattle.wild_types.specs.Lookups.{canonical}
 use Rattle.wild_slot.specs.Treatment.{flags_at}
-use Rattle.wild_headers.specs.Headers.{entry_address, file_type, file_header, with_execute, program_header, section_headers_of}
+use Rattle.wild_table_formats.specs.Headers.{entry_address, file_type, file_header, with_execute, program_header, section_headers_of}
 use Rattle.wild_layout.specs.Image.{bytes}
 use Rattle.wild_layout.specs.Loadable.{IsPaged}
 use Rattle.wild_loader.specs.SegmentLaws.{HasHeaders}

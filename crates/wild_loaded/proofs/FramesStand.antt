@@ -27,7 +27,7 @@ use Rattle.wild_frames.specs.Frames.{frame_bytes}
 use Rattle.wild_laid.specs.Turned.{turned, as_turned}
 use Rattle.wild_laid.specs.FrameInputs.{frames_of, kept_size}
 use Rattle.wild_laid.specs.Laid.{Input, framed, laid_by, laid_section, laid_sections, laid_file, laid_from, laid_files, file_frames, frames_at, behind, part_address, sorted_inputs, sorted_sections, of_last_file, processed, sorted_by, sorted_in_file, sorted_in_group, files_at, sorted_input, as_loaded}
-use Rattle.wild_clauses.specs.SlotPlaces.{start_of, address_of_part}
+use Rattle.wild_plan_rules.specs.SlotPlaces.{start_of, address_of_part}
 use Rattle.wild_layout.specs.Content.{content, file_content, frame_bytes_of, frames_bytes, end_of_frames}
 use Rattle.wild_layout.specs.Sites.{item_bytes}
 use Rattle.wild_layout.specs.SectionPlaces.{SectionLies}

@@ -16,7 +16,7 @@ use Rattle.wild_slot.specs.Slots.{setting_of}
 use Rattle.wild_slot.specs.Storage.{less}
 use Rattle.wild_slot.specs.SlotParts.{next, slot_words}
 use Rattle.wild_needs.specs.SlotShares.{word_size, storage_at, storage_words}
-use Rattle.wild_clauses.specs.SlotPlaces.{start_of, first_free}
+use Rattle.wild_plan_rules.specs.SlotPlaces.{start_of, first_free}
 use Rattle.wild_layout.specs.Geometry.{IsLaidOut}
 use Rattle.wild_loader.specs.declared.world.World.{World}
 use Rattle.wild_words.specs.Words.{word}

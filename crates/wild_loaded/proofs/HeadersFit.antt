@@ -19,13 +19,13 @@ use Rattle.wild_types.specs.declared.layout.Layout.{Layout}
 use Rattle.wild_types.specs.Lists.{total}
 use Rattle.wild_types.specs.Lookups.{bit, is_hollow}
 use Rattle.wild_needs.specs.Versions.{need_count}
-use Rattle.wild_headers.specs.Headers.{or_escape, or_none, name_table, section_of_role, file_header, with_execute, program_header, null_header, uncompressed, told_of, local_symbols, info_at, section_header, headers_from, section_headers_of}
+use Rattle.wild_table_formats.specs.Headers.{or_escape, or_none, name_table, section_of_role, file_header, with_execute, program_header, null_header, uncompressed, told_of, local_symbols, info_at, section_header, headers_from, section_headers_of}
 use Rattle.wild_layout.specs.Numbers.{NumbersFit, SegmentNumbers, SectionNumbers}
 use Rattle.wild_meaning.specs.World.{IsLoadable}
 use Rattle.wild_loaded.proofs.FileType.{type_known, type_fits}
 use Rattle.wild_loader.specs.Headers.{is_loadable_header}
 use Rattle.wild_loader.specs.SegmentLaws.{told_sections, first_size}
-use Rattle.wild_headers.proofs.LengthLemmas.{length-section_headers_of, role_below}
+use Rattle.wild_table_formats.proofs.HeaderLengths.{length-section_headers_of, role_below}
 use Rattle.wild_geometry.proofs.MachineLemmas.{facts_of}
 
 -- ---- bits

@@ -20,7 +20,7 @@ use Rattle.wild_types.specs.declared.part.Role.TheVariants as role
 use Rattle.wild_types.specs.declared.section.Segment.{Segment}
 use Rattle.wild_types.specs.declared.layout.Layout.{Layout}
 use Rattle.wild_types.specs.Lookups.{image_size}
-use Rattle.wild_headers.specs.Headers.{file_header, program_header, section_headers_of, name_table, offset_of_role, file_header_bytes, program_header_bytes, section_header_bytes}
+use Rattle.wild_table_formats.specs.Headers.{file_header, program_header, section_headers_of, name_table, offset_of_role, file_header_bytes, program_header_bytes, section_header_bytes}
 use Rattle.wild_layout.specs.Image.{bytes, pieces, padding}
 use Rattle.wild_layout.specs.Numbers.{NumbersFit}
 use Rattle.wild_layout.specs.Loadable.{SegmentLoads, IsStatic as StaticSegment, Ascends}
@@ -30,7 +30,7 @@ use Rattle.wild_meaning.specs.World.{IsLoadable as IsLoadableKind, IsLegal}
 use Rattle.wild_loader.specs.declared.world.World.{World}
 use Rattle.wild_loader.specs.SegmentLaws.{HasHeaders, IsLoadable, AreLoadable, Ascends as HeadersAscend}
 use Rattle.wild_loader.specs.Laws.{IsStatic}
-use Rattle.wild_headers.proofs.LengthLemmas.{length-section_headers_of}
+use Rattle.wild_table_formats.proofs.HeaderLengths.{length-section_headers_of}
 use Rattle.wild_layout.proofs.LayoutLemmas.{length-padding}
 use Rattle.wild_loaded.specs.Owners.{HasOneOwnerEach}
 use Rattle.wild_loaded.specs.Memory.{image_memory}

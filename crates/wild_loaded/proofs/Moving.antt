@@ -13,7 +13,7 @@ use Rattle.wild_types.specs.FileSymbols.{copies_of}
 use Rattle.wild_types.specs.FileRoles.{is_library}
 use Rattle.wild_types.specs.Hollow.{KeepsAll}
 use Rattle.wild_types.specs.Kinds.{needs_dynamic}
-use Rattle.wild_headers.specs.Headers.{file_header, section_headers_of}
+use Rattle.wild_table_formats.specs.Headers.{file_header, section_headers_of}
 use Rattle.wild_layout.specs.Image.{bytes}
 use Rattle.wild_layout.specs.Left.{copy_entry}
 use Rattle.wild_layout.proofs.SiteLemmas.{Contains-flat_map}

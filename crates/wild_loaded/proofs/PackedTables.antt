@@ -38,7 +38,7 @@ use Rattle.wild_loader.specs.declared.memory.Run.{Run}
 use Rattle.wild_loader.specs.SegmentLaws.{IsApart}
 use Rattle.wild_loader.specs.EntryLaws.{OrderIsFree}
 use Rattle.wild_loader.proofs.Overlaid.{elsewhere}
-use Rattle.wild_tables.specs.Laws.{PlacesAreLoaded}
+use Rattle.wild_table_formats.specs.EntryLaws.{PlacesAreLoaded}
 use Rattle.wild_slots.specs.Blocks.{IsWhole}
 use Rattle.wild_loaded.specs.Tables.{file_packed, group_words, tables_of}
 use Rattle.wild_loaded.proofs.SlotSites.{of_site, file_sites, flat_by_sites, block_by_sites, all_by_sites, groups_by_sites, all_sites}

@@ -5,7 +5,7 @@ use Rattle.wild_types.specs.declared.part.Part.{Part}
 use Rattle.wild_types.specs.declared.part.Role.TheVariants as role
 use Rattle.wild_types.specs.declared.layout.Layout.{Layout}
 use Rattle.wild_types.specs.Parts.{part_with}
-use Rattle.wild_clauses.specs.SlotPlaces.{address_of_part, start_of}
+use Rattle.wild_plan_rules.specs.SlotPlaces.{address_of_part, start_of}
 use Rattle.wild_layout.specs.Geometry.{IsLaidOut}
 use Rattle.wild_slots.specs.Order.{end_of}
 use Rattle.wild_slots.specs.Stand.{PairStands}

@@ -15,8 +15,8 @@ use Rattle.wild_types.specs.declared.layout.Layout.{Layout}
 use Rattle.wild_types.specs.Hollow.{is_hollow_role}
 use Rattle.wild_types.specs.Lookups.{image_size, section_of_part, is_hollow_at}
 use Rattle.wild_types.specs.Parts.{role_place, is_loaded_role, part_with}
-use Rattle.wild_clauses.specs.SlotPlaces.{address_of_part, start_of}
-use Rattle.wild_headers.specs.Headers.{file_header, program_header}
+use Rattle.wild_plan_rules.specs.SlotPlaces.{address_of_part, start_of}
+use Rattle.wild_table_formats.specs.Headers.{file_header, program_header}
 use Rattle.wild_layout.specs.Image.{bytes, offset_in}
 use Rattle.wild_layout.specs.Loadable.{SegmentLoads, CarriesByte, IsCarried, IsPartCarried, IsPartMapped}
 use Rattle.wild_layout.specs.TablePlaces.{table_bytes}

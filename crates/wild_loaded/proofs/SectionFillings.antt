@@ -37,7 +37,7 @@ use Rattle.wild_layout.specs.Sites.{Written, written_by}
 use Rattle.wild_slot.proofs.TreatmentLemmas.{known_moved}
 use Rattle.wild_layout.proofs.DecideLemmas.{HasField, IsMoved, sized_left, decided_moved, decided_left, moved_has}
 use Rattle.wild_layout.proofs.DecisionLemmas.{decide_base_relative, decide_symbolic, decide_indirect, decide_extent}
-use Rattle.wild_tables.specs.Tables.{relative_entry}
+use Rattle.wild_table_formats.specs.GroupTables.{relative_entry}
 use Rattle.wild_loaded.proofs.Fillings.{Filling, packed_at, relative_of, general_of, packed_in, relative_in, general_in, jump_in}
 
 -- ---- fillings

@@ -26,16 +26,16 @@ use Rattle.wild_types.specs.Lookups.{allocated, is_hollow, is_hollow_at, has_dat
 use Rattle.wild_types.specs.Parts.{role_place, has_role, part_with, is_entry_role, bytes_in}
 use Rattle.wild_types.specs.Kinds.{is_fixed_static}
 use Rattle.wild_types.proofs.PartLemmas.{not_raw}
-use Rattle.wild_headers.specs.Headers.{null_header, info_at, section_header, headers_from, section_headers_of, told_of}
+use Rattle.wild_table_formats.specs.Headers.{null_header, info_at, section_header, headers_from, section_headers_of, told_of}
 use Rattle.wild_layout.specs.Image.{bytes}
 use Rattle.wild_layout.specs.SectionPlaces.{RangesApart}
 use Rattle.wild_layout.specs.TablePlaces.{table_bytes}
 use Rattle.wild_layout.specs.Geometry.{IsLaidOut, TablesStand}
-use Rattle.wild_tables.specs.Laws.{EntriesAreRead, LengthsOfEntries}
+use Rattle.wild_table_formats.specs.EntryLaws.{EntriesAreRead, LengthsOfEntries}
 use Rattle.wild_loader.specs.Tables.{has_entries, relas_at}
 use Rattle.wild_loader.specs.SegmentLaws.{rela_bytes}
 use Rattle.wild_loader.specs.Laws.{HoldsEntries, HasSectionTables, section_relas}
-use Rattle.wild_headers.proofs.LengthLemmas.{length-section_headers_of}
+use Rattle.wild_table_formats.proofs.HeaderLengths.{length-section_headers_of}
 use Rattle.wild_meaning.proofs.BitLemmas.{alloc_bit, bit_alloc}
 use Rattle.wild_loaded.proofs.HeadersFit.{uncompressed-alloc}
 use Rattle.wild_loaded.proofs.TableBytes.{stands_joined}

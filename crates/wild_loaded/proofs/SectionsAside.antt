@@ -14,7 +14,7 @@ use Rattle.wild_types.specs.declared.layout.Layout.{Layout}
 use Rattle.wild_types.specs.Hollow.{KeepsAll}
 use Rattle.wild_types.specs.Lookups.{is_filled, is_frame}
 use Rattle.wild_types.specs.Parts.{part_with, is_loaded_role}
-use Rattle.wild_clauses.specs.SlotPlaces.{start_of, address_of_part}
+use Rattle.wild_plan_rules.specs.SlotPlaces.{start_of, address_of_part}
 use Rattle.wild_slots.specs.Order.{end_of}
 use Rattle.wild_layout.specs.Image.{offset_in}
 use Rattle.wild_layout.specs.SectionPlaces.{SectionLies}

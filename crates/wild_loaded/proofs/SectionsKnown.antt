@@ -25,7 +25,7 @@ use Rattle.wild_layout.specs.Left.{entry_for}
 use Rattle.wild_layout.specs.Moved.{moved_value}
 use Rattle.wild_layout.proofs.DecideLemmas.{IsMoved}
 use Rattle.wild_meaning.specs.World.{IsLegal, IsLoadable}
-use Rattle.wild_tables.specs.Tables.{relative_entry}
+use Rattle.wild_table_formats.specs.GroupTables.{relative_entry}
 use Rattle.wild_geometry.proofs.MachineLemmas.{facts_of}
 use Rattle.wild_meaning.specs.Linked.{processor_of}
 use Rattle.wild_loaded.proofs.Loads.{image_machine}

@@ -35,7 +35,7 @@ use Rattle.wild_layout.specs.SectionPlaces.{FieldLies}
 use Rattle.wild_layout.proofs.DecideLemmas.{HasField, IsMoved, moved_has, decided_moved, decided_left, field_has_bytes}
 use Rattle.wild_layout.proofs.DecisionLemmas.{decide_moved, decide_left, IsOfRow}
 use Rattle.wild_layout.proofs.SiteLemmas.{Contains-flat_map, site_written, site_rewritten, field_lies}
-use Rattle.wild_tables.specs.Tables.{relative_entry}
+use Rattle.wild_table_formats.specs.GroupTables.{relative_entry}
 use Rattle.wild_loader.specs.declared.change.Change.{Change}
 use Rattle.wild_loader.specs.declared.change.Change.TheVariants as changes
 use Rattle.wild_loader.specs.declared.memory.Memory.{Memory}

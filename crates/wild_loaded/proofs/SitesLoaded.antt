@@ -11,7 +11,7 @@ use Rattle.wild_slot.specs.declared.slot.SlotWord.{SlotWord}
 use Rattle.wild_slot.specs.declared.slot.SlotWord.TheVariants.{Number, Address, InBlock, General, Plt}
 use Rattle.wild_types.specs.declared.layout.Layout.{Layout}
 use Rattle.wild_slot.specs.SlotParts.{is_packed, entry_at, address_entry}
-use Rattle.wild_clauses.specs.SlotPlaces.{start_of}
+use Rattle.wild_plan_rules.specs.SlotPlaces.{start_of}
 use Rattle.wild_layout.proofs.SiteLemmas.{Contains-flat_map}
 use Rattle.wild_loader.specs.declared.change.Change.{Change}
 use Rattle.wild_loader.specs.declared.change.Change.TheVariants as changes

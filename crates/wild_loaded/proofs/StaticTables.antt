@@ -32,15 +32,15 @@ use Rattle.wild_types.specs.Kinds.{is_position_independent}
 use Rattle.wild_types.proofs.LookupLemmas.{plain_still}
 use Rattle.wild_needs.specs.SlotShares.{group_block, block_of, words_of_block, block_words}
 use Rattle.wild_needs.proofs.ShareLemmas.{no_moved}
-use Rattle.wild_headers.proofs.HeaderLemmas.{length-section_header}
-use Rattle.wild_headers.specs.Headers.{file_header, null_header, headers_from, told_of, program_header, section_headers_of, offset_of_role, file_header_bytes, section_header_bytes}
+use Rattle.wild_table_formats.proofs.HeaderLemmas.{length-section_header}
+use Rattle.wild_table_formats.specs.Headers.{file_header, null_header, headers_from, told_of, program_header, section_headers_of, offset_of_role, file_header_bytes, section_header_bytes}
 use Rattle.wild_layout.specs.Image.{pieces}
 use Rattle.wild_layout.specs.Moved.{listed_entry, section_entries}
 use Rattle.wild_layout.specs.SlotBytes.{slot_entries_of, flat_places_of}
 use Rattle.wild_layout.specs.Geometry.{IsLaidOut, TablesStand}
 use Rattle.wild_loader.specs.SegmentLaws.{rela_bytes}
 use Rattle.wild_loader.specs.Laws.{IsStatic, section_relas}
-use Rattle.wild_tables.specs.Laws.{LengthsOfEntries, EntriesAreRead}
+use Rattle.wild_table_formats.specs.EntryLaws.{LengthsOfEntries, EntriesAreRead}
 use Rattle.wild_slots.specs.Entries.{MovesNothing, FixedOutputsMoveNothing}
 use Rattle.wild_slots.specs.Stand.{PairStands}
 use Rattle.wild_loaded.specs.Tables.{file_packed, group_words, relatives, tables_of, words_of_last}

@@ -14,7 +14,7 @@ use Rattle.wild_types.specs.declared.layout.Layout.{Layout}
 use Rattle.wild_reloc.specs.Field.{size_width}
 use Rattle.wild_reloc.specs.declared.info.RelocationSize.TheVariants.{ByteSize}
 use Rattle.wild_reloc.specs.declared.info.Width.TheVariants.{Eight}
-use Rattle.wild_headers.specs.Headers.{file_header, program_header}
+use Rattle.wild_table_formats.specs.Headers.{file_header, program_header}
 use Rattle.wild_layout.specs.declared.decision.Decision.{Decision}
 use Rattle.wild_layout.specs.declared.decision.Decision.TheVariants.{Field, Moved, Left}
 use Rattle.wild_layout.specs.Sites.{Written, written_by, field_site, template_site, site, sites}

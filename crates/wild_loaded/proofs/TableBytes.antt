@@ -25,7 +25,7 @@ use Rattle.wild_types.specs.Lookups.{image_size}
 use Rattle.wild_types.specs.Hollow.{KeepsAll}
 use Rattle.wild_types.specs.Parts.{role_place, part_with, is_table_role}
 use Rattle.wild_types.proofs.LookupLemmas.{not_hollow_at}
-use Rattle.wild_headers.specs.Headers.{program_header}
+use Rattle.wild_table_formats.specs.Headers.{program_header}
 use Rattle.wild_slot.specs.declared.slot_parts.EntryPart.TheVariants as entries
 use Rattle.wild_needs.specs.SlotShares.{block_words}
 use Rattle.wild_records.specs.declared.relocations.Rela.{Rela}

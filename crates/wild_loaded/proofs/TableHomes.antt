@@ -13,7 +13,7 @@ use Rattle.wild_types.specs.Hollow.{is_hollow_role, KeepsAll}
 use Rattle.wild_types.specs.Lookups.{has_data, is_hollow_at, takes_file_bytes, is_filled}
 use Rattle.wild_types.proofs.LookupLemmas.{not_hollow_at}
 use Rattle.wild_types.specs.Parts.{role_place, has_role, is_loaded_role, part_with}
-use Rattle.wild_clauses.specs.SlotPlaces.{address_of_part, start_of}
+use Rattle.wild_plan_rules.specs.SlotPlaces.{address_of_part, start_of}
 use Rattle.wild_layout.specs.Image.{offset_in}
 use Rattle.wild_layout.specs.SectionPlaces.{SectionLies, HasRoom, RangesApart}
 use Rattle.wild_layout.specs.Geometry.{IsLaidOut}

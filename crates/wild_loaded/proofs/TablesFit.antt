@@ -48,7 +48,7 @@ use Rattle.wild_layout.specs.SlotBytes.{slot_entries_of, flat_places_of, storage
 use Rattle.wild_layout.specs.SymbolValues.{address_or, raw_address}
 use Rattle.wild_layout.specs.SlotValues.{decided_address}
 use Rattle.wild_types.specs.Addresses.{address_in_section, address_in_file, address_at, placed_value, resolved_or, raw_value}
-use Rattle.wild_tables.specs.Tables.{relative_entry}
+use Rattle.wild_table_formats.specs.GroupTables.{relative_entry}
 use Rattle.wild_loaded.specs.Tables.{file_packed, group_words, relatives, first_generals, generals, tables_of, words_of_last}
 use Rattle.wild_loaded.proofs.SlotNumbers.{WordFits}
 use Rattle.wild_loaded.proofs.SlotSites.{SlotSite, of_site, file_sites, group_sites, entries_by_sites, flat_by_sites, block_by_sites}

@@ -35,7 +35,7 @@ use Rattle.wild_types.specs.Parts.{is_loaded_role, part_with}
 use Rattle.wild_needs.specs.SlotShares.{word_size, storage_words}
 use Rattle.wild_slot.specs.SymbolWords.{slots_of}
 use Rattle.wild_types.specs.SymbolSlots.{got_of, plt_of}
-use Rattle.wild_headers.specs.Headers.{file_header, section_headers_of}
+use Rattle.wild_table_formats.specs.Headers.{file_header, section_headers_of}
 use Rattle.wild_layout.specs.Image.{bytes}
 use Rattle.wild_layout.specs.Numbers.{NumbersFit}
 use Rattle.wild_layout.specs.Faults.{flat_map_from, group_errors}
@@ -54,7 +54,7 @@ use Rattle.wild_loader.specs.Headers.{is_loadable_header}
 use Rattle.wild_loader.specs.Memory.{byte_in}
 use Rattle.wild_loader.specs.SegmentLaws.{HasHeaders, AreLoadable}
 use Rattle.wild_loader.specs.Laws.{HasDynamic}
-use Rattle.wild_tables.specs.Dynamic.{dynamic_records}
+use Rattle.wild_table_formats.specs.DynamicSection.{dynamic_records}
 use Rattle.wild_meaning.specs.Section.{HasFileBytes}
 use Rattle.wild_meaning.specs.World.{IsLoadable, IsLegal, IsBehind, IsCopied, HasCopy}
 use Rattle.wild_geometry.specs.Laid.{IsKeptLaid}

@@ -13,7 +13,7 @@ use Rattle.wild_types.specs.declared.layout.Layout.{Layout}
 use Rattle.wild_types.specs.declared.section.Segment.{Segment}
 use Rattle.wild_types.specs.Hollow.{is_dropped}
 use Rattle.wild_types.specs.Lookups.{is_read, is_frame, is_filled}
-use Rattle.wild_headers.specs.Headers.{file_header, program_header}
+use Rattle.wild_table_formats.specs.Headers.{file_header, program_header}
 use Rattle.wild_layout.specs.Image.{bytes}
 use Rattle.wild_layout.specs.Loadable.{CarriesByte}
 use Rattle.wild_geometry.specs.Slots.{HasSlots}

@@ -18,7 +18,7 @@ use Rattle.wild_types.specs.FileRoles.{is_prelude}
 use Rattle.wild_needs.specs.SlotShares.{block_words}
 use Rattle.wild_needs.specs.Entries.{sorted_words}
 use Rattle.wild_needs.specs.Needs.{has_last}
-use Rattle.wild_headers.specs.Headers.{file_header, section_headers_of}
+use Rattle.wild_table_formats.specs.Headers.{file_header, section_headers_of}
 use Rattle.wild_laid.specs.Laid.{laid_files}
 use Rattle.wild_layout.specs.Image.{bytes}
 use Rattle.wild_layout.specs.Moved.{file_entries, file_words}

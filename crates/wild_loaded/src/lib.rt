@@ -18,7 +18,7 @@ use wild_slots::{
     blocks_are_whole, each_word_stands, entries_are_known, fixed_outputs_move_nothing, pair_stands,
     places_ascend, slots_stand, stubs_are_there,
 };
-use wild_tables::{dynamic_sections_are_read, entries_are_read, places_are_loaded};
+use wild_table_formats::{dynamic_sections_are_read, entries_are_read, places_are_loaded};
 
 /// Each piece is in the image, no byte belongs to two pieces, and a byte outside all pieces is padding.
 pub fn owners_are_known()

@@ -21,7 +21,7 @@ use Rattle.wild_types.specs.declared.file.File.{File}
 use Rattle.wild_types.specs.declared.file.FileRole.TheVariants as file_role
 use Rattle.wild_types.specs.declared.file.Group.{Group}
 use Rattle.wild_needs.specs.Dynamic.{dynamic_entries}
-use Rattle.wild_headers.specs.Headers.{entry_address}
+use Rattle.wild_table_formats.specs.Headers.{entry_address}
 use Rattle.wild_layout.specs.Faults.{errors}
 use Rattle.wild_layout.specs.Numbers.{NumbersFit, AddendFits, InputNumbers, InputsFit, SegmentNumbers, SectionNumbers, ResolutionNumbers, SymbolNumbers}
 use Rattle.wild_made.specs.Calling.{Code, stub_at, call_bytes, call_reference, by_slot, branch_bytes, branch_reference, of_words, by_stub, by_branch, calling_code, called, calling, calling_sections, calling_segments, calling_static, calling_dynamic, calling_shared, calling_words, calling_words_static, calling_words_shared}

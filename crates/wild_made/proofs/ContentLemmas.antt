@@ -4,9 +4,9 @@ use Rattle.std.specs.Prelude.{Some, None, Ok}
 use Rattle.std.proofs.lemmas.Bool.{cases_Bool, le-leb, ne_eqb, eq-eqb}
 use Rattle.wild_types.specs.Lists.{first_failing, total}
 use Rattle.wild_types.specs.Lookups.{bit}
-use Rattle.wild_clauses.specs.Contents.{each_section, share_mismatch, has_share_for_each_part, part_placed, file_placed_in, parts_placed, section_misplaced, length_fits, discarded_is_empty, part_is_raw, frames_part_fits, files_named_once, sorted_named_once, file_leaves_front, front_is_free, allocation_agrees, bytes_take_room}
+use Rattle.wild_plan_rules.specs.Contents.{each_section, share_mismatch, has_share_for_each_part, part_placed, file_placed_in, parts_placed, section_misplaced, length_fits, discarded_is_empty, part_is_raw, frames_part_fits, files_named_once, sorted_named_once, file_leaves_front, front_is_free, allocation_agrees, bytes_take_room}
 use Rattle.wild_types.specs.FilePlaces.{given, files_placed, file_misplaced}
-use Rattle.wild_clauses.specs.ClauseTests.{check_shares, check_inputs}
+use Rattle.wild_plan_rules.specs.ClauseTests.{check_shares, check_inputs}
 use Rattle.wild_made.specs.Made.{made_section, made_files, made_group, made_parts, made}
 use Rattle.wild_made.specs.Laws.{IsCount}
 use Rattle.wild_made.proofs.ListLemmas.{made_from, none_fails, total_same, length_made}

@@ -9,19 +9,19 @@ use Rattle.wild_types.specs.Lists.{first_failing}
 use Rattle.wild_types.specs.Lookups.{files_of, file_of}
 use Rattle.wild_types.specs.Rows.{row_of}
 use Rattle.wild_reloc.specs.TableX86_64.{x86_64_row}
-use Rattle.wild_clauses.specs.declared.starts.Starts.{Starts}
-use Rattle.wild_clauses.specs.Contents.{each_section, fields_lie, relocations_are_read}
-use Rattle.wild_clauses.specs.Fronts.{reversed_fits}
-use Rattle.wild_clauses.specs.GroupStarts.{no_starts, start_astray}
-use Rattle.wild_clauses.specs.ZeroFree.{file_names_fit, group_names_fit, symbol_name_fits}
-use Rattle.wild_clauses.specs.Indexes.{group_indexes_fit, file_indexes_fit, section_indexes_fit, relocation_index_fits, definition_is_own, range_follows, range_out_of_order, symbol_misfit}
+use Rattle.wild_plan_rules.specs.declared.group_starts.Starts.{Starts}
+use Rattle.wild_plan_rules.specs.Contents.{each_section, fields_lie, relocations_are_read}
+use Rattle.wild_plan_rules.specs.Fronts.{reversed_fits}
+use Rattle.wild_plan_rules.specs.GroupStarts.{no_starts, start_astray}
+use Rattle.wild_plan_rules.specs.ZeroFree.{file_names_fit, group_names_fit, symbol_name_fits}
+use Rattle.wild_plan_rules.specs.Indexes.{group_indexes_fit, file_indexes_fit, section_indexes_fit, relocation_index_fits, definition_is_own, range_follows, range_out_of_order, symbol_misfit}
 use Rattle.wild_types.specs.FileSymbols.{copied_in, copied_again}
 use Rattle.wild_types.specs.Flags.{has_flag}
 use Rattle.wild_needs.specs.DynamicSymbols.{dynamic_symbols, misplaced}
-use Rattle.wild_clauses.specs.SlotFlags.{is_asked, first_asked_failing, dynamic_is_interposable, stub_is_value, stub_has_slot, one_slot_for_address, thread_slot_alone, resolver_is_own, slot_agrees, resolver_moves, second_slot_fits}
-use Rattle.wild_clauses.specs.ClauseTests.{check_indexes, check_fields, check_thunks, check_dynsyms, check_slot_flags, check_tls, check_starts, check_hashes, check_names, check_reversed, check_partial, check_fronts}
-use Rattle.wild_clauses.specs.Partial.{has_no_slot, is_no_debug, is_of_kind, file_tables_fit, tables_fit, group_fits_members, table_has_data}
-use Rattle.wild_clauses.specs.WellFormed.{first_clause}
+use Rattle.wild_plan_rules.specs.SlotFlags.{is_asked, first_asked_failing, dynamic_is_interposable, stub_is_value, stub_has_slot, one_slot_for_address, thread_slot_alone, resolver_is_own, slot_agrees, resolver_moves, second_slot_fits}
+use Rattle.wild_plan_rules.specs.ClauseTests.{check_indexes, check_fields, check_thunks, check_dynsyms, check_slot_flags, check_tls, check_starts, check_hashes, check_names, check_reversed, check_partial, check_fronts}
+use Rattle.wild_plan_rules.specs.Partial.{has_no_slot, is_no_debug, is_of_kind, file_tables_fit, tables_fit, group_fits_members, table_has_data}
+use Rattle.wild_plan_rules.specs.WellFormed.{first_clause}
 use Rattle.wild_made.specs.Made.{made_section, made_object, made_files, made_symbol, made_group, made_relocation, made, callee}
 use Rattle.wild_made.specs.Laws.{IsCount}
 use Rattle.wild_made.proofs.ListLemmas.{made_from, none_fails, length_made, list_all_made}

@@ -19,9 +19,9 @@ use Rattle.wild_needs.specs.Dynamic.{dynamic_number, dynamic_flags, dynamic_flag
 use Rattle.wild_needs.specs.DynamicStrings.{named_strings, string_entries, file_strings, needed_entries, string_start}
 use Rattle.wild_needs.specs.HashShapes.{bucket_of}
 use Rattle.wild_needs.specs.EntryPoint.{text_start, entry_point}
-use Rattle.wild_clauses.specs.WellFormed.{first_clause}
-use Rattle.wild_clauses.specs.SlotPlaces.{walk}
-use Rattle.wild_clauses.specs.ClauseTests.{check_sizes, check_counts, check_order, check_roles, check_sections, check_entries, check_segments, check_shares, check_inputs, check_indexes, check_fields, check_slots, check_thunks, check_dynsyms, check_slot_flags, check_tls, check_starts, check_hashes, check_versions, check_names, check_reversed, check_partial, check_fronts}
+use Rattle.wild_plan_rules.specs.WellFormed.{first_clause}
+use Rattle.wild_plan_rules.specs.SlotPlaces.{walk}
+use Rattle.wild_plan_rules.specs.ClauseTests.{check_sizes, check_counts, check_order, check_roles, check_sections, check_entries, check_segments, check_shares, check_inputs, check_indexes, check_fields, check_slots, check_thunks, check_dynsyms, check_slot_flags, check_tls, check_starts, check_hashes, check_versions, check_names, check_reversed, check_partial, check_fronts}
 use Rattle.wild_laid.specs.Turned.{as_turned}
 use Rattle.wild_laid.specs.FrameInputs.{kept_size}
 use Rattle.wild_laid.specs.Laid.{laid_section, laid_files, sorted_input}
@@ -31,7 +31,7 @@ use Rattle.wild_layout.specs.SearchTable.{layout_fdes, search_table_faults}
 use Rattle.wild_layout.specs.Choice.{choice_by, choice_around_by}
 use Rattle.wild_layout.specs.Decide.{reached, decided, decide}
 use Rattle.wild_layout.specs.Faults.{relocation_errors, section_errors, slot_errors, thunk_errors, file_errors, listed_errors, table_errors, group_errors, errors}
-use Rattle.wild_symbols.specs.TableEntries.{table_fields}
+use Rattle.wild_table_formats.specs.TableEntries.{table_fields}
 use Rattle.wild_relax.specs.RowSequences.{is_partner, has_its_sequence}
 use Rattle.wild_relax.specs.ByNumber.{rows_with}
 use Rattle.wild_relax.specs.Question.{minus_four, zero}

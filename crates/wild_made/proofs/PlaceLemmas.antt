@@ -14,7 +14,7 @@ use Rattle.wild_types.specs.declared.part.Role.TheVariants as role
 use Rattle.wild_types.specs.Lists.{total}
 use Rattle.wild_types.specs.declared.file.Group.{Group}
 use Rattle.wild_needs.specs.Needs.{total_share, first_share, own_of, share, has_last, last_share, group_share}
-use Rattle.wild_clauses.specs.Counts.{role_given}
+use Rattle.wild_plan_rules.specs.Counts.{role_given}
 use Rattle.wild_needs.specs.Dynamic.{dynamic_entries, tag_entries}
 use Rattle.wild_needs.specs.DynamicStrings.{named_strings, string_entries, file_strings}
 use Rattle.wild_needs.specs.DynamicSymbols.{dynamic_symbols}
@@ -27,15 +27,15 @@ use Rattle.wild_reloc.specs.TableX86_64.{x86_64_row}
 use Rattle.wild_types.specs.FileRoles.{is_prelude}
 use Rattle.wild_needs.specs.SlotShares.{slot_share}
 use Rattle.wild_relr.specs.Packed.{packed, packed_on}
-use Rattle.wild_clauses.specs.Places.{group_fits, relocations_of, relocations_in, relocation_count, roles}
-use Rattle.wild_clauses.specs.Segments.{has_byte, is_asked, bytes_are_loaded}
-use Rattle.wild_clauses.specs.Contents.{each_in, each_section}
+use Rattle.wild_plan_rules.specs.Places.{group_fits, relocations_of, relocations_in, relocation_count, roles}
+use Rattle.wild_plan_rules.specs.Segments.{has_byte, is_asked, bytes_are_loaded}
+use Rattle.wild_plan_rules.specs.Contents.{each_in, each_section}
 use Rattle.wild_types.specs.declared.section.Section.{Section}
-use Rattle.wild_clauses.specs.declared.loaded.Side.{Side}
-use Rattle.wild_clauses.specs.declared.loaded.Side.TheVariants as side
-use Rattle.wild_clauses.proofs.CoverLemmas.{all_below_from}
+use Rattle.wild_plan_rules.specs.declared.side.Side.{Side}
+use Rattle.wild_plan_rules.specs.declared.side.Side.TheVariants as side
+use Rattle.wild_plan_rules.proofs.CoverLemmas.{all_below_from}
 use Rattle.wild_records.specs.Abi.Section.{sht_progbits, sht_strtab}
-use Rattle.wild_clauses.specs.ClauseTests.{check_sizes, check_counts, check_order, check_roles, check_sections, check_entries, check_segments}
+use Rattle.wild_plan_rules.specs.ClauseTests.{check_sizes, check_counts, check_order, check_roles, check_sections, check_entries, check_segments}
 use Rattle.wild_made.specs.Made.{made_section, made_object, plain_file, made_symbol, made_group, section_with, made_sections, made_segment, made}
 use Rattle.wild_made.specs.Laws.{IsCount}
 use Rattle.wild_made.proofs.ListLemmas.{made_from, none_fails, total_same, length_made}

@@ -21,13 +21,13 @@ use Rattle.wild_types.specs.Hollow.{is_hollow_role}
 use Rattle.wild_types.specs.Lookups.{files_of}
 use Rattle.wild_types.specs.FileRoles.{writes_slots}
 use Rattle.wild_needs.specs.SlotShares.{slot_share, block_places, group_block, block_share}
-use Rattle.wild_clauses.specs.SlotPlaces.{first_free, walk, symbol_step, slot_before, range_step, group_step, slots_astray, slot_is_even}
+use Rattle.wild_plan_rules.specs.SlotPlaces.{first_free, walk, symbol_step, slot_before, range_step, group_step, slots_astray, slot_is_even}
 use Rattle.wild_types.specs.SymbolSlots.{is_without}
-use Rattle.wild_clauses.specs.ClauseTests.{check_slots}
+use Rattle.wild_plan_rules.specs.ClauseTests.{check_slots}
 use Rattle.wild_slot.specs.SymbolWords.{slots_of}
 use Rattle.wild_needs.proofs.SlotShareLemmas.{no_slots, slots_plain}
 use Rattle.wild_needs.proofs.SlotBlockLemmas.{places_without}
-use Rattle.wild_clauses.proofs.SlotPlaceLemmas.{step_without}
+use Rattle.wild_plan_rules.proofs.SlotPlaceLemmas.{step_without}
 use Rattle.wild_layout.specs.Faults.{flat_map_from, at_file, slot_refusal, slot_role, symbol_errors, slot_errors}
 use Rattle.wild_made.specs.Made.{made_object, made_files, made_symbol, made_group, made}
 use Rattle.wild_made.proofs.ListLemmas.{made_from, none_fails, list_all_made}

@@ -8,8 +8,8 @@ use Rattle.wild_types.specs.declared.file.File.{File}
 use Rattle.wild_types.specs.Lists.{total}
 use Rattle.wild_types.specs.Lookups.{files_of}
 use Rattle.wild_needs.specs.Versions.{needs_of, has_needs, need_count, length_of, versions_needed}
-use Rattle.wild_clauses.specs.VersionTables.{mark_step, mark_astray}
-use Rattle.wild_clauses.specs.ClauseTests.{check_versions}
+use Rattle.wild_plan_rules.specs.VersionTables.{mark_step, mark_astray}
+use Rattle.wild_plan_rules.specs.ClauseTests.{check_versions}
 use Rattle.wild_types.proofs.ListLemmas.{total-append}
 use Rattle.wild_made.specs.Made.{made_files, made_group, made}
 use Rattle.wild_made.proofs.ListLemmas.{made_from}

@@ -18,9 +18,9 @@ use Rattle.wild_meaning.specs.Item.{IsKept, OfSection}
 use Rattle.wild_meaning.specs.Field.{InNoField}
 use Rattle.wild_meaning.specs.Sequence.{Instruction, Target, AddressInSlot, Described, size_of, of_field, instructions_of}
 use Rattle.wild_meaning.specs.Template.{IsDescribed, IsInstruction, IsTemplate, DoesDemanded}
-use Rattle.wild_meaning.specs.Worked.{Refuses}
-use Rattle.wild_meaning.specs.WorkedStatic.{static_pie, static_pie_world, branch_code, branch_item, branch_reference, load_code, load_item, load_reference, described_code, described_item, described_reference}
-use Rattle.wild_meaning.specs.StaticRefusals.{Has, another_branch, load_past, descriptor_load}
+use Rattle.wild_meaning.specs.Worked.Builders.{Refuses}
+use Rattle.wild_meaning.specs.Worked.Static.{static_pie, static_pie_world, branch_code, branch_item, branch_reference, load_code, load_item, load_reference, described_code, described_item, described_reference}
+use Rattle.wild_meaning.specs.Worked.StaticRefusals.{Has, another_branch, load_past, descriptor_load}
 use Rattle.wild_meaning.proofs.Told.{denoted}
 use Rattle.wild_meaning.proofs.Meant.{meant}
 use Rattle.wild_meaning.proofs.AmongLemmas.{Among}

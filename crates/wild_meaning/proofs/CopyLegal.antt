@@ -11,9 +11,9 @@ use Rattle.wild_types.specs.Flags.{has_flag, ifunc, absolute}
 use Rattle.wild_loader.specs.declared.world.Answer.{Answer}
 use Rattle.wild_meaning.specs.Value.{IsDefinedBy, IsReplaceable, HasRaw, HasFlag, HasAnswer}
 use Rattle.wild_meaning.specs.World.{HasResolver, IsAnswer, IsAnswered, IsOwnAnswer, IsKnownModule, IsCopied, HasCopy, HasRoomFor, IsBehind}
-use Rattle.wild_meaning.specs.Worked.{group_of}
-use Rattle.wild_meaning.specs.WorkedCopy.{copying, copying_room, copying_object, copying_library, copying_world, copied_symbol, start_symbol, null_answer, copied_answer, copied_bytes}
-use Rattle.wild_meaning.specs.CopyRefusals.{CopyingWorldIsLegal}
+use Rattle.wild_meaning.specs.Worked.Builders.{group_of}
+use Rattle.wild_meaning.specs.Worked.Copy.{copying, copying_room, copying_object, copying_library, copying_world, copied_symbol, start_symbol, null_answer, copied_answer, copied_bytes}
+use Rattle.wild_meaning.specs.Worked.CopyRefusals.{CopyingWorldIsLegal}
 use Rattle.wild_meaning.proofs.Told.{only, raw_of, answer_is, no_answer, defined_is}
 use Rattle.wild_meaning.proofs.Legal.{not_indirect, no_index, one_index}
 

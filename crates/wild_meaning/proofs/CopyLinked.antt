@@ -32,10 +32,10 @@ use Rattle.wild_meaning.specs.Reference.{IsLinkedAlone, ReferenceHolds, ItemHold
 use Rattle.wild_meaning.specs.Segments.{headers_in, AreTold}
 use Rattle.wild_meaning.specs.DynamicSection.{TellsLinker}
 use Rattle.wild_meaning.specs.Linked.{IsBlank, IsNotCopied, IsDecidedPlace}
-use Rattle.wild_meaning.specs.Worked.{reference, group_of}
-use Rattle.wild_meaning.specs.WorkedCopy.{copying, copying_data, copying_item, copying_blank, copying_object, copying_library, copying_world, copied_symbol, start_symbol, copied_answer, copied_bytes}
-use Rattle.wild_meaning.specs.WorkedCopyImage.{copying_image, copying_rest, copying_memory, copying_header, copying_third, copying_words}
-use Rattle.wild_meaning.specs.CopyRefusals.{CopyingImageIsLinked}
+use Rattle.wild_meaning.specs.Worked.Builders.{reference, group_of}
+use Rattle.wild_meaning.specs.Worked.Copy.{copying, copying_data, copying_item, copying_blank, copying_object, copying_library, copying_world, copied_symbol, start_symbol, copied_answer, copied_bytes}
+use Rattle.wild_meaning.specs.Worked.CopyImage.{copying_image, copying_rest, copying_memory, copying_header, copying_third, copying_words}
+use Rattle.wild_meaning.specs.Worked.CopyRefusals.{CopyingImageIsLinked}
 use Rattle.wild_meaning.proofs.Told.{only, raw_of}
 use Rattle.wild_meaning.proofs.Read.{held_from}
 use Rattle.wild_meaning.proofs.Refused.{not_alone, no_template}

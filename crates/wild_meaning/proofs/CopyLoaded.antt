@@ -18,8 +18,8 @@ use Rattle.wild_loader.specs.Changes.{kind_of, change_of, patch_at}
 use Rattle.wild_loader.specs.Relocate.{rela_patch, add_all, apart, notes, relocate}
 use Rattle.wild_loader.specs.Load.{load, image_at, image_with}
 use Rattle.wild_meaning.specs.Segments.{headers_in}
-use Rattle.wild_meaning.specs.WorkedCopy.{copying_world}
-use Rattle.wild_meaning.specs.WorkedCopyImage.{copying_image, copying_first, copying_second, copying_third, copying_memory}
+use Rattle.wild_meaning.specs.Worked.Copy.{copying_world}
+use Rattle.wild_meaning.specs.Worked.CopyImage.{copying_image, copying_first, copying_second, copying_third, copying_memory}
 
 pub copying_loaded : load copying_world copying_image ≡ Ok copying_memory
 unfolding load image_at image_with header program_headers segments load_segment load_segments tables first_dynamic dynamic_entries tagged span_at table_of named_tables dynamic_tables relas_at words_at relocate add_all apart notes overlaid put_byte put_bytes read_bytes rela_patch change_of patch_at places_from least_extent file_header_at file_header_fields program_header_at program_header_fields dynamic_entry_at rela_at kind_of number word

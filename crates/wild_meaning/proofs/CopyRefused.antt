@@ -15,9 +15,9 @@ use Rattle.wild_meaning.specs.Section.{IsSet}
 use Rattle.wild_meaning.specs.World.{IsBehind}
 use Rattle.wild_meaning.specs.Item.{IsKept, OfSection}
 use Rattle.wild_meaning.specs.Linked.{IsBlank, IsNotCopied, IsDecidedPlace}
-use Rattle.wild_meaning.specs.Worked.{reference}
-use Rattle.wild_meaning.specs.WorkedCopy.{copying, copying_room, copying_data, copying_item, copying_blank, copying_world, copied_symbol, start_symbol, copied_answer}
-use Rattle.wild_meaning.specs.CopyRefusals.{WrongCopyIsRefused, WrongZeroIsRefused, WrongPlaceOfCopyIsRefused, WrongMachineIsRefused, WrongHeadersAreRefused}
+use Rattle.wild_meaning.specs.Worked.Builders.{reference}
+use Rattle.wild_meaning.specs.Worked.Copy.{copying, copying_room, copying_data, copying_item, copying_blank, copying_world, copied_symbol, start_symbol, copied_answer}
+use Rattle.wild_meaning.specs.Worked.CopyRefusals.{WrongCopyIsRefused, WrongZeroIsRefused, WrongPlaceOfCopyIsRefused, WrongMachineIsRefused, WrongHeadersAreRefused}
 use Rattle.wild_meaning.proofs.Told.{IsPlainOwn, denoted}
 use Rattle.wild_meaning.proofs.Read.{full_of}
 use Rattle.wild_meaning.proofs.Refused.{value_there}

@@ -6,8 +6,8 @@ use Rattle.wild_types.specs.declared.kind.OutputKind.TheVariants as output
 use Rattle.wild_types.specs.declared.symbol.ValueFlags.{ValueFlags}
 use Rattle.wild_types.specs.Flags.{has_flag, dynamic, copy_relocation, export_dynamic, non_interposable}
 use Rattle.wild_meaning.specs.Value.{may_be_replaced}
-use Rattle.wild_meaning.specs.WorkedShared.{shared, shared_world, open_symbol}
-use Rattle.wild_meaning.specs.Replaced.{DynamicIsReplaceable, ExportedIsReplaceable, AnswersAreTaken}
+use Rattle.wild_meaning.specs.Worked.Shared.{shared, shared_world, open_symbol}
+use Rattle.wild_meaning.specs.Worked.Replaced.{DynamicIsReplaceable, ExportedIsReplaceable, AnswersAreTaken}
 use Rattle.wild_meaning.proofs.Told.{other_value}
 use Rattle.wild_meaning.proofs.SharedRefused.{open_is}
 

@@ -19,9 +19,9 @@ use Rattle.wild_meaning.specs.Section.{IsSet}
 use Rattle.wild_meaning.specs.Segments.{headers_in, TellsSegment, AreTold}
 use Rattle.wild_meaning.specs.DynamicSection.{TellsEntries}
 use Rattle.wild_meaning.specs.Linked.{TellsSizes, IsLinked, processor_of}
-use Rattle.wild_meaning.specs.Worked.{loaded}
-use Rattle.wild_meaning.specs.WorkedStatic.{static_pie, static_pie_world}
-use Rattle.wild_meaning.specs.SegmentRefusals.{unpaged, IsDynamic, WrongSegmentsAreRefused, OtherPlacesAreRefused, WrongSizesAreRefused, NoDynamicIsRefused, WrongEntriesAreRefused}
+use Rattle.wild_meaning.specs.Worked.Builders.{loaded}
+use Rattle.wild_meaning.specs.Worked.Static.{static_pie, static_pie_world}
+use Rattle.wild_meaning.specs.Worked.SegmentRefusals.{unpaged, IsDynamic, WrongSegmentsAreRefused, OtherPlacesAreRefused, WrongSizesAreRefused, NoDynamicIsRefused, WrongEntriesAreRefused}
 
 -- one segment that is told
 record IsOne (l : Layout) (image : List ℕ) (g : Segment) (count at : ℕ) : Type 0 where

@@ -19,9 +19,9 @@ use Rattle.wild_meaning.specs.Field.{form_width, InNoField}
 use Rattle.wild_meaning.specs.Sequence.{Instruction, SymbolPair, size_of, of_sequence, of_symbol, by_call, by_slot, by_distance, instructions_of}
 use Rattle.wild_meaning.specs.Template.{IsInstruction, IsSequence, IsTemplate, reads, reads_alone, DoesDemanded}
 use Rattle.wild_meaning.specs.Reference.{ReferenceHolds}
-use Rattle.wild_meaning.specs.Worked.{Refuses}
-use Rattle.wild_meaning.specs.WorkedStatic.{static_pie, static_pie_world, general_code, general_item, pair_reference, getter_reference, thread_symbol, getter_symbol}
-use Rattle.wild_meaning.specs.StaticRefusals.{Has, half_sequence}
+use Rattle.wild_meaning.specs.Worked.Builders.{Refuses}
+use Rattle.wild_meaning.specs.Worked.Static.{static_pie, static_pie_world, general_code, general_item, pair_reference, getter_reference, thread_symbol, getter_symbol}
+use Rattle.wild_meaning.specs.Worked.StaticRefusals.{Has, half_sequence}
 use Rattle.wild_meaning.proofs.Meant.{meant}
 use Rattle.wild_meaning.proofs.AmongLemmas.{Among, pick}
 use Rattle.wild_meaning.proofs.OneReference.{has, has_is, fills, fills_is, same_bytes}

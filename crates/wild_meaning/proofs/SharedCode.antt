@@ -18,8 +18,8 @@ use Rattle.wild_meaning.specs.Item.{IsKept, OfSection}
 use Rattle.wild_meaning.specs.Field.{InNoField}
 use Rattle.wild_meaning.specs.Sequence.{Instruction, Described, of_field, instructions_of}
 use Rattle.wild_meaning.specs.Template.{IsDescribed, IsInstruction, IsTemplate, DoesDemanded}
-use Rattle.wild_meaning.specs.WorkedShared.{shared, shared_world, shared_code, code_item, shared_reference}
-use Rattle.wild_meaning.specs.SharedRefusals.{WrongCodeOfLibraryIsRefused, offset_load}
+use Rattle.wild_meaning.specs.Worked.Shared.{shared, shared_world, shared_code, code_item, shared_reference}
+use Rattle.wild_meaning.specs.Worked.SharedRefusals.{WrongCodeOfLibraryIsRefused, offset_load}
 use Rattle.wild_meaning.proofs.Meant.{meant}
 use Rattle.wild_meaning.proofs.SlotPlaces.{slot_holds}
 use Rattle.wild_meaning.proofs.Refused.{not_excepted, not_alone}

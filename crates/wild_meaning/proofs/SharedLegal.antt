@@ -10,9 +10,9 @@ use Rattle.wild_types.specs.Flags.{has_flag, ifunc}
 use Rattle.wild_loader.specs.declared.world.Answer.{Answer}
 use Rattle.wild_meaning.specs.Value.{IsReplaceable, HasAnswer}
 use Rattle.wild_meaning.specs.World.{HasResolver, IsAnswer, IsAnswered, IsKnownModule, IsCopied}
-use Rattle.wild_meaning.specs.Worked.{file_of, group_of}
-use Rattle.wild_meaning.specs.WorkedShared.{shared, shared_data, shared_code, shared_world, answered, own_symbol, open_symbol, own_thread, other_thread}
-use Rattle.wild_meaning.specs.SharedRefusals.{SharedWorldIsLegal}
+use Rattle.wild_meaning.specs.Worked.Builders.{file_of, group_of}
+use Rattle.wild_meaning.specs.Worked.Shared.{shared, shared_data, shared_code, shared_world, answered, own_symbol, open_symbol, own_thread, other_thread}
+use Rattle.wild_meaning.specs.Worked.SharedRefusals.{SharedWorldIsLegal}
 use Rattle.wild_meaning.proofs.Told.{only, owner_of, no_answer}
 use Rattle.wild_meaning.proofs.Legal.{not_indirect, no_index, one_index}
 

@@ -19,10 +19,10 @@ use Rattle.wild_meaning.specs.Item.{IsKept, OfSection}
 use Rattle.wild_meaning.specs.Field.{form_width, InNoField}
 use Rattle.wild_meaning.specs.Reference.{ItemHolds, IsOther, TakesItself}
 use Rattle.wild_meaning.specs.Slot.{IsSlot, behind_first}
-use Rattle.wild_meaning.specs.Worked.{reference}
-use Rattle.wild_meaning.specs.WorkedShared.{shared, shared_data, shared_item, shared_references, shared_world, answered, own_symbol, open_symbol, own_thread, other_thread}
-use Rattle.wild_meaning.specs.SharedRefusals.{NamesAnother, NamesElsewhere, WrongSlotsAreRefused, WrongAddressesAreRefused, WrongOffsetsAreRefused, WrongSizeIsRefused, WrongByteIsRefused, Refused, own_offset, other_offset}
-use Rattle.wild_meaning.specs.Refusals.{HasWrongNumber, NamesWrongWord}
+use Rattle.wild_meaning.specs.Worked.Builders.{reference}
+use Rattle.wild_meaning.specs.Worked.Shared.{shared, shared_data, shared_item, shared_references, shared_world, answered, own_symbol, open_symbol, own_thread, other_thread}
+use Rattle.wild_meaning.specs.Worked.SharedRefusals.{NamesAnother, NamesElsewhere, WrongSlotsAreRefused, WrongAddressesAreRefused, WrongOffsetsAreRefused, WrongSizeIsRefused, WrongByteIsRefused, Refused, own_offset, other_offset}
+use Rattle.wild_meaning.specs.Worked.Refusals.{HasWrongNumber, NamesWrongWord}
 use Rattle.wild_meaning.proofs.Told.{told_is, IsPlainOwn, IsAnsweredAs, denoted, other_denoted, own_offset as own_offset_is, other_offset as other_offset_is, other_size, somewhere}
 use Rattle.wild_meaning.proofs.Read.{full_of, signed_of, word_below, same_word}
 use Rattle.wild_meaning.proofs.SlotPlaces.{slot_holds}

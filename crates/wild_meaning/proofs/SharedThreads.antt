@@ -8,11 +8,11 @@ use Rattle.wild_reloc.specs.Formula.{ModulePair, OwnModulePair, Descriptor}
 use Rattle.wild_loader.specs.declared.memory.Memory.{Memory}
 use Rattle.wild_loader.specs.Memory.{number_in}
 use Rattle.wild_loader.specs.Changes.{distance_of, first_value}
-use Rattle.wild_meaning.specs.Worked.{reference}
-use Rattle.wild_meaning.specs.WorkedShared.{shared, shared_item, shared_world, own_thread}
+use Rattle.wild_meaning.specs.Worked.Builders.{reference}
+use Rattle.wild_meaning.specs.Worked.Shared.{shared, shared_item, shared_world, own_thread}
 use Rattle.wild_meaning.specs.Slot.{IsPair}
-use Rattle.wild_meaning.specs.Refusals.{NamesWrongModule, NamesWrongDescriptor}
-use Rattle.wild_meaning.specs.SharedRefusals.{WrongModulesAreRefused, WrongDescriptorsAreRefused, Refused, own_offset}
+use Rattle.wild_meaning.specs.Worked.Refusals.{NamesWrongModule, NamesWrongDescriptor}
+use Rattle.wild_meaning.specs.Worked.SharedRefusals.{WrongModulesAreRefused, WrongDescriptorsAreRefused, Refused, own_offset}
 use Rattle.wild_meaning.proofs.Told.{own_offset as own_offset_is, other_offset as other_offset_is, somewhere}
 use Rattle.wild_meaning.proofs.Read.{signed_of, word_below, same_word}
 use Rattle.wild_meaning.proofs.SlotPlaces.{slot_holds}

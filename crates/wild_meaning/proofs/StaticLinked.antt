@@ -32,10 +32,10 @@ use Rattle.wild_meaning.specs.Template.{DoesDemanded, reads_alone}
 use Rattle.wild_meaning.specs.Reference.{IsLinkedAlone, IsOther, ReferenceHolds, ItemHolds}
 use Rattle.wild_meaning.specs.Segments.{headers_in, AreTold}
 use Rattle.wild_meaning.specs.Linked.{IsBlank}
-use Rattle.wild_meaning.specs.Worked.{reference, file_of, group_of}
-use Rattle.wild_meaning.specs.WorkedStatic.{static_pie, static_pie_world, branch_code, branch_item, branch_reference, load_code, load_item, load_reference, general_code, general_item, pair_reference, getter_reference, described_code, described_item, described_reference, static_data, static_item, first_function, second_function, thread_symbol, getter_symbol}
-use Rattle.wild_meaning.specs.WorkedImage.{static_image, static_rest, static_memory, static_header}
-use Rattle.wild_meaning.specs.StaticRefusals.{StaticImageIsLinked}
+use Rattle.wild_meaning.specs.Worked.Builders.{reference, file_of, group_of}
+use Rattle.wild_meaning.specs.Worked.Static.{static_pie, static_pie_world, branch_code, branch_item, branch_reference, load_code, load_item, load_reference, general_code, general_item, pair_reference, getter_reference, described_code, described_item, described_reference, static_data, static_item, first_function, second_function, thread_symbol, getter_symbol}
+use Rattle.wild_meaning.specs.Worked.StaticImage.{static_image, static_rest, static_memory, static_header}
+use Rattle.wild_meaning.specs.Worked.StaticRefusals.{StaticImageIsLinked}
 use Rattle.wild_meaning.proofs.Told.{only, IsPlainOwn}
 use Rattle.wild_meaning.proofs.Read.{held_from}
 use Rattle.wild_meaning.proofs.Refused.{not_alone, no_template}

@@ -20,10 +20,10 @@ use Rattle.wild_types.specs.Item.{Item}
 use Rattle.wild_meaning.specs.Item.{IsKept, OfSection}
 use Rattle.wild_meaning.specs.Reference.{ItemHolds, ReferenceHolds}
 use Rattle.wild_meaning.specs.Linked.{IsBlank}
-use Rattle.wild_meaning.specs.Worked.{Refuses, reference, file_of, group_of}
-use Rattle.wild_meaning.specs.WorkedStatic.{static_pie, static_pie_world, static_data, static_item, first_function, second_function, thread_symbol}
-use Rattle.wild_meaning.specs.Refusals.{HasWrongNumber}
-use Rattle.wild_meaning.specs.StaticRefusals.{padded, padded_section, padded_blank, WrongDataAreRefused, WrongBlankIsRefused}
+use Rattle.wild_meaning.specs.Worked.Builders.{Refuses, reference, file_of, group_of}
+use Rattle.wild_meaning.specs.Worked.Static.{static_pie, static_pie_world, static_data, static_item, first_function, second_function, thread_symbol}
+use Rattle.wild_meaning.specs.Worked.Refusals.{HasWrongNumber}
+use Rattle.wild_meaning.specs.Worked.StaticRefusals.{padded, padded_section, padded_blank, WrongDataAreRefused, WrongBlankIsRefused}
 use Rattle.wild_meaning.specs.Thread.{HasThreadOffset}
 use Rattle.wild_meaning.proofs.Told.{only, IsPlainOwn, denoted, own_offset, somewhere}
 use Rattle.wild_meaning.proofs.Read.{full_of}

@@ -19,11 +19,11 @@ use Rattle.wild_meaning.specs.Item.{IsKept, OfSection}
 use Rattle.wild_meaning.specs.Strings.{HasStrings, NamesStrings, IsStringAt, byte_named, IsString}
 use Rattle.wild_meaning.specs.Formula.{TakesString, IsReferent}
 use Rattle.wild_meaning.specs.Reference.{ReferenceHolds, IsOther}
-use Rattle.wild_meaning.specs.Worked.{Refuses, reference}
-use Rattle.wild_meaning.specs.WorkedStatic.{static_pie_world, second_function}
-use Rattle.wild_meaning.specs.WorkedStrings.{first_string, second_string, string_section, string_symbol, string_reference, pointer_data, turned_data, strung_file, strung, pointer_item, turned_item, strung_memory}
-use Rattle.wild_meaning.specs.Refusals.{HasWrongNumber, HasWrongByte}
-use Rattle.wild_meaning.specs.StringRefusals.{StringsAreJudged, ReversedWordsAreJudged}
+use Rattle.wild_meaning.specs.Worked.Builders.{Refuses, reference}
+use Rattle.wild_meaning.specs.Worked.Static.{static_pie_world, second_function}
+use Rattle.wild_meaning.specs.Worked.Strings.{first_string, second_string, string_section, string_symbol, string_reference, pointer_data, turned_data, strung_file, strung, pointer_item, turned_item, strung_memory}
+use Rattle.wild_meaning.specs.Worked.Refusals.{HasWrongNumber, HasWrongByte}
+use Rattle.wild_meaning.specs.Worked.StringRefusals.{StringsAreJudged, ReversedWordsAreJudged}
 use Rattle.wild_meaning.proofs.Told.{IsPlainOwn, denoted}
 use Rattle.wild_meaning.proofs.Read.{full_of, held_from}
 use Rattle.wild_meaning.proofs.Refused.{value_there, no_template}

@@ -32,10 +32,10 @@ use Rattle.wild_meaning.specs.Sequence.{Instruction, descriptor_call_words}
 use Rattle.wild_meaning.specs.WordsAArch64.{effect_with as asked_of}
 use Rattle.wild_meaning.specs.Template.{IsTemplate, IsFieldBits, bits_of, old_bytes, reads, reads_alone, DoesDemanded}
 use Rattle.wild_meaning.specs.Reference.{IsOwnSlot, ReadsOwnSlots, ReferenceHolds, ItemHolds}
-use Rattle.wild_meaning.specs.Worked.{Refuses}
-use Rattle.wild_meaning.specs.WorkedAArch64.{words_static, words_world, near_function, local_data, slot_code, slot_item, slot_low_reference, call_code, call_item, call_reference, past_code, past_item, past_reference, descriptor_code, descriptor_item, descriptor_page, descriptor_load}
-use Rattle.wild_meaning.specs.StaticRefusals.{Has}
-use Rattle.wild_meaning.specs.ImageRefusalsAArch64.{HasBoth, slot_behind, call_of_thunk, far_thunk, next_call_of_thunk, right_thunk, half_call, low_half, load_of_word, WrongCodeOfWordsIsRefused}
+use Rattle.wild_meaning.specs.Worked.Builders.{Refuses}
+use Rattle.wild_meaning.specs.Worked.AArch64.{words_static, words_world, near_function, local_data, slot_code, slot_item, slot_low_reference, call_code, call_item, call_reference, past_code, past_item, past_reference, descriptor_code, descriptor_item, descriptor_page, descriptor_load}
+use Rattle.wild_meaning.specs.Worked.StaticRefusals.{Has}
+use Rattle.wild_meaning.specs.Worked.ImageRefusalsAArch64.{HasBoth, slot_behind, call_of_thunk, far_thunk, next_call_of_thunk, right_thunk, half_call, low_half, load_of_word, WrongCodeOfWordsIsRefused}
 use Rattle.wild_meaning.proofs.Told.{denoted, told_is, own_offset, somewhere, IsPlainOwn}
 use Rattle.wild_meaning.proofs.Meant.{meant}
 use Rattle.wild_meaning.proofs.OneReference.{effect_with, value_in, ReadsNumbers, same_bytes}

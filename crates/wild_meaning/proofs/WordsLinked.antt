@@ -42,10 +42,10 @@ use Rattle.wild_meaning.specs.Field.{IsInputByte}
 use Rattle.wild_meaning.specs.Reference.{ReadsOwnSlots, IsLinkedAlone, IsOther, ReferenceHolds, ItemHolds}
 use Rattle.wild_meaning.specs.Segments.{headers_in, AreTold}
 use Rattle.wild_meaning.specs.Linked.{IsBlank}
-use Rattle.wild_meaning.specs.Worked.{file_of, group_of}
-use Rattle.wild_meaning.specs.WorkedAArch64.{words_static, words_world, near_function, local_data, address_code, address_item, page_reference, low_reference, slot_code, slot_item, slot_page_reference, slot_low_reference, call_code, call_item, call_reference, past_code, past_item, past_reference, kept_code, kept_item, descriptor_code, descriptor_item, descriptor_page, descriptor_load, descriptor_low, descriptor_call}
-use Rattle.wild_meaning.specs.WorkedImageAArch64.{words_image, words_rest, words_memory, words_header}
-use Rattle.wild_meaning.specs.ImageRefusalsAArch64.{WordsImageIsLinked}
+use Rattle.wild_meaning.specs.Worked.Builders.{file_of, group_of}
+use Rattle.wild_meaning.specs.Worked.AArch64.{words_static, words_world, near_function, local_data, address_code, address_item, page_reference, low_reference, slot_code, slot_item, slot_page_reference, slot_low_reference, call_code, call_item, call_reference, past_code, past_item, past_reference, kept_code, kept_item, descriptor_code, descriptor_item, descriptor_page, descriptor_load, descriptor_low, descriptor_call}
+use Rattle.wild_meaning.specs.Worked.AArch64Image.{words_image, words_rest, words_memory, words_header}
+use Rattle.wild_meaning.specs.Worked.ImageRefusalsAArch64.{WordsImageIsLinked}
 use Rattle.wild_meaning.proofs.Told.{only, owner_of, stub_of, IsPlainOwn}
 use Rattle.wild_meaning.proofs.Read.{held_from}
 use Rattle.wild_meaning.proofs.Meant.{done}

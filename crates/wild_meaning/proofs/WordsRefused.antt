@@ -34,7 +34,7 @@ use Rattle.wild_meaning.specs.WordsAArch64.{effect_with as asked_of}
 use Rattle.wild_meaning.specs.Sequence.{FieldBits, Instruction, of_word, size_of, descriptor_call_words, offset_pair_words, address_pair_words}
 use Rattle.wild_meaning.specs.Template.{reads, reads_alone, effect_of, demand_of, CanHave, IsDemanded, old_bytes, DoesWith, DoesDemanded}
 use Rattle.wild_meaning.specs.Reference.{ReferenceHolds}
-use Rattle.wild_meaning.specs.RefusalsAArch64.{Does, DoesNot, call_item, slot_item, pair_item, move_item, move_word, RightWordsDo, WrongWordsAreRefused, CutBitsAreRefused, SlotAddendsAreRefused, PairsAreExcepted, ThunksAreJudged}
+use Rattle.wild_meaning.specs.Worked.RefusalsAArch64.{Does, DoesNot, call_item, slot_item, pair_item, move_item, move_word, RightWordsDo, WrongWordsAreRefused, CutBitsAreRefused, SlotAddendsAreRefused, PairsAreExcepted, ThunksAreJudged}
 use Rattle.wild_meaning.proofs.InstructionsAArch64.{IsAlone, alone_only}
 use Rattle.wild_meaning.proofs.WordsTemplates.{slot_page_formula, slot_low_formula, slot_page_alone, slot_low_alone}
 use Rattle.wild_meaning.proofs.OneReference.{same_bytes, effect_with, value_in}

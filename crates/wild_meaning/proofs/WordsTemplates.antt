@@ -13,7 +13,7 @@ use Rattle.wild_meaning.specs.ReferentAArch64.{IsAbsent}
 use Rattle.wild_meaning.specs.Field.{form_width, InNoField}
 use Rattle.wild_meaning.specs.Sequence.{Target, FieldBits, Instruction, of_word, descriptor_call_words, address_pair_words}
 use Rattle.wild_meaning.specs.Template.{IsInstruction, IsSequence, IsOfSequence, IsTemplate}
-use Rattle.wild_meaning.specs.WorkedAArch64.{words_static, near_function, local_data, address_item, page_reference, low_reference, slot_item, slot_page_reference, slot_low_reference, call_item, call_reference, past_item, past_reference, kept_item, descriptor_item, descriptor_page, descriptor_load, descriptor_low, descriptor_call}
+use Rattle.wild_meaning.specs.Worked.AArch64.{words_static, near_function, local_data, address_item, page_reference, low_reference, slot_item, slot_page_reference, slot_low_reference, call_item, call_reference, past_item, past_reference, kept_item, descriptor_item, descriptor_page, descriptor_load, descriptor_low, descriptor_call}
 use Rattle.wild_meaning.proofs.Told.{flag_of, IsPlainOwn}
 use Rattle.wild_meaning.proofs.PairLemmas.{only_one}
 use Rattle.wild_meaning.proofs.InstructionsAArch64.{IsAlone, single_is, alone_template, sequence_is}

@@ -13,7 +13,7 @@ use Rattle.wild_aarch64.specs.Template.{codes_of, begins, register_in}
 use Rattle.wild_aarch64.specs.declared.template.Template.TheVariants as kinds
 use Rattle.wild_aarch64.proofs.FieldLemmas.{movn_field, form_is_read}
 use Rattle.wild_meaning.specs.WordsAArch64.{is_of, is_told}
-use Rattle.wild_meaning.specs.RefusalsAArch64.{NegatedMovesAreUnknown, ShiftedAddsAreUnknown}
+use Rattle.wild_meaning.specs.Worked.RefusalsAArch64.{NegatedMovesAreUnknown, ShiftedAddsAreUnknown}
 
 and_false : (a b : Bool) → b ≡ false → (a && b) ≡ false
 and_false true b h = h

@@ -8,8 +8,8 @@ use Rattle.wild_types.specs.declared.file.File.{File}
 use Rattle.wild_types.specs.declared.file.Group.{Group}
 use Rattle.wild_types.specs.declared.layout.Layout.{Layout}
 use Rattle.wild_needs.specs.TableSymbols.{TableSymbol, file_items}
-use Rattle.wild_symbols.specs.declared.table.TableFields.{TableFields}
-use Rattle.wild_symbols.specs.TableEntries.{table_fields, or_none_in_table}
+use Rattle.wild_table_formats.specs.declared.symbols.TableFields.{TableFields}
+use Rattle.wild_table_formats.specs.TableEntries.{table_fields, or_none_in_table}
 use Rattle.wild_layout.specs.Faults.{flat_map_from, at_file, listed_errors, lacking_in_table, table_error, table_errors, group_errors, files_errors}
 use Rattle.wild_layout.proofs.FaultLemmas.{first_empty, rest_empty, All-from_none, no_fault, no_group_errors}
 use Rattle.wild_names.specs.FieldLaws.{HasTableFields, TableSymbolsHaveFields, entry_with}

@@ -12,9 +12,9 @@ use Rattle.wild_types.specs.declared.layout.DynamicSymbol.{DynamicSymbol}
 use Rattle.wild_types.specs.declared.layout.Layout.{Layout}
 use Rattle.wild_types.specs.FileRoles.{is_epilogue}
 use Rattle.wild_types.specs.Kinds.{needs_dynsym}
-use Rattle.wild_symbols.specs.declared.dynamic.SymbolFields.{SymbolFields}
-use Rattle.wild_symbols.specs.DynamicEntries.{listed_of, or_none}
-use Rattle.wild_symbols.specs.DynamicFields.{listed_fields}
+use Rattle.wild_table_formats.specs.declared.symbols.SymbolFields.{SymbolFields}
+use Rattle.wild_table_formats.specs.DynamicEntries.{listed_of, or_none}
+use Rattle.wild_table_formats.specs.DynamicFields.{listed_fields}
 use Rattle.wild_layout.specs.Faults.{errors, at_file, lacking, listed_error, listed_errors, group_errors}
 use Rattle.wild_layout.specs.Geometry.{IsLaidOut, LayoutsAreLaidOut}
 use Rattle.wild_layout.specs.ListedSymbols.{IsThere}

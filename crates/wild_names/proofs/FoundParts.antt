@@ -25,8 +25,8 @@ use Rattle.wild_types.specs.Kinds.{needs_dynamic}
 use Rattle.wild_types.specs.Lookups.{image_size}
 use Rattle.wild_types.specs.Parts.{role_place, part_with, is_hash_role, is_look_up_role, has_hashes}
 use Rattle.wild_types.proofs.LookupLemmas.{not_hollow_at}
-use Rattle.wild_headers.specs.Headers.{file_header, section_headers_of}
-use Rattle.wild_tables.specs.Dynamic.{dynamic_records, null_entry}
+use Rattle.wild_table_formats.specs.Headers.{file_header, section_headers_of}
+use Rattle.wild_table_formats.specs.DynamicSection.{dynamic_records, null_entry}
 use Rattle.wild_layout.specs.Loadable.{SegmentLoads}
 use Rattle.wild_layout.specs.TablePlaces.{all_needed}
 use Rattle.wild_layout.specs.Geometry.{IsLaidOut, TablesStand}

@@ -23,12 +23,12 @@ use Rattle.wild_types.specs.FileRoles.{is_prelude}
 use Rattle.wild_types.specs.Kinds.{needs_dynamic}
 use Rattle.wild_types.specs.Lookups.{is_hollow_at}
 use Rattle.wild_types.specs.Parts.{role_place, part_with}
-use Rattle.wild_symbols.specs.Strings.{string}
-use Rattle.wild_symbols.specs.Symbols.{symbol_bytes}
-use Rattle.wild_symbols.specs.DynamicEntries.{NamedFields, entry_at, no_fields, group_symbols}
-use Rattle.wild_symbols.proofs.SymbolLemmas.{length-symbol, length-symbol_bytes}
-use Rattle.wild_tables.proofs.DynamicLemmas.{length_entry}
-use Rattle.wild_tables.specs.Dynamic.{entries_bytes, dynamic_bytes}
+use Rattle.wild_table_formats.specs.Strings.{string}
+use Rattle.wild_table_formats.specs.Symbols.{symbol_bytes}
+use Rattle.wild_table_formats.specs.DynamicEntries.{NamedFields, entry_at, no_fields, group_symbols}
+use Rattle.wild_table_formats.proofs.SymbolLemmas.{length-symbol, length-symbol_bytes}
+use Rattle.wild_table_formats.proofs.DynamicLemmas.{length_entry}
+use Rattle.wild_table_formats.specs.DynamicSection.{entries_bytes, dynamic_bytes}
 use Rattle.wild_layout.specs.Content.{file_content, dynamic_room, content}
 use Rattle.wild_layout.specs.TablePlaces.{table_bytes, all_needed}
 use Rattle.wild_layout.specs.Geometry.{IsLaidOut, TablesStand}

@@ -2,7 +2,7 @@
 use Rattle.wild_types.specs.Kinds.{is_partial_link}
 use Rattle.wild_needs.specs.declared.table.Named.{Named}
 use Rattle.wild_needs.specs.declared.table.Named.TheVariants as named
-use Rattle.wild_symbols.specs.declared.table.TableFields.{TableFields}
+use Rattle.wild_table_formats.specs.declared.symbols.TableFields.{TableFields}
 use Rattle.std.specs.Prelude.{Result, Some}
 use Rattle.wild_types.specs.declared.symbol.Place.{Place}
 use Rattle.wild_types.specs.declared.symbol.Place.TheVariants as places
@@ -35,8 +35,8 @@ use Rattle.wild_types.specs.FileRoles.{is_prelude}
 use Rattle.wild_types.specs.Parts.{has_role, role_place, part_with}
 use Rattle.wild_needs.specs.TableSymbols.{has_long, file_items, TableSymbol, item_name, is_local}
 use Rattle.wild_types.specs.Lookups.{has_many_sections, section_of}
-use Rattle.wild_symbols.specs.TableEntries.{NamedEntry, file_table, group_table, index_bytes, is_side, long_indexes, table_fields, named_entry, null_entries, fields_of, table_by, or_none_in_table}
-use Rattle.wild_symbols.specs.TableLaws.{IndexesHave4Bytes}
+use Rattle.wild_table_formats.specs.TableEntries.{NamedEntry, file_table, group_table, index_bytes, is_side, long_indexes, table_fields, named_entry, null_entries, fields_of, table_by, or_none_in_table}
+use Rattle.wild_table_formats.specs.TableLaws.{IndexesHave4Bytes}
 use Rattle.wild_layout.specs.Content.{content, file_content, indexes_of}
 use Rattle.wild_layout.specs.TablePlaces.{table_bytes}
 use Rattle.wild_layout.specs.Geometry.{TablesStand}

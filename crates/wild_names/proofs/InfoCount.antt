@@ -25,12 +25,12 @@ use Rattle.wild_types.specs.FileRoles.{is_prelude}
 use Rattle.wild_types.specs.Lists.{total}
 use Rattle.wild_needs.specs.Needs.{share, group_share}
 use Rattle.wild_needs.specs.TableSymbols.{table_strings, file_items, section_symbols}
-use Rattle.wild_symbols.specs.Symbols.{symbol_bytes}
-use Rattle.wild_symbols.specs.TableEntries.{NamedEntry, is_side, group_table, table_entries, null_entry, null_entries, section_entry, named_entry, file_table}
-use Rattle.wild_symbols.specs.TableLaws.{LengthsOfSides, NamesOfGroups, names_of}
-use Rattle.wild_symbols.proofs.SymbolLemmas.{length-symbol_bytes}
-use Rattle.wild_headers.specs.Headers.{null_header, local_symbols}
-use Rattle.wild_headers.specs.Laws.{SectionHeadersStand}
+use Rattle.wild_table_formats.specs.Symbols.{symbol_bytes}
+use Rattle.wild_table_formats.specs.TableEntries.{NamedEntry, is_side, group_table, table_entries, null_entry, null_entries, section_entry, named_entry, file_table}
+use Rattle.wild_table_formats.specs.TableLaws.{LengthsOfSides, NamesOfGroups, names_of}
+use Rattle.wild_table_formats.proofs.SymbolLemmas.{length-symbol_bytes}
+use Rattle.wild_table_formats.specs.Headers.{null_header, local_symbols}
+use Rattle.wild_table_formats.specs.HeaderLaws.{SectionHeadersStand}
 use Rattle.wild_layout.specs.Content.{file_content, content}
 use Rattle.wild_layout.specs.Image.{bytes}
 use Rattle.wild_names.specs.Laws.{said, side_symbols}

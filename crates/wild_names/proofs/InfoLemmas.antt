@@ -14,9 +14,9 @@ use Rattle.wild_types.specs.declared.part.Role.TheVariants as role
 use Rattle.wild_types.specs.declared.section.Section.{Section}
 use Rattle.wild_types.specs.declared.layout.Layout.{Layout}
 use Rattle.wild_types.specs.Parts.{has_role, part_with}
-use Rattle.wild_headers.specs.Headers.{offset_of_role, section_of_role, size_of_role, null_header, local_symbols, told_of, info_at, section_header, headers_from, section_headers_of, section_header_bytes}
-use Rattle.wild_headers.specs.Laws.{SectionHeadersStand}
-use Rattle.wild_headers.proofs.HeaderLemmas.{length-section_header}
+use Rattle.wild_table_formats.specs.Headers.{offset_of_role, section_of_role, size_of_role, null_header, local_symbols, told_of, info_at, section_header, headers_from, section_headers_of, section_header_bytes}
+use Rattle.wild_table_formats.specs.HeaderLaws.{SectionHeadersStand}
+use Rattle.wild_table_formats.proofs.HeaderLemmas.{length-section_header}
 use Rattle.wild_layout.specs.Geometry.{IsLaidOut}
 use Rattle.wild_layout.specs.Image.{bytes, pieces, padding}
 use Rattle.wild_layout.proofs.LayoutLemmas.{length-padding}

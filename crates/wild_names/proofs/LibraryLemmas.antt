@@ -16,7 +16,7 @@ use Rattle.wild_types.specs.Kinds.{needs_dynamic}
 use Rattle.wild_types.specs.Lookups.{files_of}
 use Rattle.wild_types.proofs.FileLemmas.{library_role}
 use Rattle.wild_needs.specs.Versions.{version_names}
-use Rattle.wild_symbols.specs.Strings.{string, string_bytes}
+use Rattle.wild_table_formats.specs.Strings.{string, string_bytes}
 use Rattle.wild_layout.specs.TablePlaces.{table_bytes, all_needed}
 use Rattle.wild_layout.specs.Geometry.{IsLaidOut}
 use Rattle.wild_names.specs.Laws.{libraries}

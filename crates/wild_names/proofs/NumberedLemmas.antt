@@ -17,7 +17,7 @@ use Rattle.wild_types.specs.FileSymbols.{range_of}
 use Rattle.wild_needs.specs.DynamicStrings.{undefined_symbols}
 use Rattle.wild_needs.specs.DynamicSymbols.{places_where, is_undefined_entry, undefined_in, undefined_entries, dynamic_symbols, listed as indexes_of, first_listed}
 use Rattle.wild_types.specs.Lookups.{files_of}
-use Rattle.wild_symbols.specs.DynamicEntries.{NamedFields, listed, undefined, entry_at}
+use Rattle.wild_table_formats.specs.DynamicEntries.{NamedFields, listed, undefined, entry_at}
 use Rattle.wild_layout.specs.Image.{bytes}
 use Rattle.wild_hashes.specs.declared.image.Part.{Part as Found}
 use Rattle.wild_hashes.specs.Image.{bytes_of}

@@ -7,7 +7,7 @@ use Rattle.wild_types.specs.FilePlaces.{file_misplaced}
 use Rattle.wild_needs.specs.DynamicStrings.{undefined_symbols}
 use Rattle.wild_types.specs.FileRoles.{is_epilogue}
 use Rattle.wild_types.specs.Lookups.{files_of}
-use Rattle.wild_symbols.specs.DynamicEntries.{NamedFields, listed, undefined}
+use Rattle.wild_table_formats.specs.DynamicEntries.{NamedFields, listed, undefined}
 use Rattle.wild_names.specs.Laws.{table_symbols}
 use Rattle.wild_names.proofs.ListOrder.{InOrder, all_in_order, last_defines_none}
 use Rattle.wild_names.proofs.SymbolLemmas.{file_items}

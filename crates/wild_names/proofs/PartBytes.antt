@@ -10,7 +10,7 @@ use Rattle.wild_types.specs.declared.part.Part.{Part}
 use Rattle.wild_types.specs.declared.section.Segment.{Segment}
 use Rattle.wild_types.specs.declared.layout.Layout.{Layout}
 use Rattle.wild_types.specs.Lookups.{image_size}
-use Rattle.wild_headers.specs.Headers.{program_header}
+use Rattle.wild_table_formats.specs.Headers.{program_header}
 use Rattle.wild_layout.specs.Loadable.{Ascends, IsCarriedWhole, SegmentLoads}
 use Rattle.wild_loader.specs.Tables.{has_in_memory}
 use Rattle.wild_hashes.specs.declared.image.Part.{Part as Found}

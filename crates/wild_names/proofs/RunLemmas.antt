@@ -21,8 +21,8 @@ use Rattle.wild_needs.specs.Needs.{share, group_share}
 use Rattle.wild_layout.specs.Content.{file_content, content}
 use Rattle.wild_layout.specs.TablePlaces.{table_bytes}
 use Rattle.wild_layout.specs.Geometry.{IsLaidOut}
-use Rattle.wild_symbols.specs.Strings.{string_bytes}
-use Rattle.wild_symbols.proofs.StringLemmas.{length-string_bytes}
+use Rattle.wild_table_formats.specs.Strings.{string_bytes}
+use Rattle.wild_table_formats.proofs.StringLemmas.{length-string_bytes}
 use Rattle.wild_names.proofs.BesideLemmas.{Belong, belong-append}
 
 -- the bytes of a file's strings

@@ -3,7 +3,7 @@ use Rattle.std.proofs.Common.{◌≡◌, [], ◌++◌, map, Ok}
 use Rattle.wild_words.proofs.ListLemmas.{nil_parts}
 use Rattle.wild_types.specs.declared.layout.GnuHash.{GnuHash}
 use Rattle.wild_types.specs.declared.layout.Layout.{Layout}
-use Rattle.wild_clauses.specs.WellFormed.{first_clause}
+use Rattle.wild_plan_rules.specs.WellFormed.{first_clause}
 use Rattle.wild_records.specs.HashTables.{GnuHashHeaderFits}
 use Rattle.wild_layout.specs.Faults.{errors, part_errors, group_errors, flat_map_from, clause_errors}
 use Rattle.wild_layout.specs.HashShapes.{HasGnuShape}

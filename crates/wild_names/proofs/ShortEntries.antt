@@ -23,10 +23,10 @@ use Rattle.wild_types.specs.Parts.{part_with}
 use Rattle.wild_types.specs.SymbolSlots.{got_of, plt_of}
 use Rattle.wild_needs.specs.TableSymbols.{TableSymbol, file_items, section_symbols}
 use Rattle.wild_types.specs.Lookups.{has_table}
-use Rattle.wild_symbols.specs.declared.table.TableFields.{TableFields}
-use Rattle.wild_symbols.specs.declared.writer.SymbolAttributes.{SymbolAttributes}
-use Rattle.wild_symbols.specs.DynamicFields.{common_section, part_section, section_named, some_section, stands_as_stub, stub_or_zero}
-use Rattle.wild_symbols.specs.TableEntries.{NamedEntry, at_address, counted_from, fields_of, file_table, first_or, group_table, in_table_section, is_side, named_entry, no_attributes, thunk_attributes, null_entries, null_entry, section_entry, or_none_in_table, slot_role, table_at, table_attributes, table_by, table_canonical, table_fields, table_placed, table_value, with_function}
+use Rattle.wild_table_formats.specs.declared.symbols.TableFields.{TableFields}
+use Rattle.wild_table_formats.specs.declared.symbols.SymbolAttributes.{SymbolAttributes}
+use Rattle.wild_table_formats.specs.DynamicFields.{common_section, part_section, section_named, some_section, stands_as_stub, stub_or_zero}
+use Rattle.wild_table_formats.specs.TableEntries.{NamedEntry, at_address, counted_from, fields_of, file_table, first_or, group_table, in_table_section, is_side, named_entry, no_attributes, thunk_attributes, null_entries, null_entry, section_entry, or_none_in_table, slot_role, table_at, table_attributes, table_by, table_canonical, table_fields, table_placed, table_value, with_function}
 use Rattle.wild_names.specs.IndexLaws.{side_table}
 
 -- the index is 0 where st_shndx does not send to it

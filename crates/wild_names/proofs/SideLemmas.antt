@@ -24,13 +24,13 @@ use Rattle.wild_types.specs.Parts.{role_place}
 use Rattle.wild_types.specs.Lookups.{has_table}
 use Rattle.wild_types.proofs.FileLemmas.{same_bool}
 use Rattle.wild_needs.specs.TableSymbols.{file_items, table_strings, section_symbols}
-use Rattle.wild_symbols.specs.DynamicEntries.{entry_at, no_fields}
-use Rattle.wild_symbols.specs.Strings.{string, string_bytes}
-use Rattle.wild_symbols.specs.Symbols.{symbol_bytes}
-use Rattle.wild_symbols.specs.TableEntries.{NamedEntry, is_side, name_at, behind_name, side_entries, section_entry, named_entry, file_table, group_table, table_entries}
-use Rattle.wild_symbols.specs.TableLaws.{names_of, NamesOfGroups, TellsName}
-use Rattle.wild_symbols.proofs.StringLemmas.{length-string_bytes}
-use Rattle.wild_symbols.proofs.SymbolLemmas.{length-symbol_bytes}
+use Rattle.wild_table_formats.specs.DynamicEntries.{entry_at, no_fields}
+use Rattle.wild_table_formats.specs.Strings.{string, string_bytes}
+use Rattle.wild_table_formats.specs.Symbols.{symbol_bytes}
+use Rattle.wild_table_formats.specs.TableEntries.{NamedEntry, is_side, name_at, behind_name, side_entries, section_entry, named_entry, file_table, group_table, table_entries}
+use Rattle.wild_table_formats.specs.TableLaws.{names_of, NamesOfGroups, TellsName}
+use Rattle.wild_table_formats.proofs.StringLemmas.{length-string_bytes}
+use Rattle.wild_table_formats.proofs.SymbolLemmas.{length-symbol_bytes}
 use Rattle.wild_layout.specs.Content.{file_content, content}
 use Rattle.wild_layout.specs.TablePlaces.{table_bytes}
 use Rattle.wild_layout.specs.Geometry.{IsLaidOut, TablesStand}

@@ -18,9 +18,9 @@ use Rattle.wild_types.specs.FileRoles.{is_prelude, is_epilogue}
 use Rattle.wild_types.specs.Kinds.{needs_dynsym}
 use Rattle.wild_types.specs.Lookups.{files_of}
 use Rattle.wild_needs.specs.Versions.{version_names}
-use Rattle.wild_symbols.specs.Strings.{string, string_bytes}
-use Rattle.wild_symbols.proofs.StringLemmas.{length-string_bytes}
-use Rattle.wild_symbols.specs.DynamicEntries.{NamedFields, listed, undefined, file_symbols, entry_at, no_fields, entries_at, null_entries, behind_lead, file_entries, entries_from, group_symbols}
+use Rattle.wild_table_formats.specs.Strings.{string, string_bytes}
+use Rattle.wild_table_formats.proofs.StringLemmas.{length-string_bytes}
+use Rattle.wild_table_formats.specs.DynamicEntries.{NamedFields, listed, undefined, file_symbols, entry_at, no_fields, entries_at, null_entries, behind_lead, file_entries, entries_from, group_symbols}
 use Rattle.wild_layout.specs.TablePlaces.{table_bytes}
 use Rattle.wild_layout.specs.Geometry.{IsLaidOut}
 use Rattle.wild_names.proofs.BesideLemmas.{Belong, belong-append}

@@ -17,8 +17,8 @@ use Rattle.wild_types.specs.Kinds.{needs_dynsym}
 use Rattle.wild_types.specs.Parts.{role_place, part_with}
 use Rattle.wild_types.proofs.FileLemmas.{same_bool}
 use Rattle.wild_needs.specs.Versions.{version_names}
-use Rattle.wild_symbols.specs.Strings.{string_bytes}
-use Rattle.wild_symbols.proofs.SymbolLemmas.{length-symbol_bytes}
+use Rattle.wild_table_formats.specs.Strings.{string_bytes}
+use Rattle.wild_table_formats.proofs.SymbolLemmas.{length-symbol_bytes}
 use Rattle.wild_layout.specs.Content.{content}
 use Rattle.wild_layout.specs.TablePlaces.{table_bytes}
 use Rattle.wild_layout.specs.Geometry.{IsLaidOut}

@@ -18,11 +18,12 @@ use Rattle.wild_types.specs.Kinds.{needs_dynsym}
 use Rattle.wild_types.specs.Lookups.{files_of}
 use Rattle.wild_types.proofs.FileLemmas.{last_role}
 use Rattle.wild_needs.specs.Versions.{size_with, definitions_size}
-use Rattle.wild_symbols.specs.Strings.{string}
-use Rattle.wild_versions.specs.Chain.{name_at}
-use Rattle.wild_versions.specs.Definitions.{known_as, definition_table}
-use Rattle.wild_versions.specs.Laws.{LengthsOfDefinitions, DefinitionsAreRead, DefinitionsAreNamed}
-use Rattle.wild_versions.specs.Names.{definition_offsets, file_definitions}
+use Rattle.wild_table_formats.specs.Strings.{string}
+use Rattle.wild_table_formats.specs.VersionChain.{name_at}
+use Rattle.wild_table_formats.specs.VersionDefinitions.{known_as, definition_table}
+use Rattle.wild_names.specs.VersionNames.{DefinitionsAreNamed}
+use Rattle.wild_table_formats.specs.VersionLaws.{LengthsOfDefinitions, DefinitionsAreRead}
+use Rattle.wild_table_formats.specs.VersionNames.{definition_offsets, file_definitions}
 use Rattle.wild_layout.specs.Content.{file_content, content}
 use Rattle.wild_layout.specs.Geometry.{IsLaidOut, TablesStand}
 use Rattle.wild_layout.specs.TablePlaces.{table_bytes}

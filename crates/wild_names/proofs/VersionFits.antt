@@ -18,10 +18,11 @@ use Rattle.wild_types.specs.Lists.{total}
 use Rattle.wild_types.specs.Lookups.{files_of}
 use Rattle.wild_needs.specs.Versions.{need_size, needs_of, need_count, length_of, file_versions, versions_needed, most_versions}
 use Rattle.wild_types.proofs.ListLemmas.{total-prefix}
-use Rattle.wild_symbols.specs.Strings.{string}
-use Rattle.wild_versions.specs.Chain.{name_at}
-use Rattle.wild_versions.specs.Laws.{LengthsOfNeeds, Need, NeedFits, needs_bytes, NeedsAreRead, NeedsAreNamed}
-use Rattle.wild_versions.specs.Needs.{need_bytes}
+use Rattle.wild_table_formats.specs.Strings.{string}
+use Rattle.wild_table_formats.specs.VersionChain.{name_at}
+use Rattle.wild_names.specs.VersionNames.{NeedsAreNamed}
+use Rattle.wild_table_formats.specs.VersionLaws.{LengthsOfNeeds, Need, NeedFits, needs_bytes, NeedsAreRead}
+use Rattle.wild_table_formats.specs.VersionNeeds.{need_bytes}
 use Rattle.wild_layout.specs.Geometry.{IsLaidOut, TablesStand}
 use Rattle.wild_layout.specs.TablePlaces.{table_bytes}
 use Rattle.wild_layout.specs.Image.{bytes}

@@ -13,9 +13,9 @@ use Rattle.wild_types.specs.Lists.{through}
 use Rattle.wild_types.specs.Lookups.{files_of}
 use Rattle.wild_types.proofs.FileLemmas.{same_bool}
 use Rattle.wild_needs.specs.Versions.{needs_of, has_needs, need_count}
-use Rattle.wild_clauses.specs.VersionTables.{mark_fits, mark_by, mark_step, needs_in, mark_astray}
-use Rattle.wild_versions.specs.Laws.{Need, EndsOnce}
-use Rattle.wild_versions.specs.Names.{library_offset, need_offsets}
+use Rattle.wild_plan_rules.specs.VersionTables.{mark_fits, mark_by, mark_step, needs_in, mark_astray}
+use Rattle.wild_table_formats.specs.VersionLaws.{Need, EndsOnce}
+use Rattle.wild_table_formats.specs.VersionNames.{library_offset, need_offsets}
 use Rattle.wild_layout.specs.Geometry.{IsLaidOut}
 use Rattle.wild_names.proofs.RunLemmas.{gathered}
 

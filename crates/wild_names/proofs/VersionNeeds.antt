@@ -17,11 +17,12 @@ use Rattle.wild_needs.specs.DynamicStrings.{behind_text, behind_file}
 use Rattle.wild_types.specs.FileRoles.{is_prelude}
 use Rattle.wild_types.specs.Kinds.{needs_dynsym}
 use Rattle.wild_needs.specs.Versions.{needed_names, needs_of}
-use Rattle.wild_symbols.specs.Strings.{string}
-use Rattle.wild_versions.specs.Chain.{name_at}
-use Rattle.wild_versions.specs.Laws.{Need, needs_bytes, NeedsAreNamed}
-use Rattle.wild_versions.specs.Names.{behind_entries, library_offset, need_offsets, need_at, need_of, needs_from, group_needs}
-use Rattle.wild_versions.specs.Needs.{need_bytes}
+use Rattle.wild_table_formats.specs.Strings.{string}
+use Rattle.wild_table_formats.specs.VersionChain.{name_at}
+use Rattle.wild_names.specs.VersionNames.{NeedsAreNamed}
+use Rattle.wild_table_formats.specs.VersionLaws.{Need, needs_bytes}
+use Rattle.wild_table_formats.specs.VersionNames.{behind_entries, library_offset, need_offsets, need_at, need_of, needs_from, group_needs}
+use Rattle.wild_table_formats.specs.VersionNeeds.{need_bytes}
 use Rattle.wild_layout.specs.Content.{file_content, content}
 use Rattle.wild_layout.specs.Geometry.{IsLaidOut}
 use Rattle.wild_layout.specs.TablePlaces.{table_bytes}

@@ -5,7 +5,7 @@ use Rattle.wild_types.specs.declared.file.File.{File}
 use Rattle.wild_types.specs.declared.layout.Layout.{Layout}
 use Rattle.wild_needs.specs.DynamicStrings.{behind_text, string_start}
 use Rattle.wild_needs.specs.Versions.{version_names}
-use Rattle.wild_versions.specs.Names.{offsets_from, behind_entries, behind_path, with_own, definition_offsets}
+use Rattle.wild_table_formats.specs.VersionNames.{offsets_from, behind_entries, behind_path, with_own, definition_offsets}
 
 pub offsets_small : (at : ℕ) (ts : List (List ℕ)) → All (λ x. x < 2 ^ 32) (offsets_from at ts)
 unfolding offsets_from

@@ -16,9 +16,9 @@ use Rattle.wild_needs.specs.DynamicStrings.{undefined_symbols}
 use Rattle.wild_needs.specs.DynamicSymbols.{is_undefined_entry}
 use Rattle.wild_types.specs.FileRoles.{is_library}
 use Rattle.wild_types.specs.Lookups.{files_of}
-use Rattle.wild_symbols.specs.DynamicEntries.{listed, undefined}
-use Rattle.wild_versions.specs.Laws.{LengthsOfVersions, VersionsAreRead}
-use Rattle.wild_versions.specs.Symbols.{version_bytes, version_of, listed_version}
+use Rattle.wild_table_formats.specs.DynamicEntries.{listed, undefined}
+use Rattle.wild_table_formats.specs.VersionLaws.{LengthsOfVersions, VersionsAreRead}
+use Rattle.wild_table_formats.specs.SymbolVersions.{version_bytes, version_of, listed_version}
 use Rattle.wild_layout.specs.Geometry.{TablesStand}
 use Rattle.wild_layout.specs.Image.{bytes}
 use Rattle.wild_names.specs.Laws.{table_symbols}

@@ -14,7 +14,7 @@ use Rattle.wild_needs.specs.DynamicStrings.{file_strings, behind_file, start_amo
 use Rattle.wild_types.specs.FileRoles.{is_epilogue}
 use Rattle.wild_types.specs.Kinds.{needs_dynsym}
 use Rattle.wild_types.specs.Lists.{total}
-use Rattle.wild_symbols.proofs.StringLemmas.{length-string_bytes}
+use Rattle.wild_table_formats.proofs.StringLemmas.{length-string_bytes}
 use Rattle.wild_layout.specs.Content.{content}
 use Rattle.wild_layout.specs.Geometry.{IsLaidOut}
 use Rattle.wild_layout.specs.TablePlaces.{table_bytes, bytes_before}

@@ -13,8 +13,8 @@ use Rattle.wild_needs.specs.DynamicStrings.{undefined_symbols}
 use Rattle.wild_types.specs.FileRoles.{is_prelude, is_epilogue}
 use Rattle.wild_types.specs.Kinds.{needs_dynsym}
 use Rattle.wild_types.specs.Lookups.{files_of}
-use Rattle.wild_versions.specs.Names.{symbol_versions}
-use Rattle.wild_versions.specs.Symbols.{spelled, version_bytes, version_of, listed_version, file_versions}
+use Rattle.wild_table_formats.specs.VersionNames.{symbol_versions}
+use Rattle.wild_table_formats.specs.SymbolVersions.{spelled, version_bytes, version_of, listed_version, file_versions}
 use Rattle.wild_layout.specs.Content.{file_content, content}
 use Rattle.wild_layout.specs.Geometry.{IsLaidOut}
 use Rattle.wild_layout.specs.TablePlaces.{table_bytes}

@@ -5,7 +5,7 @@
 use Rattle.wild_records.specs.Dynamic.{DynamicEntryIsRead}
 use Rattle.wild_records.specs.FileHeader.{FileHeaderIsRead}
 use Rattle.wild_records.specs.ProgramHeader.{ProgramHeaderIsRead}
-use Rattle.wild_tables.specs.Dynamic.{EntriesAreFound, NeededAreOfLibraries}
+use Rattle.wild_table_formats.specs.DynamicSection.{EntriesAreFound, NeededAreOfLibraries}
 use Rattle.wild_layout.specs.Geometry.{LayoutsAreLaidOut, TablesStand}
 use Rattle.wild_loaded.specs.Laws.{HeadersStand, DynamicSectionsStand}
 use Rattle.wild_names.specs.Laws.{SymbolTablesAreThere, SymbolsStand}

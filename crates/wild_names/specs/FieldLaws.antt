@@ -16,11 +16,11 @@ use Rattle.wild_types.specs.declared.layout.Layout.{Layout}
 use Rattle.wild_types.specs.Kinds.{needs_dynsym, is_partial_link}
 use Rattle.wild_types.specs.Parts.{part_with}
 use Rattle.wild_needs.specs.TableSymbols.{TableSymbol, file_items, item_name, is_local}
-use Rattle.wild_symbols.specs.declared.dynamic.SymbolFields.{SymbolFields}
-use Rattle.wild_symbols.specs.declared.table.TableFields.{TableFields}
-use Rattle.wild_symbols.specs.DynamicEntries.{NamedFields, listed}
-use Rattle.wild_symbols.specs.DynamicFields.{listed_fields}
-use Rattle.wild_symbols.specs.TableEntries.{NamedEntry, table_fields, named_entry}
+use Rattle.wild_table_formats.specs.declared.symbols.SymbolFields.{SymbolFields}
+use Rattle.wild_table_formats.specs.declared.symbols.TableFields.{TableFields}
+use Rattle.wild_table_formats.specs.DynamicEntries.{NamedFields, listed}
+use Rattle.wild_table_formats.specs.DynamicFields.{listed_fields}
+use Rattle.wild_table_formats.specs.TableEntries.{NamedEntry, table_fields, named_entry}
 use Rattle.wild_layout.specs.Faults.{errors}
 use Rattle.wild_layout.specs.Geometry.{IsLaidOut}
 use Rattle.wild_layout.specs.Image.{bytes}

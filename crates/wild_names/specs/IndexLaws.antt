@@ -16,7 +16,7 @@ use Rattle.wild_types.specs.declared.layout.Layout.{Layout}
 use Rattle.wild_needs.specs.Needs.{long_index_size}
 use Rattle.wild_types.specs.Lookups.{is_hollow_at}
 use Rattle.wild_types.specs.Parts.{part_with}
-use Rattle.wild_symbols.specs.TableEntries.{NamedEntry, is_side, group_table}
+use Rattle.wild_table_formats.specs.TableEntries.{NamedEntry, is_side, group_table}
 use Rattle.wild_layout.specs.Image.{bytes}
 use Rattle.wild_layout.specs.Geometry.{IsLaidOut}
 use Rattle.wild_names.specs.Laws.{said, side_symbols}

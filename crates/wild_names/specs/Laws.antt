@@ -25,9 +25,9 @@ use Rattle.wild_types.specs.FileRoles.{is_library}
 use Rattle.wild_types.specs.Kinds.{needs_dynsym, needs_dynamic}
 use Rattle.wild_types.specs.Lookups.{files_of, has_table, is_hollow_at}
 use Rattle.wild_types.specs.Parts.{part_with}
-use Rattle.wild_symbols.specs.declared.dynamic.SymbolFields.{SymbolFields}
-use Rattle.wild_symbols.specs.DynamicEntries.{NamedFields, undefined, listed, entry_at}
-use Rattle.wild_symbols.specs.TableEntries.{NamedEntry, is_side, group_table}
+use Rattle.wild_table_formats.specs.declared.symbols.SymbolFields.{SymbolFields}
+use Rattle.wild_table_formats.specs.DynamicEntries.{NamedFields, undefined, listed, entry_at}
+use Rattle.wild_table_formats.specs.TableEntries.{NamedEntry, is_side, group_table}
 use Rattle.wild_layout.specs.Image.{bytes}
 use Rattle.wild_layout.specs.Geometry.{IsLaidOut}
 

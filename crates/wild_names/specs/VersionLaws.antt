@@ -26,11 +26,11 @@ use Rattle.wild_types.specs.Lists.{total}
 use Rattle.wild_types.specs.Lookups.{files_of, is_hollow_at}
 use Rattle.wild_types.specs.Parts.{part_with}
 use Rattle.wild_needs.specs.Versions.{definitions_size, need_size, needs_of}
-use Rattle.wild_versions.specs.Chain.{name_at}
-use Rattle.wild_versions.specs.Definitions.{known_as}
-use Rattle.wild_versions.specs.Laws.{all_defined, Need, library_of}
-use Rattle.wild_versions.specs.Reading.{definitions_from, needs_from}
-use Rattle.wild_versions.specs.Symbols.{version_of, listed_version}
+use Rattle.wild_table_formats.specs.VersionChain.{name_at}
+use Rattle.wild_table_formats.specs.VersionDefinitions.{known_as}
+use Rattle.wild_table_formats.specs.VersionLaws.{all_defined, Need, library_of}
+use Rattle.wild_table_formats.specs.VersionReading.{definitions_from, needs_from}
+use Rattle.wild_table_formats.specs.SymbolVersions.{version_of, listed_version}
 use Rattle.wild_layout.specs.Geometry.{IsLaidOut}
 use Rattle.wild_layout.specs.Image.{bytes}
 use Rattle.wild_names.specs.Laws.{table_symbols, IsNamed}

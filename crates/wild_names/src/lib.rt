@@ -15,15 +15,17 @@ use wild_headers::headers_are_read;
 use wild_loaded::{dynamic_sections_stand, headers_stand};
 use wild_records::{dynamic_entry_is_read, file_header_is_read, program_header_is_read};
 use wild_symbols::{entries_are_counted, names_are_strings};
-use wild_tables::dynamic_sections_are_read;
-use wild_versions::{
-    definitions_are_read, needs_are_read, symbol_versions_are_read, versions_are_named,
-};
+use wild_table_formats::dynamic_sections_are_read;
+use wild_versions::{definitions_are_read, needs_are_read, symbol_versions_are_read};
 use wild_words::fields_of_records;
 
 mod numbers;
+mod objects;
+mod versions;
 
 pub use numbers::version_numbers_fit;
+pub use objects::{object_tables_are_read, relinking_is_faithful};
+pub use versions::{entries_have_versions, versions_are_named};
 
 /// There are a dynamic symbol table and its strings. If both are written, each symbol has its entry, in order, and its name is at
 /// the offset in the entry.

@@ -12,7 +12,7 @@ use Rattle.wild_needs.specs.declared.table.Count.{Count}
 use Rattle.wild_needs.specs.DynamicStrings.{text_room}
 use Rattle.wild_needs.specs.TableSymbols.{TableSymbol, item_name, is_on, side, prefix, suffix, full_name}
 use Rattle.wild_needs.specs.TableCounts.{taken, Counts}
-use Rattle.wild_walk.specs.Runs.{Ran, none, more}
+use Rattle.wild_words.specs.Runs.{Ran, none, more}
 
 -- a name's bytes, with the zero behind it
 pub name_room : (named : Named) (s : Symbol) → text_room (full_name named s.name) ≡ text_room s.name + (length (prefix named) + length (suffix named))

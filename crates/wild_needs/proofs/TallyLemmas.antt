@@ -20,7 +20,7 @@ use Rattle.wild_types.specs.Lists.{total}
 use Rattle.wild_types.specs.Lookups.{is_frame, is_read, has_relocations, allocated}
 use Rattle.wild_types.proofs.ListLemmas.{total-append}
 use Rattle.wild_slot.specs.Treatment.{treatment}
-use Rattle.wild_walk.specs.Runs.{Ran, none, more}
+use Rattle.wild_words.specs.Runs.{Ran, none, more}
 use Rattle.wild_laid.specs.Turned.{as_turned}
 use Rattle.wild_laid.specs.Laid.{Input, sorted_input, as_loaded, unread, tabled, laid_by, framed, frame_flags, behind, laid_section, laid_sections}
 use Rattle.wild_laid.specs.FrameInputs.{kept_size}

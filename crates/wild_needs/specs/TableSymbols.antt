@@ -39,7 +39,7 @@ use Rattle.wild_types.specs.FileThunks.{thunks_of}
 use Rattle.wild_types.specs.SymbolSlots.{names_slot, names_stub}
 use Rattle.wild_types.specs.Kinds.{is_partial_link}
 use Rattle.wild_types.specs.Lookups.{has_table, has_many_sections, files_of}
-use Rattle.wild_walk.specs.Runs.{numbered}
+use Rattle.wild_words.specs.Runs.{numbered}
 
 -- ---- symbols
 

@@ -15,7 +15,7 @@ use std::convert::Infallible;
 use wild_laid::{frame_flags, give_relocations, give_turned, kept_size, sorted_input};
 use wild_relr::{Run, runs_are_counted};
 use wild_types::{File, InputRelocation, InputSection, Layout, SortedSection, is_allocated};
-use wild_walk::Sink;
+use wild_words::Sink;
 
 /// The kind of item that is counted.
 #[derive(Clone, Copy)]

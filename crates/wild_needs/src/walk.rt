@@ -4,7 +4,7 @@ ghost use Rattle.std.specs.Prelude.{[], if◌then◌else◌};
 ghost use Rattle.std.specs.List.{flat_map};
 ghost use Rattle.wild_types.specs.FileSymbols.{loaded_symbols};
 ghost use Rattle.wild_needs.specs.TableSymbols.{item, where_asked, slot_items, own_item, symbol_items, pass_items, passes, items_of, thunk_item, thunk_items, file_items};
-ghost use Rattle.wild_walk.specs.Runs.{Ran};
+ghost use Rattle.wild_words.specs.Runs.{Ran};
 
 use crate::table::{Named, Pass, passes};
 use wild_types::{File, Layout, Symbol, Thunk};
@@ -13,7 +13,7 @@ use wild_types::{File, Layout, Symbol, Thunk};
 pub trait TableSink {
     ghost use Rattle.std.specs.Prelude.{[], ◌∷◌};
     ghost use Rattle.wild_needs.specs.TableSymbols.{TableSymbol, item};
-    ghost use Rattle.wild_walk.specs.Runs.{Ran};
+    ghost use Rattle.wild_words.specs.Runs.{Ran};
 
     /// Why a symbol is refused.
     type Error: Drop;
@@ -31,7 +31,7 @@ pub trait TableSink {
 
 /// Passes a symbol, or the name of its slot or its stub, if `.symtab` contains it.
 #[inline(always)]
-#[tactic(auto, using(wild_walk::proofs::RunLemmas::runs))]
+#[tactic(auto, using(wild_words::proofs::RunLemmas::runs))]
 fn give_asked<S: TableSink>(
     asked: bool,
     named: Named,
@@ -50,7 +50,7 @@ fn give_asked<S: TableSink>(
 
 /// Passes the names of a symbol's slot and its stub.
 #[inline(always)]
-#[tactic(auto, using(wild_walk::proofs::RunLemmas::runs))]
+#[tactic(auto, using(wild_words::proofs::RunLemmas::runs))]
 fn give_slots<S: TableSink>(
     layout: &Layout,
     index: usize,
@@ -67,7 +67,7 @@ fn give_slots<S: TableSink>(
 
 /// As `give_slots`, if the pass takes them.
 #[inline(always)]
-#[tactic(auto, using(wild_walk::proofs::RunLemmas::runs))]
+#[tactic(auto, using(wild_words::proofs::RunLemmas::runs))]
 fn give_slots_in<S: TableSink>(
     layout: &Layout,
     pass: Pass,
@@ -86,7 +86,7 @@ fn give_slots_in<S: TableSink>(
 
 /// Passes the symbol itself, if the pass takes it.
 #[inline(always)]
-#[tactic(auto, using(wild_walk::proofs::RunLemmas::runs))]
+#[tactic(auto, using(wild_words::proofs::RunLemmas::runs))]
 fn give_own_in<S: TableSink>(
     pass: Pass,
     index: usize,
@@ -101,7 +101,7 @@ fn give_own_in<S: TableSink>(
 
 /// Passes all names of a symbol that a pass takes.
 #[inline(always)]
-#[tactic(auto, using(wild_walk::proofs::RunLemmas::runs))]
+#[tactic(auto, using(wild_words::proofs::RunLemmas::runs))]
 fn give_symbol<S: TableSink>(
     layout: &Layout,
     pass: Pass,
@@ -117,7 +117,7 @@ fn give_symbol<S: TableSink>(
 
 /// Passes all names of a file's symbols that a pass takes.
 #[inline(always)]
-#[tactic(auto, using(wild_walk::proofs::RunLemmas::numbered_loops))]
+#[tactic(auto, using(wild_words::proofs::RunLemmas::numbered_loops))]
 fn give_pass<S: TableSink>(
     layout: &Layout,
     pass: Pass,
@@ -136,7 +136,7 @@ fn give_pass<S: TableSink>(
 
 /// Passes all names of a file's symbols, pass by pass.
 #[inline(always)]
-#[tactic(auto, using(wild_walk::proofs::RunLemmas::runs, wild_walk::proofs::RunLemmas::copied_loops))]
+#[tactic(auto, using(wild_words::proofs::RunLemmas::runs, wild_words::proofs::RunLemmas::copied_loops))]
 fn give_symbols<S: TableSink>(layout: &Layout, file: &File, sink: &mut S) -> Result<(), S::Error>
     ensures { Ran S.goes S.refuses sink.old (items_of layout.now (passes layout.now.kind file.now.role) file.now) result sink.new }
 {
@@ -147,7 +147,7 @@ fn give_symbols<S: TableSink>(layout: &Layout, file: &File, sink: &mut S) -> Res
 }
 
 /// Passes the name of a thunk, if its symbol is in the list of symbols.
-#[tactic(auto, using(wild_walk::proofs::RunLemmas::runs))]
+#[tactic(auto, using(wild_words::proofs::RunLemmas::runs))]
 fn give_thunk<S: TableSink>(layout: &Layout, thunk: Thunk, sink: &mut S) -> Result<(), S::Error>
     ensures { Ran S.goes S.refuses sink.old (thunk_item layout.now thunk) result sink.new }
 {
@@ -158,7 +158,7 @@ fn give_thunk<S: TableSink>(layout: &Layout, thunk: Thunk, sink: &mut S) -> Resu
 }
 
 /// Passes the names of the thunks that a file writes.
-#[tactic(auto, using(wild_walk::proofs::RunLemmas::runs, wild_walk::proofs::RunLemmas::listed_loops))]
+#[tactic(auto, using(wild_words::proofs::RunLemmas::runs, wild_words::proofs::RunLemmas::listed_loops))]
 fn give_thunks<S: TableSink>(layout: &Layout, file: &File, sink: &mut S) -> Result<(), S::Error>
     ensures { Ran S.goes S.refuses sink.old (thunk_items layout.now file.now) result sink.new }
 {
@@ -170,7 +170,7 @@ fn give_thunks<S: TableSink>(layout: &Layout, file: &File, sink: &mut S) -> Resu
 
 /// Passes the symbols of a file for `.symtab`, until one is refused.
 #[inline]
-#[tactic(auto, using(wild_walk::proofs::RunLemmas::runs), unfolding(crate::specs::TableSymbols::file_items))]
+#[tactic(auto, using(wild_words::proofs::RunLemmas::runs), unfolding(crate::specs::TableSymbols::file_items))]
 pub fn give_table<S: TableSink>(layout: &Layout, file: &File, sink: &mut S) -> Result<(), S::Error>
     ensures { Ran S.goes S.refuses sink.old (file_items layout.now file.now) result sink.new }
 {

@@ -8,7 +8,7 @@ use Rattle.wild_types.specs.declared.layout.Layout.{Layout}
 use Rattle.wild_types.specs.Flags.{has_flag, canonical_plt}
 use Rattle.wild_types.specs.ResolvedFlags.{HasItsFlags}
 use Rattle.wild_types.specs.SymbolSlots.{resolved_got, plt_of, resolved_plt, has_dynamic_symbol, has_thread_slot}
-use Rattle.wild_clauses.proofs.ClauseLemmas.{not_thread}
+use Rattle.wild_plan_rules.proofs.ClauseLemmas.{not_thread}
 use Rattle.wild_slot.specs.declared.slot.SlotItem.{SlotItem}
 use Rattle.wild_slot.specs.declared.slot.SlotItem.TheVariants.{Word}
 use Rattle.wild_slot.specs.declared.slot.SlotWord.{SlotWord}

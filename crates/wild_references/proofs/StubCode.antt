@@ -29,7 +29,7 @@ use Rattle.wild_types.specs.declared.kind.Machine.TheVariants as machine
 use Rattle.wild_types.specs.declared.symbol.Symbol.{Symbol}
 use Rattle.wild_types.specs.declared.layout.Layout.{Layout}
 use Rattle.wild_types.specs.SymbolSlots.{got_of}
-use Rattle.wild_clauses.specs.SlotPlaces.{is_even_slot, slot_is_even}
+use Rattle.wild_plan_rules.specs.SlotPlaces.{is_even_slot, slot_is_even}
 use Rattle.wild_slot.specs.MachineStub.{stub_of, stub_in}
 use Rattle.wild_slot.proofs.StubLemmas.{length-stub_of}
 use Rattle.wild_meaning.specs.Linked.{processor_of}

@@ -26,7 +26,7 @@ use Rattle.wild_layout.specs.Merged.{is_section_symbol, strings_by, strings_of, 
 use Rattle.wild_layout.proofs.MergedLemmas.{HaveNoStrings, none_named, none_merged}
 use Rattle.wild_sections.specs.declared.owner.Owner.{Owner}
 use Rattle.wild_sections.specs.Strings.{offsets_ascend, section_ascends, all_ascend}
-use Rattle.wild_clauses.specs.Survey.{is_other_slot, is_unmerged, are_unmerged}
+use Rattle.wild_plan_rules.specs.MergedSections.{is_other_slot, is_unmerged, are_unmerged}
 use Rattle.wild_sections.specs.Owners.{owner_in, owner_among, file_at, asks_owners, HasOwners}
 
 -- ---- places of files

@@ -11,7 +11,7 @@ use Rattle.wild_types.specs.declared.layout.Layout.{Layout}
 use Rattle.wild_needs.specs.DynamicSymbols.{output_section}
 use Rattle.wild_types.specs.Kinds.{needs_dynsym}
 use Rattle.wild_types.specs.Lookups.{files_of}
-use Rattle.wild_symbols.specs.DynamicFields.{role_of}
+use Rattle.wild_table_formats.specs.DynamicFields.{role_of}
 use Rattle.wild_sections.specs.declared.home.Home.{Home}
 use Rattle.wild_symbols.specs.SymbolNumbers.{found}
 

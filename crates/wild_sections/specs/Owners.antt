@@ -12,7 +12,7 @@ use Rattle.wild_types.specs.declared.layout.Layout.{Layout}
 use Rattle.wild_types.specs.Kinds.{is_partial_link}
 use Rattle.wild_laid.specs.FrameInputs.{has_symbol}
 use Rattle.wild_sections.specs.declared.owner.Owner.{Owner}
-use Rattle.wild_clauses.specs.Survey.{are_unmerged}
+use Rattle.wild_plan_rules.specs.MergedSections.{are_unmerged}
 
 -- position o, if the file there has symbol k
 abbrev pub owned_by : Owner → File → ℕ → Option Owner

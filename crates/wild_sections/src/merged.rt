@@ -6,7 +6,7 @@ ghost use Rattle.wild_types.specs.declared.file.Group.{Group};
 ghost use Rattle.wild_types.specs.declared.input.InputSection.{InputSection};
 ghost use Rattle.wild_layout.specs.Merged.{is_section_symbol, is_plain_own, strings_in, string_before, string_place};
 ghost use Rattle.wild_sections.specs.Strings.{offsets_ascend, section_ascends, later};
-ghost use Rattle.wild_clauses.specs.Survey.{is_unmerged};
+ghost use Rattle.wild_plan_rules.specs.MergedSections.{is_unmerged};
 
 use wild_records::abi::symbol::STT_SECTION;
 use wild_types::{

@@ -3,9 +3,9 @@
 ghost use Rattle.std.specs.Prelude.{◌≡◌, ℕ, ◌<◌, true, false, List, [], length, map, Option, IfOk, IfSome, Some, None, replicate, slice_get, option_copied, option_map, option_and_then};
 ghost use Rattle.std.specs.List.{range_with_len};
 ghost use Rattle.wild_types.specs.Kinds.{needs_dynsym, is_partial_link};
-ghost use Rattle.wild_symbols.specs.SectionSymbols.{symbol_index};
+ghost use Rattle.wild_table_formats.specs.SectionSymbols.{symbol_index};
 ghost use Rattle.wild_types.specs.Lookups.{files_of, file_of};
-ghost use Rattle.wild_symbols.specs.DynamicFields.{named_sections};
+ghost use Rattle.wild_table_formats.specs.DynamicFields.{named_sections};
 ghost use Rattle.wild_sections.specs.Placed.{address_in, decided};
 ghost use Rattle.wild_sections.specs.Homes.{home_of, HasHomes};
 ghost use Rattle.wild_types.specs.Addresses.{raw_value};
@@ -16,7 +16,7 @@ ghost use Rattle.wild_layout.specs.Merged.{is_plain_own, merged_strings, names_m
 ghost use Rattle.wild_types.specs.declared.input.MergedString.{MergedString};
 ghost use Rattle.wild_types.specs.declared.input.InputSection.{InputSection};
 ghost use Rattle.wild_sections.specs.Strings.{all_ascend, section_ascends};
-ghost use Rattle.wild_clauses.specs.Survey.{are_unmerged};
+ghost use Rattle.wild_plan_rules.specs.MergedSections.{are_unmerged};
 ghost use Rattle.wild_sections.specs.Owners.{HasOwners, owner_among, asks_owners};
 ghost use Rattle.wild_sections.specs.Targets.{HasTargets};
 ghost use Rattle.wild_sections.specs.Indexes.{HasIndexes};
@@ -30,7 +30,7 @@ use std::alloc::{AllocError, Global};
 use std::marker::PhantomData;
 use wild_relax::Arch;
 use wild_slot::flags_at;
-use wild_symbols::{NamedSections, build_sym_index_map};
+use wild_symbols::{NamedSections, build_sym_index_map, named_sections};
 use wild_types::{File, InputSection, Layout, Symbol, SymbolIndex, all_pass};
 
 /// The value in the resolution of the symbol's definition.
@@ -195,7 +195,7 @@ impl<'a, A: Arch> Resolved<'a, A> {
         let indexes = indexes_of(alloc, layout)?;
         Ok(Resolved {
             layout,
-            named: NamedSections::of(layout),
+            named: named_sections(layout),
             values,
             targets,
             homes,

@@ -23,7 +23,7 @@ use Rattle.wild_types.specs.SymbolSlots.{got_of, slots_at}
 use Rattle.wild_types.specs.FileSymbols.{own_symbols}
 use Rattle.wild_slot.specs.SymbolWords.{slots_of}
 use Rattle.wild_needs.specs.SlotShares.{words_in, symbol_share, block_places, group_block, block_of}
-use Rattle.wild_clauses.specs.SlotPlaces.{address_of_part, start_of, first_free, is_even_slot, slot_is_even, block_has_base}
+use Rattle.wild_plan_rules.specs.SlotPlaces.{address_of_part, start_of, first_free, is_even_slot, slot_is_even, block_has_base}
 use Rattle.wild_types.proofs.ListLemmas.{total-append}
 use Rattle.wild_layout.specs.TablePlaces.{table_bytes}
 use Rattle.wild_layout.specs.SlotOrder.{SlotsFollow, HasSlotsInOrder}

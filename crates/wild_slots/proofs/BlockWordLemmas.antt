@@ -19,7 +19,7 @@ use Rattle.wild_types.specs.SymbolSlots.{got_of, has_thread_slot, has_dynamic_sy
 use Rattle.wild_slot.specs.Slots.{setting_of, slot, items_at, with_items, no_slot, add_item, thread_items, plain_item, named, stub_items, address_items}
 use Rattle.wild_slot.specs.SymbolWords.{slots_of, resolved_slots}
 use Rattle.wild_slot.specs.SlotParts.{begins_block}
-use Rattle.wild_clauses.specs.SlotFlags.{takes_block_word, second_slot_fits}
+use Rattle.wild_plan_rules.specs.SlotFlags.{takes_block_word, second_slot_fits}
 use Rattle.wild_slot.specs.MachineStub.{far_of}
 use Rattle.wild_types.specs.ResolvedFlags.{HasItsFlags}
 use Rattle.wild_needs.proofs.SlotBlockLemmas.{behind_plain}

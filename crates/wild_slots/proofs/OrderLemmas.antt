@@ -9,14 +9,14 @@ use Rattle.wild_types.specs.declared.part.Role.TheVariants as role
 use Rattle.wild_types.specs.declared.file.File.{File}
 use Rattle.wild_types.specs.declared.symbol.Symbol.{Symbol}
 use Rattle.wild_types.specs.declared.layout.Layout.{Layout}
-use Rattle.wild_clauses.specs.declared.slots.Free.{Free}
+use Rattle.wild_plan_rules.specs.declared.slot_places.Free.{Free}
 use Rattle.wild_types.specs.Lists.{total}
 use Rattle.wild_types.specs.SymbolSlots.{got_of, is_without}
 use Rattle.wild_needs.specs.SlotShares.{stub_size, symbol_share}
 use Rattle.wild_types.specs.FileRoles.{writes_slots}
 use Rattle.wild_types.specs.FileSymbols.{own_symbols}
 use Rattle.wild_slot.specs.SymbolWords.{slots_of}
-use Rattle.wild_clauses.specs.SlotPlaces.{first_free, stands_next, behind, walk, symbol_step, slot_before, unless_some, range_step, file_step, group_step, last_astray, slots_astray}
+use Rattle.wild_plan_rules.specs.SlotPlaces.{first_free, stands_next, behind, walk, symbol_step, slot_before, unless_some, range_step, file_step, group_step, last_astray, slots_astray}
 use Rattle.wild_types.proofs.ListLemmas.{All-from_none_fails, total-append}
 use Rattle.wild_slots.specs.Order.{group_symbols, written_symbols}
 use Rattle.wild_slots.proofs.WalkLemmas.{AllBehind, Walked, Walked-none, Walked-more, through_both, same_Ok, walk_through}

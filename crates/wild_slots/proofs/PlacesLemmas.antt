@@ -15,7 +15,7 @@ use Rattle.wild_types.specs.declared.layout.Layout.{Layout}
 use Rattle.wild_slot.specs.declared.slot_parts.WordPart.TheVariants as words
 use Rattle.wild_types.specs.Lists.{total}
 use Rattle.wild_needs.specs.SlotShares.{stub_size, words_in, symbol_share, header_words}
-use Rattle.wild_clauses.specs.SlotPlaces.{start_of, first_free}
+use Rattle.wild_plan_rules.specs.SlotPlaces.{start_of, first_free}
 use Rattle.wild_layout.specs.SlotOrder.{HasSlotsInOrder}
 use Rattle.wild_slots.specs.Order.{group_symbols, written_symbols, end_of}
 use Rattle.wild_slots.specs.Ascend.{Ascend, word_places, stub_places, HasAscendingPlaces}

@@ -27,7 +27,7 @@ use Rattle.wild_types.specs.FileRoles.{writes_slots}
 use Rattle.wild_types.specs.FileSymbols.{own_symbols}
 use Rattle.wild_slot.specs.SymbolWords.{slots_of}
 use Rattle.wild_needs.specs.SlotShares.{symbol_share, header_words, storage_words}
-use Rattle.wild_clauses.specs.SlotPlaces.{start_of, stands_at}
+use Rattle.wild_plan_rules.specs.SlotPlaces.{start_of, stands_at}
 use Rattle.wild_layout.specs.TablePlaces.{table_bytes}
 use Rattle.wild_types.specs.ResolvedFlags.{HasItsFlags}
 use Rattle.wild_layout.specs.SlotOrder.{HasSlotsInOrder}

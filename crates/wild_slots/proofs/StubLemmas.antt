@@ -14,7 +14,7 @@ use Rattle.wild_slot.specs.Slots.{SlotContent, setting_of, slot, items_at, no_sl
 use Rattle.wild_slot.specs.SymbolWords.{slots_of, resolved_slots}
 use Rattle.wild_slot.specs.MachineStub.{far_of}
 use Rattle.wild_types.specs.ResolvedFlags.{HasItsFlags}
-use Rattle.wild_clauses.proofs.ClauseLemmas.{not_thread}
+use Rattle.wild_plan_rules.proofs.ClauseLemmas.{not_thread}
 use Rattle.wild_layout.specs.SlotOrder.{HasSlotsInOrder}
 use Rattle.wild_slots.proofs.Resolved.{has_resolution}
 use Rattle.wild_slots.proofs.ItemLemmas.{fault_first, stub_stays}

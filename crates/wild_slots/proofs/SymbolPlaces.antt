@@ -10,18 +10,18 @@ use Rattle.wild_types.specs.declared.file.Group.{Group}
 use Rattle.wild_types.specs.declared.symbol.Resolution.{Resolution}
 use Rattle.wild_types.specs.declared.symbol.Symbol.{Symbol}
 use Rattle.wild_types.specs.declared.layout.Layout.{Layout}
-use Rattle.wild_clauses.specs.declared.slots.Free.{Free}
+use Rattle.wild_plan_rules.specs.declared.slot_places.Free.{Free}
 use Rattle.wild_slot.specs.declared.slot.SlotWord.{SlotWord}
 use Rattle.wild_slot.specs.declared.slot.SlotWord.TheVariants.{Number, Address, InBlock, General, Plt}
 use Rattle.wild_slot.specs.declared.slot_parts.WordPart.TheVariants as words
 use Rattle.wild_slot.specs.SlotParts.{next, at_places, slot_words, begins_block}
 use Rattle.wild_types.specs.SymbolSlots.{got_of, resolved_got, plt_of, slots_at}
 use Rattle.wild_slot.specs.Slots.{setting_of, slot, with_items, no_slot, items_at}
-use Rattle.wild_clauses.specs.SlotFlags.{second_slot_fits}
+use Rattle.wild_plan_rules.specs.SlotFlags.{second_slot_fits}
 use Rattle.wild_needs.specs.SlotShares.{stub_size, words_in, symbol_share}
 use Rattle.wild_types.specs.FileSymbols.{own_symbols}
 use Rattle.wild_slot.specs.SymbolWords.{slots_of, resolved_slots}
-use Rattle.wild_clauses.specs.SlotPlaces.{stands_at}
+use Rattle.wild_plan_rules.specs.SlotPlaces.{stands_at}
 use Rattle.wild_slot.specs.MachineStub.{far_of}
 use Rattle.wild_types.specs.ResolvedFlags.{HasItsFlags}
 use Rattle.wild_types.proofs.FileLemmas.{All-own}

@@ -18,7 +18,7 @@ use Rattle.wild_slot.specs.SlotParts.{at_places}
 use Rattle.wild_types.specs.SymbolSlots.{plt_of, slots_at}
 use Rattle.wild_needs.specs.SlotShares.{word_size, stub_size, block_place}
 use Rattle.wild_slot.specs.SymbolWords.{slots_of}
-use Rattle.wild_clauses.specs.SlotPlaces.{start_of, first_free}
+use Rattle.wild_plan_rules.specs.SlotPlaces.{start_of, first_free}
 use Rattle.wild_layout.specs.SlotOrder.{HasSlotsInOrder}
 use Rattle.wild_slots.specs.Order.{written_symbols, end_of}
 

@@ -18,7 +18,7 @@ use Rattle.wild_slot.specs.SlotParts.{word_of, slot_words, begins_block}
 use Rattle.wild_types.specs.SymbolSlots.{got_of, plt_of}
 use Rattle.wild_needs.specs.SlotShares.{word_size, words_in, storage_words}
 use Rattle.wild_slot.specs.SymbolWords.{slots_of}
-use Rattle.wild_clauses.specs.SlotPlaces.{start_of}
+use Rattle.wild_plan_rules.specs.SlotPlaces.{start_of}
 use Rattle.wild_layout.specs.SlotBytes.{stub_bytes}
 use Rattle.wild_layout.specs.TablePlaces.{table_bytes}
 use Rattle.wild_layout.specs.SlotOrder.{HasSlotsInOrder}

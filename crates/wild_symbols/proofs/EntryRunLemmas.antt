@@ -3,8 +3,8 @@ use Rattle.std.proofs.Common.{◌≡◌, ℕ, ◌+◌, ◌%◌, ◌<◌, ◌^◌
 use Rattle.std.proofs.lemmas.List.{append_assoc, append-nil, length-append}
 use Rattle.wild_records.specs.declared.symtab_entry.SymtabEntry.{SymtabEntry}
 use Rattle.wild_needs.specs.DynamicStrings.{behind_text}
-use Rattle.wild_symbols.specs.Strings.{Strings, string, offset_of, with_string}
-use Rattle.wild_symbols.specs.DynamicEntries.{NamedFields, entry_at, entries_at}
+use Rattle.wild_table_formats.specs.Strings.{Strings, string, offset_of, with_string}
+use Rattle.wild_table_formats.specs.DynamicEntries.{NamedFields, entry_at, entries_at}
 use Rattle.wild_symbols.specs.Runs.{called_if, after, call_of, HasEntries, RunsAreEntries}
 use Rattle.wild_symbols.specs.declared.writer.SymbolTableWriter.{SymbolTableWriter}
 use Rattle.wild_symbols.proofs.RoomLemmas.{has_room-first, room_next}

@@ -17,7 +17,7 @@ use Rattle.wild_types.specs.SymbolSlots.{names_slot, names_stub}
 use Rattle.wild_needs.specs.declared.table.Named.TheVariants as named
 use Rattle.wild_needs.specs.declared.table.Pass.{Pass}
 use Rattle.wild_needs.specs.TableSymbols.{TableSymbol, item, where_asked, slot_items, is_of_pass, own_item, symbol_items, pass_items, passes, items_of, named_thunk, thunk_item, thunk_items, file_items, is_local, is_local_symbol}
-use Rattle.wild_symbols.specs.SectionSymbols.{all_items, is_own_entry}
+use Rattle.wild_table_formats.specs.SectionSymbols.{all_items, is_own_entry}
 
 -- all own entries of symbol i are on that side
 abbrev pub OnSide : ℕ → Bool → List TableSymbol → Type 0

@@ -13,7 +13,7 @@ use Rattle.wild_types.specs.declared.file.File.{File}
 use Rattle.wild_types.specs.declared.file.Group.{Group}
 use Rattle.wild_types.specs.declared.layout.Layout.{Layout}
 use Rattle.wild_types.specs.Lookups.{file_of, files_of}
-use Rattle.wild_symbols.specs.SectionSymbols.{entry_index, section_at, section_number, symbol_index, is_section_type}
+use Rattle.wild_table_formats.specs.SectionSymbols.{entry_index, section_at, section_number, symbol_index, is_section_type}
 use Rattle.wild_symbols.specs.SymbolNumbers.{told_of, number_told, found}
 
 -- one more symbol of a file, noted

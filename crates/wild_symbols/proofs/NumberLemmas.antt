@@ -13,10 +13,10 @@ use Rattle.wild_types.specs.declared.file.File.{File}
 use Rattle.wild_types.specs.declared.file.Group.{Group}
 use Rattle.wild_types.specs.declared.layout.Layout.{Layout}
 use Rattle.wild_types.specs.Kinds.{is_partial_link}
-use Rattle.wild_walk.specs.Runs.{Ran, none, more, stop}
+use Rattle.wild_words.specs.Runs.{Ran, none, more, stop}
 use Rattle.wild_needs.specs.declared.table.Named.{Named}
 use Rattle.wild_needs.specs.TableSymbols.{TableSymbol, file_items, item, is_local, is_local_symbol, side, asked_from, kept_alone, section_symbols}
-use Rattle.wild_symbols.specs.SectionSymbols.{all_items, is_own_entry, place_from, front_count, entry_by, entry_index, number_from}
+use Rattle.wild_table_formats.specs.SectionSymbols.{all_items, is_own_entry, place_from, front_count, entry_by, entry_index, number_from}
 use Rattle.wild_symbols.specs.SymbolNumbers.{number_at, local_behind, other_behind, number_in, Numbered, HasOwnNumbers, SectionNumbered, SectionSought, HasAskedNumbers, HasAloneNumbers}
 use Rattle.wild_symbols.specs.declared.numbers.Numbers.{Numbers}
 use Rattle.wild_symbols.specs.declared.section_index.SectionTable.{SectionTable}

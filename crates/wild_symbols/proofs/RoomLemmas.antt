@@ -10,14 +10,14 @@ use Rattle.wild_records.specs.declared.symtab_entry.SymtabEntry.{SymtabEntry}
 use Rattle.wild_types.specs.declared.fault.Error.{Error}
 use Rattle.wild_types.specs.Lists.{total}
 use Rattle.wild_symbols.specs.Indexes.{Indexes, has_index, index_of, index_room, with_index, indexes_room, kept_indexes, front_indexes, indexes_joined}
-use Rattle.wild_symbols.specs.Strings.{Strings, offset_of, kept_strings, front_strings, strings_joined}
-use Rattle.wild_symbols.specs.Symbols.{Symbols, symbols_used, kept_symbols, front_symbols, symbols_joined}
+use Rattle.wild_table_formats.specs.Strings.{Strings, offset_of, kept_strings, front_strings, strings_joined}
+use Rattle.wild_table_formats.specs.Symbols.{Symbols, symbols_used, kept_symbols, front_symbols, symbols_joined}
 use Rattle.wild_symbols.specs.Tables.{placed, list_of, indexes_of, with_fields}
 use Rattle.wild_symbols.specs.TableRoom.{and_then, room_for_name, room_for_prefix, kept_behind, prefix_of, joined}
-use Rattle.wild_symbols.specs.TableEntries.{NamedEntry, name_at}
+use Rattle.wild_table_formats.specs.TableEntries.{NamedEntry, name_at}
 use Rattle.wild_symbols.specs.Runs.{has_room, name_room, called_if, after, is_in, called, taken_if, taken, HasRoomFor, RunsKeepIndexes, RunsWithRoomAreWhole, PrefixesAreTheWriters}
 use Rattle.wild_symbols.specs.declared.prefix.KeptBehind.{KeptBehind}
-use Rattle.wild_symbols.specs.declared.table.TableFields.{TableFields}
+use Rattle.wild_table_formats.specs.declared.symbols.TableFields.{TableFields}
 use Rattle.wild_symbols.specs.declared.writer.SymbolTableWriter.{SymbolTableWriter}
 use Rattle.wild_symbols.proofs.RunLemmas.{symbols_here, symbols_other, strtab-with_symbol, length-named, room-with_symbol}
 

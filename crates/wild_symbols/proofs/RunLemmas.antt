@@ -11,16 +11,16 @@ use Rattle.wild_words.proofs.RecordLemmas.{Stands-left, Stands-right}
 use Rattle.wild_records.specs.declared.symtab_entry.SymtabEntry.{SymtabEntry}
 use Rattle.wild_records.specs.SymtabEntry.{symtab_entry_fields, symtab_entry_at, SymtabEntryFits, SymtabEntryIsRead}
 use Rattle.wild_types.specs.declared.fault.Error.{Error}
-use Rattle.wild_symbols.specs.Strings.{Strings, string, offset_of, with_strings}
-use Rattle.wild_symbols.specs.Symbols.{symbol_bytes}
+use Rattle.wild_table_formats.specs.Strings.{Strings, string, offset_of, with_strings}
+use Rattle.wild_table_formats.specs.Symbols.{symbol_bytes}
 use Rattle.wild_symbols.specs.Tables.{placed, list_of, with_fields}
 use Rattle.wild_symbols.specs.TableRoom.{and_then, room_for_name}
-use Rattle.wild_symbols.specs.TableEntries.{NamedEntry, name_at}
-use Rattle.wild_symbols.specs.TableLaws.{NamedEntryFits, TellsName, IsEntryOf}
+use Rattle.wild_table_formats.specs.TableEntries.{NamedEntry, name_at}
+use Rattle.wild_table_formats.specs.TableLaws.{NamedEntryFits, TellsName, IsEntryOf}
 use Rattle.wild_symbols.specs.Runs.{is_ok, has_room, name_room, called_if, called, after, is_in, taken_if, taken, RunsCount, RunsStandBehind}
-use Rattle.wild_symbols.specs.declared.table.TableFields.{TableFields}
+use Rattle.wild_table_formats.specs.declared.symbols.TableFields.{TableFields}
 use Rattle.wild_symbols.specs.declared.writer.SymbolTableWriter.{SymbolTableWriter}
-use Rattle.wild_symbols.proofs.SymbolLemmas.{Stands-symbol}
+use Rattle.wild_table_formats.proofs.SymbolLemmas.{Stands-symbol}
 
 -- ---- one call
 

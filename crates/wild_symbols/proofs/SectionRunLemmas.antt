@@ -2,9 +2,9 @@
 use Rattle.std.proofs.Common.{◌≡◌, ℕ, List, [], ◌∷◌, map, refl, sym, ap, ◌∙◌, subst, Ok, Err, Result}
 use Rattle.std.proofs.Common.{Bool, true, false, if◌then◌else◌}
 use Rattle.wild_types.specs.declared.fault.Error.{Error}
-use Rattle.wild_walk.specs.Runs.{Ran, none, more, stop}
+use Rattle.wild_words.specs.Runs.{Ran, none, more, stop}
 use Rattle.wild_symbols.specs.TableRoom.{and_then}
-use Rattle.wild_symbols.specs.TableEntries.{NamedEntry, section_entry}
+use Rattle.wild_table_formats.specs.TableEntries.{NamedEntry, section_entry}
 use Rattle.wild_symbols.specs.Runs.{is_ok, called}
 use Rattle.wild_symbols.specs.SlotNames.{offered, given, all_offered, all_given}
 use Rattle.wild_symbols.specs.SectionCalls.{section_call, SectionWritten, SectionRefused}

@@ -10,13 +10,13 @@ use Rattle.wild_words.proofs.RecordLemmas.{Stands-left, Stands-right, Stands-who
 use Rattle.wild_records.specs.declared.symtab_entry.SymtabEntry.{SymtabEntry}
 use Rattle.wild_records.specs.SymtabEntry.{symtab_entry_fields, symtab_entry_at, SymtabEntryFits, SymtabEntryIsRead}
 use Rattle.wild_needs.specs.DynamicStrings.{behind_text}
-use Rattle.wild_symbols.specs.Strings.{string, string_bytes}
-use Rattle.wild_symbols.specs.Symbols.{symbol_bytes}
-use Rattle.wild_symbols.specs.DynamicEntries.{entry_at}
-use Rattle.wild_symbols.specs.TableEntries.{NamedEntry, name_at, behind_name, is_side, side_entries}
-use Rattle.wild_symbols.specs.TableLaws.{names_of, TellsName, TellsAt, SidesStand, NamedEntryFits, IsEntryOf, SidesAreRead}
-use Rattle.wild_symbols.proofs.SymbolLemmas.{Stands-symbol}
-use Rattle.wild_symbols.proofs.TableLemmas.{length-side_entries}
+use Rattle.wild_table_formats.specs.Strings.{string, string_bytes}
+use Rattle.wild_table_formats.specs.Symbols.{symbol_bytes}
+use Rattle.wild_table_formats.specs.DynamicEntries.{entry_at}
+use Rattle.wild_table_formats.specs.TableEntries.{NamedEntry, name_at, behind_name, is_side, side_entries}
+use Rattle.wild_table_formats.specs.TableLaws.{names_of, TellsName, TellsAt, SidesStand, NamedEntryFits, IsEntryOf, SidesAreRead}
+use Rattle.wild_table_formats.proofs.SymbolLemmas.{Stands-symbol}
+use Rattle.wild_table_formats.proofs.SymtabLemmas.{length-side_entries}
 
 -- the entry is that of the symbol, and the symbol's name stands where it tells
 record Tells (strings : List ℕ) (n : NamedEntry) (e : SymtabEntry) : Type 0 where

@@ -6,7 +6,7 @@ use Rattle.wild_types.specs.declared.file.File.{File}
 use Rattle.wild_types.specs.declared.layout.Layout.{Layout}
 use Rattle.wild_needs.specs.TableSymbols.{TableSymbol, item, where_asked, item_name}
 use Rattle.wild_types.specs.SymbolSlots.{names_slot, names_stub}
-use Rattle.wild_symbols.specs.TableEntries.{table_fields}
+use Rattle.wild_table_formats.specs.TableEntries.{table_fields}
 use Rattle.wild_symbols.specs.SlotNames.{local_entry, slot_entry, where_named, SlotNamesAreItems}
 
 by_tests : (l : Layout) (f : File) (i : ℕ) (s : Symbol) (a b : Bool)

@@ -6,13 +6,13 @@ use Rattle.std.proofs.lemmas.List.{append_assoc, append-nil}
 use Rattle.wild_words.specs.Words.{word}
 use Rattle.wild_records.specs.declared.symtab_entry.SymtabEntry.{SymtabEntry}
 use Rattle.wild_symbols.specs.Indexes.{index_of}
-use Rattle.wild_symbols.specs.Strings.{Strings, offset_of, with_strings}
+use Rattle.wild_table_formats.specs.Strings.{Strings, offset_of, with_strings}
 use Rattle.wild_symbols.specs.Tables.{placed, list_of, indexes_of}
-use Rattle.wild_symbols.specs.DynamicEntries.{entry_at}
-use Rattle.wild_symbols.specs.TableEntries.{NamedEntry, name_at, behind_name, is_side, side_entries, long_indexes, index_bytes}
-use Rattle.wild_symbols.specs.TableLaws.{names_of}
+use Rattle.wild_table_formats.specs.DynamicEntries.{entry_at}
+use Rattle.wild_table_formats.specs.TableEntries.{NamedEntry, name_at, behind_name, is_side, side_entries, long_indexes, index_bytes}
+use Rattle.wild_table_formats.specs.TableLaws.{names_of}
 use Rattle.wild_symbols.specs.Runs.{name_room, called_if, after, is_in, taken, HasRoomFor, HasTable, RunsAreTables}
-use Rattle.wild_symbols.specs.declared.dynamic.SymbolFields.{SymbolFields}
+use Rattle.wild_table_formats.specs.declared.symbols.SymbolFields.{SymbolFields}
 use Rattle.wild_symbols.specs.declared.writer.SymbolTableWriter.{SymbolTableWriter}
 use Rattle.wild_symbols.proofs.EntryRunLemmas.{offset_behind}
 use Rattle.wild_symbols.proofs.RoomLemmas.{has_room-first, room_next, run_indexes, run_whole}

@@ -8,9 +8,9 @@ use Rattle.wild_types.specs.declared.file.File.{File}
 use Rattle.wild_types.specs.declared.file.Group.{Group}
 use Rattle.wild_types.specs.declared.layout.Layout.{Layout}
 use Rattle.wild_types.specs.Lookups.{files_of}
-use Rattle.wild_walk.specs.Runs.{Ran, Left}
+use Rattle.wild_words.specs.Runs.{Ran, Left}
 use Rattle.wild_needs.specs.TableSymbols.{asked_from, kept_alone}
-use Rattle.wild_walk.proofs.RunLemmas.{left_all, left_next, left_out, left_done}
+use Rattle.wild_words.proofs.RunLemmas.{left_all, left_next, left_out, left_done}
 use Rattle.wild_symbols.specs.SectionWalk.{alone_in, alone_in_groups}
 
 -- what lists of lists give, list by list

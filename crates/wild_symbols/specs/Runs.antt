@@ -22,15 +22,15 @@ use Rattle.wild_records.specs.declared.symbol_section.SymbolSection.TheVariants.
 use Rattle.wild_records.specs.SymtabEntry.{symtab_entry_size, symtab_entry_at}
 use Rattle.wild_types.specs.declared.fault.Error.{Error}
 use Rattle.wild_types.specs.Lists.{total}
-use Rattle.wild_symbols.specs.Strings.{string, offset_of, with_strings}
-use Rattle.wild_symbols.specs.Symbols.{symbol_bytes, symbols_used}
+use Rattle.wild_table_formats.specs.Strings.{string, offset_of, with_strings}
+use Rattle.wild_table_formats.specs.Symbols.{symbol_bytes, symbols_used}
 use Rattle.wild_symbols.specs.Indexes.{index_of, index_room}
 use Rattle.wild_symbols.specs.Tables.{told, list_of, indexes_of, with_fields}
 use Rattle.wild_symbols.specs.TableRoom.{room_for_fields, room_for_prefix, kept_behind, prefix_of, joined}
-use Rattle.wild_symbols.specs.DynamicEntries.{NamedFields, entries_at}
-use Rattle.wild_symbols.specs.TableEntries.{NamedEntry, short, side_entries, long_indexes, index_bytes}
-use Rattle.wild_symbols.specs.TableLaws.{NamedEntryFits, IsEntryOf, names_of}
-use Rattle.wild_symbols.specs.declared.writer.SymbolAttributes.{SymbolAttributes}
+use Rattle.wild_table_formats.specs.DynamicEntries.{NamedFields, entries_at}
+use Rattle.wild_table_formats.specs.TableEntries.{NamedEntry, short, side_entries, long_indexes, index_bytes}
+use Rattle.wild_table_formats.specs.TableLaws.{NamedEntryFits, IsEntryOf, names_of}
+use Rattle.wild_table_formats.specs.declared.symbols.SymbolAttributes.{SymbolAttributes}
 use Rattle.wild_symbols.specs.declared.writer.SymbolTableWriter.{SymbolTableWriter}
 
 -- the arguments of a call: a name, whether the symbol is local, and its fields

@@ -6,7 +6,7 @@ use Rattle.wild_types.specs.declared.fault.Fault.{Fault}
 use Rattle.wild_types.specs.declared.fault.Error.{Error}
 use Rattle.wild_types.specs.declared.layout.Layout.{Layout}
 use Rattle.wild_needs.specs.TableSymbols.{section_symbols}
-use Rattle.wild_symbols.specs.TableEntries.{NamedEntry, section_entry}
+use Rattle.wild_table_formats.specs.TableEntries.{NamedEntry, section_entry}
 use Rattle.wild_symbols.specs.Runs.{called}
 use Rattle.wild_symbols.specs.SlotNames.{offered}
 use Rattle.wild_symbols.specs.declared.writer.SymbolTableWriter.{SymbolTableWriter}

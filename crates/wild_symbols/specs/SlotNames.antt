@@ -18,9 +18,9 @@ use Rattle.wild_types.specs.Faults.{nowhere}
 use Rattle.wild_types.specs.SymbolSlots.{got_of, plt_of, names_slot, names_stub}
 use Rattle.wild_needs.specs.TableSymbols.{TableSymbol, slot_items, suffix, item_name}
 use Rattle.wild_symbols.specs.TableRoom.{and_then, room_for_fields}
-use Rattle.wild_symbols.specs.TableEntries.{NamedEntry, slot_role, at_part, table_fields}
+use Rattle.wild_table_formats.specs.TableEntries.{NamedEntry, slot_role, at_part, table_fields}
 use Rattle.wild_symbols.specs.Runs.{is_ok, called}
-use Rattle.wild_symbols.specs.declared.table.TableFields.{TableFields}
+use Rattle.wild_table_formats.specs.declared.symbols.TableFields.{TableFields}
 use Rattle.wild_symbols.specs.declared.writer.SymbolTableWriter.{SymbolTableWriter}
 
 -- the fields of the stub's entry, or otherwise of the slot's

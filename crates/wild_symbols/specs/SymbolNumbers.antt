@@ -11,7 +11,7 @@ use Rattle.wild_types.specs.declared.file.File.{File}
 use Rattle.wild_types.specs.declared.layout.Layout.{Layout}
 use Rattle.wild_types.specs.Lookups.{file_of}
 use Rattle.wild_needs.specs.TableSymbols.{TableSymbol, is_local, asked_from, kept_alone}
-use Rattle.wild_symbols.specs.SectionSymbols.{is_own_entry, entry_index, number_from, section_at, is_section_type, section_number}
+use Rattle.wild_table_formats.specs.SectionSymbols.{is_own_entry, entry_index, number_from, section_at, is_section_type, section_number}
 use Rattle.wild_symbols.specs.declared.numbers.Numbers.{Numbers}
 use Rattle.wild_symbols.specs.declared.section_index.SectionTable.{SectionTable}
 use Rattle.wild_symbols.specs.declared.section_index.SectionSearch.{SectionSearch}

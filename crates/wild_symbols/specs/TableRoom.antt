@@ -7,9 +7,9 @@
 use Rattle.std.specs.Prelude.{ℕ, Bool, List, Option, Some, None, Result, Ok, Err}
 use Rattle.wild_records.specs.declared.symbol_section.SymbolSection.{SymbolSection}
 use Rattle.wild_types.specs.declared.fault.Error.{Error}
-use Rattle.wild_symbols.specs.Strings.{Strings, room_for_string, left_of_strings, room_for_bytes, kept_strings, front_strings, strings_joined}
+use Rattle.wild_table_formats.specs.Strings.{Strings, room_for_string, left_of_strings, room_for_bytes, kept_strings, front_strings, strings_joined}
 use Rattle.wild_symbols.specs.Indexes.{room_for_index, left_of_indexes, room_for_indexes, kept_indexes, front_indexes, indexes_joined}
-use Rattle.wild_symbols.specs.Symbols.{room_for_entry, left_of_symbols, room_for_entries, kept_symbols, front_symbols, symbols_joined}
+use Rattle.wild_table_formats.specs.Symbols.{room_for_entry, left_of_symbols, room_for_entries, kept_symbols, front_symbols, symbols_joined}
 use Rattle.wild_symbols.specs.declared.prefix.KeptBehind.{KeptBehind}
 use Rattle.wild_symbols.specs.declared.writer.SymbolTableWriter.{SymbolTableWriter}
 use Rattle.wild_symbols.specs.Tables.{long_of, list_of, indexes_of}

@@ -21,13 +21,13 @@ use Rattle.wild_types.specs.declared.layout.Layout.{Layout}
 use Rattle.wild_types.specs.Flags.{has_flag, downgrade_to_local}
 use Rattle.wild_types.specs.Shares.{part_of, share_of}
 use Rattle.wild_needs.specs.TableSymbols.{has_long}
-use Rattle.wild_symbols.specs.Strings.{offset_of, with_strings}
+use Rattle.wild_table_formats.specs.Strings.{offset_of, with_strings}
 use Rattle.wild_symbols.specs.Indexes.{Indexes, with_index}
-use Rattle.wild_symbols.specs.Symbols.{Symbols, with_entry}
-use Rattle.wild_symbols.specs.TableEntries.{name_at}
-use Rattle.wild_symbols.specs.declared.dynamic.SymbolFields.{SymbolFields}
-use Rattle.wild_symbols.specs.declared.table.TableFields.{TableFields}
-use Rattle.wild_symbols.specs.declared.writer.SymbolAttributes.{SymbolAttributes}
+use Rattle.wild_table_formats.specs.Symbols.{Symbols, with_entry}
+use Rattle.wild_table_formats.specs.TableEntries.{name_at}
+use Rattle.wild_table_formats.specs.declared.symbols.SymbolFields.{SymbolFields}
+use Rattle.wild_table_formats.specs.declared.symbols.TableFields.{TableFields}
+use Rattle.wild_table_formats.specs.declared.symbols.SymbolAttributes.{SymbolAttributes}
 use Rattle.wild_symbols.specs.declared.writer.SymbolTableWriter.{SymbolTableWriter}
 
 -- ---- empty tables

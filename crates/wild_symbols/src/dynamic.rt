@@ -3,50 +3,23 @@ ghost use Rattle.std.specs.Prelude.{◌≡◌, ◌<◌};
 ghost use Rattle.wild_records.specs.SymbolSections.{split_index};
 ghost use Rattle.wild_types.specs.Parts.{part_with};
 ghost use Rattle.wild_types.specs.SymbolSlots.{plt_of};
-ghost use Rattle.wild_symbols.specs.DynamicFields.{own_attributes, with_type, library_info, library_attributes, nowhere_with, undefined_fields, section_named, some_section, part_section, named_sections, in_section, decided_value, is_thread_symbol, value_in, stands_as_stub, as_function, common_section, placed_fields, fields_at, canonical_fields, copied_fields, listed_by};
-ghost use Rattle.wild_symbols.specs.DynamicEntries.{no_fields, entry_at};
+ghost use Rattle.wild_table_formats.specs.DynamicFields.{own_attributes, with_type, library_info, library_attributes, nowhere_with, undefined_fields, section_named, some_section, part_section, named_sections, in_section, decided_value, is_thread_symbol, value_in, stands_as_stub, as_function, common_section, placed_fields, fields_at, canonical_fields, copied_fields, listed_by};
+ghost use Rattle.wild_table_formats.specs.DynamicEntries.{no_fields, entry_at};
 
-use crate::writer::SymbolAttributes;
 use wild_records::SymtabEntry;
 use wild_records::abi::section::{SHN_ABS, SHN_LORESERVE, SHN_UNDEF, SHN_XINDEX};
 use wild_records::abi::symbol::{STT_FUNC, STT_GNU_IFUNC, STT_TLS};
+use wild_table_formats::{NamedSections, SymbolAttributes, SymbolFields};
 use wild_types::{Fault, FileRole, Layout, Missing, Part, Place, Role, Symbol, has_role};
 
-/// The fields of an entry without `st_name`.
-#[derive(Clone, Copy)]
-pub struct SymbolFields {
-    /// `st_shndx`.
-    pub section: u16,
-    /// `st_value`.
-    pub value: u64,
-    pub attributes: SymbolAttributes,
-}
-
-/// The header indexes of the output sections of symbols that no input section defines; `None` for a section that is missing.
-#[derive(Clone, Copy)]
-pub struct NamedSections {
-    /// `.bss`, for common symbols and for copies of a library's data.
-    pub bss: Option<usize>,
-    /// `.tbss`, for thread-local common symbols.
-    pub tbss: Option<usize>,
-    /// The section of the PLT stubs.
-    pub stubs: Option<usize>,
-    /// The section of the GOT words.
-    pub got: Option<usize>,
-    /// The section of the GOT words that are relocated by RELR.
-    pub block: Option<usize>,
-}
-
-impl SymbolAttributes {
-    /// Type, binding, visibility and size that the layout has for a symbol.
-    pub fn of(symbol: &Symbol) -> SymbolAttributes
-        ensures { result ≡ own_attributes symbol.now }
-    {
-        SymbolAttributes {
-            info: symbol.info,
-            other: symbol.other,
-            size: symbol.size,
-        }
+/// Type, binding, visibility and size that the layout has for a symbol.
+fn own_attributes(symbol: &Symbol) -> SymbolAttributes
+    ensures { result ≡ own_attributes symbol.now }
+{
+    SymbolAttributes {
+        info: symbol.info,
+        other: symbol.other,
+        size: symbol.size,
     }
 }
 
@@ -98,7 +71,7 @@ pub fn undefined_fields(role: FileRole, symbol: &Symbol) -> SymbolFields
     if role.is_library() {
         nowhere_with(library_attributes(library_info(symbol.info)))
     } else {
-        nowhere_with(SymbolAttributes::of(symbol))
+        nowhere_with(own_attributes(symbol))
     }
 }
 
@@ -132,18 +105,16 @@ fn section_of_role(role: Role, parts: &[Part]) -> Option<usize>
     None
 }
 
-impl NamedSections {
-    /// Finds the sections in a layout.
-    pub fn of(layout: &Layout) -> NamedSections
-        ensures { result ≡ named_sections layout.now }
-    {
-        NamedSections {
-            bss: section_named(layout, b".bss"),
-            tbss: section_named(layout, b".tbss"),
-            stubs: section_of_role(Role::PltGot, layout.parts.as_slice()),
-            got: section_of_role(Role::Got, layout.parts.as_slice()),
-            block: section_of_role(Role::GotRelr, layout.parts.as_slice()),
-        }
+/// Finds the sections in a layout.
+pub fn named_sections(layout: &Layout) -> NamedSections
+    ensures { result ≡ named_sections layout.now }
+{
+    NamedSections {
+        bss: section_named(layout, b".bss"),
+        tbss: section_named(layout, b".tbss"),
+        stubs: section_of_role(Role::PltGot, layout.parts.as_slice()),
+        got: section_of_role(Role::Got, layout.parts.as_slice()),
+        block: section_of_role(Role::GotRelr, layout.parts.as_slice()),
     }
 }
 
@@ -266,7 +237,7 @@ fn placed_fields(
         in_section(index, named.stubs, stub, as_function(symbol))
     } else {
         let value = value_in(layout, symbol);
-        in_section(index, section, value, SymbolAttributes::of(symbol))
+        in_section(index, section, value, own_attributes(symbol))
     }
 }
 
@@ -282,11 +253,11 @@ fn fields_at(
     ensures { result ≡ fields_at layout.now index symbol.now section symbol.now.place }
 {
     match symbol.place {
-        Place::Undefined => Ok(nowhere_with(SymbolAttributes::of(symbol))),
+        Place::Undefined => Ok(nowhere_with(own_attributes(symbol))),
         Place::Absolute => Ok(SymbolFields {
             section: SHN_ABS,
             value: symbol.value,
-            attributes: SymbolAttributes::of(symbol),
+            attributes: own_attributes(symbol),
         }),
         Place::Common => {
             let section = common_section(named, layout, symbol);
@@ -331,7 +302,7 @@ fn copied_fields(
         index,
         named.bss,
         decided_value(symbol),
-        SymbolAttributes::of(symbol),
+        own_attributes(symbol),
     )
 }
 

@@ -1,8 +1,8 @@
 //! Laws of the symbol tables.
 ghost use Rattle.wild_symbols.specs.Runs.{RunsAreRead, RunsCount, RunsStandBehind, RunsKeepIndexes, RunsWithRoomAreWhole, RunsAreEntries, RunsAreTables, PrefixesAreTheWriters};
-ghost use Rattle.wild_symbols.specs.Laws.{LengthsOfSymbols, SymbolsAreRead, LengthsOfStrings, StringsAreBehind, StringsStand};
+ghost use Rattle.wild_table_formats.specs.SymbolLaws.{LengthsOfSymbols, SymbolsAreRead, LengthsOfStrings, StringsAreBehind, StringsStand};
 ghost use Rattle.wild_symbols.specs.SlotNames.{SlotNamesAreItems};
-ghost use Rattle.wild_symbols.specs.TableLaws.{LengthsOfSides, SidesOfFiles, SidesOfGroups, LengthsOfIndexes, IndexesHave4Bytes, NamesOfFiles, NamesOfGroups, LengthsOfTexts, SidesStand, SidesAreRead};
+ghost use Rattle.wild_table_formats.specs.TableLaws.{LengthsOfSides, SidesOfFiles, SidesOfGroups, LengthsOfIndexes, IndexesHave4Bytes, NamesOfFiles, NamesOfGroups, LengthsOfTexts, SidesStand, SidesAreRead};
 
 use wild_records::symtab_entry_is_read;
 

@@ -14,9 +14,7 @@ mod symbol_table;
 mod table;
 mod writer;
 
-pub use dynamic::{
-    NamedSections, SymbolFields, entry_at, listed_fields, no_fields, undefined_fields,
-};
+pub use dynamic::{entry_at, listed_fields, named_sections, no_fields, undefined_fields};
 pub use index_table::IndexTable;
 pub use laws::{
     entries_are_counted, names_are_strings, prefixes_are_the_writers, runs_are_read,
@@ -27,5 +25,6 @@ pub use prefix::{KeptBehind, SymbolTablePrefix};
 pub use section_walk::give_section_symbols;
 pub use strtab::StrTabWriter;
 pub use symbol_table::SymbolTable;
-pub use table::{TableFields, null_table_fields, section_fields, table_fields};
-pub use writer::{SymbolAttributes, SymbolTableWriter, dynstr_start, strtab_start};
+pub use table::{null_table_fields, section_fields, table_fields};
+pub use wild_table_formats::{NamedSections, SymbolAttributes, SymbolFields, TableFields};
+pub use writer::{SymbolTableWriter, dynstr_start, strtab_start};

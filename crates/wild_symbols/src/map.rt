@@ -3,7 +3,7 @@ ghost use Rattle.std.specs.Prelude.{◌≡◌, ℕ, ◌<◌, [], ◌∷◌, map,
 ghost use Rattle.std.specs.List.{range_with_len};
 ghost use Rattle.std.specs.Option.{option_or};
 ghost use Rattle.wild_types.specs.Lookups.{files_of};
-ghost use Rattle.wild_symbols.specs.SectionSymbols.{symbol_index, named_index, front_count};
+ghost use Rattle.wild_table_formats.specs.SectionSymbols.{symbol_index, named_index, front_count};
 ghost use Rattle.wild_symbols.specs.SymbolNumbers.{HasOwnNumbers, number_told, found};
 
 use crate::numbers::own_numbers;

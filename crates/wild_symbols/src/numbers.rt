@@ -3,9 +3,9 @@ ghost use Rattle.std.specs.Prelude.{◌≡◌, ℕ, ◌+◌, ◌<◌, ◌&&◌, 
 ghost use Rattle.std.specs.List.{flat_map};
 ghost use Rattle.std.specs.Option.{option_or};
 ghost use Rattle.wild_types.specs.declared.symbol.Symbol.{Symbol};
-ghost use Rattle.wild_walk.specs.Runs.{Ran};
+ghost use Rattle.wild_words.specs.Runs.{Ran};
 ghost use Rattle.wild_needs.specs.TableSymbols.{file_items, item, side};
-ghost use Rattle.wild_symbols.specs.SectionSymbols.{all_items, is_own_entry, front_count};
+ghost use Rattle.wild_table_formats.specs.SectionSymbols.{all_items, is_own_entry, front_count};
 ghost use Rattle.wild_symbols.specs.SymbolNumbers.{number_at, local_behind, other_behind, Numbered, HasOwnNumbers};
 
 use std::alloc::{AllocError, Global};
@@ -89,7 +89,7 @@ impl TableSink for Numbers {
 }
 
 /// Passes the entries of a group to the sink.
-#[tactic(auto, using(wild_walk::proofs::RunLemmas::listed_loops))]
+#[tactic(auto, using(wild_words::proofs::RunLemmas::listed_loops))]
 fn give_group<S: TableSink>(layout: &Layout, group: &Group, sink: &mut S) -> Result<(), S::Error>
     ensures { Ran S.goes S.refuses sink.old (flat_map (file_items layout.now) group.now.files) result sink.new }
 {
@@ -100,7 +100,7 @@ fn give_group<S: TableSink>(layout: &Layout, group: &Group, sink: &mut S) -> Res
 }
 
 /// Passes the entries of all groups to the sink.
-#[tactic(auto, using(wild_walk::proofs::RunLemmas::listed_loops))]
+#[tactic(auto, using(wild_words::proofs::RunLemmas::listed_loops))]
 fn give_groups<S: TableSink>(layout: &Layout, sink: &mut S) -> Result<(), S::Error>
     ensures { Ran S.goes S.refuses sink.old (flat_map (λ (g : Group). flat_map (file_items layout.now) g.files) layout.now.groups) result sink.new }
 {

@@ -2,7 +2,7 @@
 ghost use Rattle.std.specs.Prelude.{◌≡◌, ◌+◌, ◌*◌, ◌≤◌, length, IfOk, IfErr, Ok, Err};
 ghost use Rattle.std.specs.Borrow.{sem};
 ghost use Rattle.wild_records.specs.SymtabEntry.{symtab_entry_size};
-ghost use Rattle.wild_symbols.specs.Symbols.{symbols_used};
+ghost use Rattle.wild_table_formats.specs.Symbols.{symbols_used};
 ghost use Rattle.wild_symbols.specs.TableRoom.{room_for_prefix, kept_behind, prefix_of, joined};
 ghost use Rattle.wild_symbols.specs.Lending.{PrefixOrNone};
 

@@ -3,7 +3,7 @@ ghost use Rattle.std.specs.Prelude.{◌≡◌, ℕ, ◌+◌, ◌<◌, ◌==◌, 
 ghost use Rattle.std.specs.Option.{option_or};
 ghost use Rattle.wild_types.specs.Kinds.{is_partial_link};
 ghost use Rattle.wild_needs.specs.TableSymbols.{asked_from, kept_alone};
-ghost use Rattle.wild_symbols.specs.SectionSymbols.{number_from, section_at, section_index, section_number, front_count};
+ghost use Rattle.wild_table_formats.specs.SectionSymbols.{number_from, section_at, section_index, section_number, front_count};
 ghost use Rattle.wild_symbols.specs.SymbolNumbers.{SectionNumbered, SectionSought, HasAskedNumbers, HasAloneNumbers, told_of};
 
 use crate::numbers::note;
@@ -11,7 +11,7 @@ use crate::section_walk::{give_asked_sections, give_kept_alone};
 use std::alloc::{AllocError, Global};
 use wild_records::abi::symbol::STT_SECTION;
 use wild_types::{File, InputSection, Layout, Place, Symbol};
-use wild_walk::Sink;
+use wild_words::Sink;
 
 /// The number plus 1. Fails on overflow, since no memory could hold so many entries.
 fn behind(number: usize) -> Result<usize, AllocError>

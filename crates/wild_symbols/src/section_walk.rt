@@ -2,15 +2,15 @@
 //! what is done with each.
 ghost use Rattle.std.specs.Prelude.{◌≡◌, [], ◌∷◌, if◌then◌else◌, option_to_list};
 ghost use Rattle.std.specs.List.{flat_map};
-ghost use Rattle.wild_walk.specs.Runs.{Ran};
+ghost use Rattle.wild_words.specs.Runs.{Ran};
 ghost use Rattle.wild_needs.specs.TableSymbols.{asked_from, kept_alone, section_symbols};
 ghost use Rattle.wild_symbols.specs.SectionWalk.{alone_in, alone_in_groups};
 
 use wild_types::{File, Group, Layout, Section, SectionIndex};
-use wild_walk::Sink;
+use wild_words::Sink;
 
 /// Passes a section to the sink if `asked` is set.
-#[tactic(auto, using(wild_walk::proofs::RunLemmas::runs))]
+#[tactic(auto, using(wild_words::proofs::RunLemmas::runs))]
 fn give_asked<S: Sink<usize>>(asked: bool, header: usize, sink: &mut S) -> Result<(), S::Error>
     ensures { Ran S.goes S.refuses sink.old (if asked then header ∷ [] else []) result sink.new }
 {
@@ -32,7 +32,7 @@ pub fn give_asked_sections<S: Sink<usize>>(
 }
 
 /// Passes the section of an input section to the sink, if the object keeps it as a section of its own.
-#[tactic(auto, using(wild_walk::proofs::RunLemmas::runs))]
+#[tactic(auto, using(wild_words::proofs::RunLemmas::runs))]
 fn give_alone<S: Sink<usize>>(alone: Option<SectionIndex>, sink: &mut S) -> Result<(), S::Error>
     ensures { Ran S.goes S.refuses sink.old (option_to_list alone) result sink.new }
 {
@@ -43,7 +43,7 @@ fn give_alone<S: Sink<usize>>(alone: Option<SectionIndex>, sink: &mut S) -> Resu
 }
 
 /// Passes the sections of a file that the object keeps as sections of their own.
-#[tactic(auto, using(wild_walk::proofs::RunLemmas::listed_loops))]
+#[tactic(auto, using(wild_words::proofs::RunLemmas::listed_loops))]
 fn give_alone_in<S: Sink<usize>>(file: &File, sink: &mut S) -> Result<(), S::Error>
     ensures { Ran S.goes S.refuses sink.old (alone_in file.now) result sink.new }
 {
@@ -54,7 +54,7 @@ fn give_alone_in<S: Sink<usize>>(file: &File, sink: &mut S) -> Result<(), S::Err
 }
 
 /// Passes those of a group.
-#[tactic(auto, using(wild_walk::proofs::RunLemmas::listed_loops))]
+#[tactic(auto, using(wild_words::proofs::RunLemmas::listed_loops))]
 fn give_alone_among<S: Sink<usize>>(group: &Group, sink: &mut S) -> Result<(), S::Error>
     ensures { Ran S.goes S.refuses sink.old (flat_map alone_in group.now.files) result sink.new }
 {
@@ -65,7 +65,7 @@ fn give_alone_among<S: Sink<usize>>(group: &Group, sink: &mut S) -> Result<(), S
 }
 
 /// Passes those of all groups.
-#[tactic(auto, using(wild_walk::proofs::RunLemmas::listed_loops))]
+#[tactic(auto, using(wild_words::proofs::RunLemmas::listed_loops))]
 fn give_alone_in_groups<S: Sink<usize>>(layout: &Layout, sink: &mut S) -> Result<(), S::Error>
     ensures { Ran S.goes S.refuses sink.old (alone_in_groups layout.now) result sink.new }
 {
@@ -84,7 +84,7 @@ pub fn give_kept_alone<S: Sink<usize>>(layout: &Layout, sink: &mut S) -> Result<
 }
 
 /// Passes the sections that have symbols in the object to the sink, in the order of their symbols.
-#[tactic(auto, using(wild_walk::proofs::RunLemmas::runs), unfolding(wild_needs::specs::TableSymbols::section_symbols))]
+#[tactic(auto, using(wild_words::proofs::RunLemmas::runs), unfolding(wild_needs::specs::TableSymbols::section_symbols))]
 pub fn give_section_symbols<S: Sink<usize>>(layout: &Layout, sink: &mut S) -> Result<(), S::Error>
     ensures { Ran S.goes S.refuses sink.old (section_symbols layout.now) result sink.new }
 {

@@ -4,34 +4,26 @@ ghost use Rattle.wild_records.specs.SymbolSections.{split_index};
 ghost use Rattle.wild_types.specs.declared.layout.Layout.{Layout};
 ghost use Rattle.wild_types.specs.Addresses.{raw_value};
 ghost use Rattle.wild_types.specs.Kinds.{is_partial_link};
-ghost use Rattle.wild_symbols.specs.SectionSymbols.{symbol_section};
+ghost use Rattle.wild_table_formats.specs.SectionSymbols.{symbol_section};
 ghost use Rattle.wild_needs.specs.DynamicSymbols.{output_section};
 ghost use Rattle.wild_slot.specs.SlotParts.{begins_block};
 ghost use Rattle.wild_slot.specs.SymbolWords.{slots_of};
 ghost use Rattle.wild_types.specs.SymbolSlots.{got_of, plt_of};
 ghost use Rattle.wild_types.specs.Parts.{part_with};
-ghost use Rattle.wild_symbols.specs.DynamicFields.{named_sections, part_section};
-ghost use Rattle.wild_symbols.specs.TableEntries.{table_info, table_attributes, with_function, short, in_table_section, counted_from, at_address, offset_within, offset_by, table_value, table_placed, undefined_attributes, section_fields, first_or, table_at, table_canonical, table_by, no_attributes, slot_role, thunk_attributes, thunk_fields, fields_of, no_table_fields};
+ghost use Rattle.wild_table_formats.specs.DynamicFields.{named_sections, part_section};
+ghost use Rattle.wild_table_formats.specs.TableEntries.{table_info, table_attributes, with_function, short, in_table_section, counted_from, at_address, offset_within, offset_by, table_value, table_placed, undefined_attributes, section_fields, first_or, table_at, table_canonical, table_by, no_attributes, slot_role, thunk_attributes, thunk_fields, fields_of, no_table_fields};
 ghost use Rattle.wild_symbols.specs.SlotNames.{slot_fields};
 
 use crate::dynamic::{
-    NamedSections, SymbolFields, common_section, is_thread_symbol, no_fields, nowhere_with,
-    section_number, some_section, stands_as_stub, stub_of, with_type,
+    common_section, is_thread_symbol, no_fields, nowhere_with, section_number, some_section,
+    stands_as_stub, stub_of, with_type,
 };
-use crate::writer::SymbolAttributes;
 use wild_needs::Named;
 use wild_records::abi::section::{SHN_ABS, SHN_LORESERVE, SHN_UNDEF};
 use wild_records::abi::symbol::{STT_FUNC, STT_SECTION};
 use wild_slot::{SlotWord, SymbolSlots};
+use wild_table_formats::{NamedSections, SymbolAttributes, SymbolFields, TableFields};
 use wild_types::{Fault, File, FileRole, InputSection, Layout, Missing, Place, Symbol, THUNK_SIZE};
-
-/// The fields of an entry of `.symtab` without `st_name`.
-#[derive(Clone, Copy)]
-pub struct TableFields {
-    pub fields: SymbolFields,
-    /// The extended section index: the header index modulo 2^32 if it does not fit in `st_shndx`, otherwise 0.
-    pub long: u32,
-}
 
 /// `st_info`, with binding `STB_LOCAL` for a symbol that was made local.
 fn table_info(symbol: &Symbol) -> u8

@@ -7,39 +7,28 @@ ghost use Rattle.wild_types.specs.Shares.{share_of};
 ghost use Rattle.wild_needs.specs.TableSymbols.{has_long};
 ghost use Rattle.wild_records.specs.declared.symbol_section.SymbolSection.TheVariants.{Raw, Index};
 ghost use Rattle.wild_records.specs.Abi.Section.{shn_abs, shn_undef};
-ghost use Rattle.wild_symbols.specs.Symbols.{symbol_bytes, symbols_used};
+ghost use Rattle.wild_table_formats.specs.Symbols.{symbol_bytes, symbols_used};
 ghost use Rattle.wild_symbols.specs.Indexes.{index_room};
 ghost use Rattle.wild_symbols.specs.Tables.{dynstr_start, placed, strtab_start, symbols_with, indexes_with, no_dynamic_symbols, no_symbols, section_number, long_of, told, list_of, indexes_of, with_listed, with_fields, with_symbol, with_undefined, is_local, copied_attributes, with_copied};
 ghost use Rattle.wild_symbols.specs.TableRoom.{room_in_lists, room_for_fields, room_for_symbol, left_over};
-ghost use Rattle.wild_symbols.specs.DynamicFields.{named_sections};
+ghost use Rattle.wild_table_formats.specs.DynamicFields.{named_sections};
 ghost use Rattle.wild_symbols.specs.SlotNames.{slot_entry, slot_names, offered, given, all_offered, all_given};
 ghost use Rattle.wild_symbols.specs.SectionCalls.{section_calls};
 ghost use Rattle.wild_symbols.specs.Runs.{defined, undefined, called};
 
-use crate::dynamic::{NamedSections, SymbolFields};
 use crate::index_table::IndexTable;
 use crate::section_walk::give_section_symbols;
 use crate::strtab::StrTabWriter;
 use crate::symbol_table::SymbolTable;
-use crate::table::{TableFields, section_fields, slot_fields};
+use crate::table::{section_fields, slot_fields};
 use std::alloc::{AllocError, Global};
 use wild_needs::{Named, has_long, suffix};
 use wild_records::abi::section::{SHN_ABS, SHN_UNDEF};
 use wild_records::abi::symbol::STB_LOCAL;
 use wild_records::{SymbolSection, SymtabEntry};
+use wild_table_formats::{NamedSections, SymbolAttributes, SymbolFields, TableFields};
 use wild_types::{At, Error, Layout, Role, SectionIndex, Symbol, part_of, share_of};
-use wild_walk::Sink;
-
-/// The fields of a symbol that do not depend on where it is placed.
-#[derive(Clone, Copy)]
-pub struct SymbolAttributes {
-    /// `st_info`: binding and type.
-    pub info: u8,
-    /// `st_other`: visibility.
-    pub other: u8,
-    /// `st_size`.
-    pub size: u64,
-}
+use wild_words::Sink;
 
 /// A group's symbols and their names. Each table is written from the start of the group's share. All memory is allocated by
 /// `new` or `new_dynamic`.
@@ -298,7 +287,7 @@ impl SymbolTableWriter {
     ///
     /// `InsufficientAllocation` exactly if the symbol does not fit in the rest of its share, or otherwise its extended section
     /// index, or otherwise its name. Then nothing changes.
-    #[tactic(auto, using(crate::proofs::StringLemmas::joined_with_none))]
+    #[tactic(auto, using(wild_table_formats::proofs::StringLemmas::joined_with_none))]
     pub fn write_entry(
         &mut self,
         is_local: bool,

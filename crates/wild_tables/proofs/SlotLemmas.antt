@@ -10,7 +10,7 @@ use Rattle.wild_types.specs.declared.part.Role.TheVariants as role
 use Rattle.wild_relr.specs.Packing.{State}
 use Rattle.wild_relr.specs.Packed.{after_flat}
 use Rattle.wild_tables.specs.declared.room.Room.{Room}
-use Rattle.wild_tables.specs.Tables.{Tables}
+use Rattle.wild_table_formats.specs.GroupTables.{Tables}
 use Rattle.wild_tables.specs.SlotTables.{after_flats}
 use Rattle.wild_tables.specs.Rooms.{Fit, HeaderFits, rooms, words_room, entries_room, capped, first_short, room_for_all, room_for_header}
 

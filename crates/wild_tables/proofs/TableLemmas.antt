@@ -11,7 +11,7 @@ use Rattle.wild_relr.proofs.WriterLemmas.{length_words_in}
 use Rattle.wild_records.specs.Relocations.{relr_size}
 use Rattle.wild_types.specs.declared.layout.Layout.{Layout}
 use Rattle.wild_types.specs.declared.part.Role.TheVariants.{RelrDyn}
-use Rattle.wild_tables.specs.Tables.{Tables, packed_used, with_words, room_for_words}
+use Rattle.wild_table_formats.specs.GroupTables.{Tables, packed_used, with_words, room_for_words}
 use Rattle.wild_types.specs.Shares.{part_of, insufficient}
 use Rattle.wild_relr.proofs.PackedLemmas.{length-joined}
 

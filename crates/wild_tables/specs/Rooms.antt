@@ -15,14 +15,14 @@ use Rattle.wild_types.specs.declared.fault.Fault.TheVariants as faults
 use Rattle.wild_types.specs.Faults.{nowhere}
 use Rattle.wild_types.specs.declared.layout.Layout.{Layout}
 use Rattle.wild_types.specs.Shares.{part_of, insufficient, excessive}
-use Rattle.wild_tables.specs.Entries.{Entries}
-use Rattle.wild_tables.specs.Words.{Words}
-use Rattle.wild_tables.specs.GotWords.{GotWords, Stubs}
+use Rattle.wild_table_formats.specs.RelativeEntries.{Entries}
+use Rattle.wild_table_formats.specs.RelrWords.{Words}
+use Rattle.wild_table_formats.specs.GotWords.{GotWords, Stubs}
 use Rattle.wild_slot.specs.declared.slot.SlotFault.{SlotFault}
 use Rattle.wild_tables.specs.declared.refused.Refused.{Refused}
 use Rattle.wild_tables.specs.declared.refused.Refused.TheVariants as refused
 use Rattle.wild_tables.specs.declared.room.Room.{Room}
-use Rattle.wild_tables.specs.Tables.{Tables, packed_used}
+use Rattle.wild_table_formats.specs.GroupTables.{Tables, packed_used}
 
 -- size and use of a table
 abbrev pub words_room : Role → GotWords → Room

@@ -19,14 +19,14 @@ use Rattle.wild_types.specs.declared.symbol.Symbol.{Symbol}
 use Rattle.wild_types.specs.Lookups.{canonical}
 use Rattle.wild_relr.specs.Packing.{State}
 use Rattle.wild_relr.specs.Packed.{after_flat, after_block}
-use Rattle.wild_tables.specs.Words.{Words}
+use Rattle.wild_table_formats.specs.RelrWords.{Words}
 use Rattle.wild_slot.specs.declared.slot.SlotWord.{SlotWord}
 use Rattle.wild_slot.specs.declared.slot_parts.WordPart.TheVariants as words
 use Rattle.wild_slot.specs.declared.slot_parts.EntryPart.TheVariants as entries
 use Rattle.wild_slot.specs.Slots.{SlotContent, setting_of, slot}
 use Rattle.wild_needs.specs.SlotShares.{storage_words, header_words}
 use Rattle.wild_slot.specs.SlotParts.{type_of, entry_at, slot_words, slot_entries, flat_places}
-use Rattle.wild_tables.specs.Tables.{Tables, more_words, more_stubs, more_entries, with_words}
+use Rattle.wild_table_formats.specs.GroupTables.{Tables, more_words, more_stubs, more_entries, with_words}
 
 -- each place recorded by its own address word
 abbrev pub after_flats : State → List ℕ → State

@@ -13,8 +13,8 @@ mod verify;
 mod word;
 mod writer;
 
-pub use dynamic::{dynamic_sections_are_read, write_dynamic, write_unused};
-pub use laws::{entries_are_read, loaders_agree, places_are_loaded, slots_are_filled};
+pub use dynamic::{write_dynamic, write_unused};
+pub use laws::slots_are_filled;
 pub use refused::Refused;
 pub use rela::RelaTable;
 pub use relr::RelrTable;

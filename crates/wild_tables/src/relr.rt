@@ -19,7 +19,7 @@ pub struct RelrTable {
 }
 
 impl Model for RelrTable {
-    ghost use Rattle.wild_tables.specs.Words.{Words, words_of_table, IsTable};
+    ghost use Rattle.wild_table_formats.specs.RelrWords.{Words, words_of_table, IsTable};
 
     ghost Value = { Words };
 

@@ -1,7 +1,7 @@
 //! Sizes and uses of a group's shares of parts, and the faults of shares that are too small or too large.
 ghost use Rattle.std.specs.Prelude.{◌≡◌, ℕ, ◌≤◌, List, length};
 ghost use Rattle.wild_records.specs.declared.relocations.Rela.{Rela};
-ghost use Rattle.wild_tables.specs.Tables.{more_words, more_stubs, more_entries};
+ghost use Rattle.wild_table_formats.specs.GroupTables.{more_words, more_stubs, more_entries};
 ghost use Rattle.wild_tables.specs.SlotTables.{more_places};
 ghost use Rattle.wild_tables.specs.Rooms.{words_room, stubs_room, entries_room, packed_room, first_short, first_left};
 

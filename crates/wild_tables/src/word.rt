@@ -15,7 +15,7 @@ pub struct WordTable {
 }
 
 impl Model for WordTable {
-    ghost use Rattle.wild_tables.specs.GotWords.{GotWords, words_of_part, IsWordTable};
+    ghost use Rattle.wild_table_formats.specs.GotWords.{GotWords, words_of_part, IsWordTable};
 
     ghost Value = { GotWords };
 

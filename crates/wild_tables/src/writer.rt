@@ -6,8 +6,8 @@ ghost use Rattle.wild_relr.specs.Places.{places};
 ghost use Rattle.wild_relr.specs.Packing.{after, Records};
 ghost use Rattle.wild_relr.specs.Packed.{after_flat, reset};
 ghost use Rattle.wild_relr.specs.Written.{word_bytes};
-ghost use Rattle.wild_tables.specs.Entries.{rela_bytes};
-ghost use Rattle.wild_tables.specs.Tables.{no_entries, relative_used, packed_used, relative_entry, with_entry, with_words, with_address, with_flat, site_word, room_for_entries, room_for_words, room_for};
+ghost use Rattle.wild_table_formats.specs.RelativeEntries.{rela_bytes};
+ghost use Rattle.wild_table_formats.specs.GroupTables.{no_entries, relative_used, packed_used, relative_entry, with_entry, with_words, with_address, with_flat, site_word, room_for_entries, room_for_words, room_for};
 ghost use Rattle.wild_tables.specs.Rooms.{rooms, left_over};
 ghost use Rattle.wild_types.specs.Lookups.{packs};
 ghost use Rattle.wild_types.specs.Shares.{part_of, insufficient};
@@ -47,7 +47,7 @@ pub struct TableWriter {
 }
 
 impl Model for TableWriter {
-    ghost use Rattle.wild_tables.specs.Tables.{Tables};
+    ghost use Rattle.wild_table_formats.specs.GroupTables.{Tables};
 
     ghost Value = { Tables };
 

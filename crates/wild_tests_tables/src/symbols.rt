@@ -19,7 +19,7 @@ use wild_plan::{
 };
 use wild_records::SymbolSection;
 use wild_symbols::{
-    NamedSections, SymbolAttributes, SymbolTableWriter, dynstr_start, entry_at, listed_fields,
+    SymbolAttributes, SymbolTableWriter, dynstr_start, entry_at, listed_fields, named_sections,
     null_table_fields, strtab_start, table_fields,
 };
 
@@ -276,7 +276,7 @@ fn put_entry(writer: &mut SymbolTableWriter, layout: &Layout, index: usize) -> R
     }
     let group = layout.groups.as_slice().get(0).ok_or("no group")?;
     let file = group.files.as_slice().get(0).ok_or("no file")?;
-    let sections = NamedSections::of(layout);
+    let sections = named_sections(layout);
     let symbol = symbol_of(layout, index)?;
     let section = section_of(symbol)?;
     let raw = layout.raw_value(SymbolIndex(index));
@@ -322,7 +322,7 @@ fn put_copy(
 /// The bytes of the entry of a library's symbol whose name is at an offset.
 fn entry_of(layout: &Layout, index: usize, name: u64) -> Result<[u8; 24], Fail> {
     let symbol = symbol_of(layout, index)?;
-    let sections = NamedSections::of(layout);
+    let sections = named_sections(layout);
     let fields = listed_fields(layout, sections, 0, FileRole::Dynamic, 0, symbol)?;
     let mut bytes = [0; 24];
     entry_at(name, fields).put(&mut bytes);
@@ -373,7 +373,7 @@ fn succeeds(writer: &mut SymbolTableWriter, layout: &Layout, call: &Call) -> Res
             )
         }
         Call::Slots => {
-            let sections = NamedSections::of(layout);
+            let sections = named_sections(layout);
             let symbol = symbol_of(layout, 0)?;
             Ok(
                 writer

@@ -5,10 +5,10 @@ use Rattle.std.proofs.lemmas.Grind.{flat_map-append}
 use Rattle.wild_types.specs.declared.file.File.{File}
 use Rattle.wild_types.specs.declared.layout.Layout.{Layout}
 use Rattle.wild_needs.specs.DynamicStrings.{behind_text, behind_file}
-use Rattle.wild_versions.specs.Room.{Filled, with_bytes, IsFull}
-use Rattle.wild_versions.specs.Symbols.{spelled, version_bytes}
-use Rattle.wild_versions.proofs.LawLemmas.{length-versym, length-definition_table, length-need_bytes}
-use Rattle.wild_versions.specs.Names.{told, offsets_from, need_of, needs_from}
+use Rattle.wild_table_formats.specs.VersionRoom.{Filled, with_bytes, IsFull}
+use Rattle.wild_table_formats.specs.SymbolVersions.{spelled, version_bytes}
+use Rattle.wild_table_formats.proofs.VersionLengths.{length-versym, length-definition_table, length-need_bytes}
+use Rattle.wild_table_formats.specs.VersionNames.{told, offsets_from, need_of, needs_from}
 
 pub ruleset sizes = (length-definition_table)
 

@@ -17,14 +17,14 @@ use Rattle.wild_records.specs.declared.verneeds.Verneed.{Verneed}
 use Rattle.wild_records.specs.declared.verneeds.Vernaux.{Vernaux}
 use Rattle.wild_types.specs.declared.file.NeededVersion.{NeededVersion}
 use Rattle.wild_types.specs.declared.layout.VersionDefinition.{VersionDefinition}
-use Rattle.wild_versions.specs.Chain.{chain, next_of, name_at}
-use Rattle.wild_versions.specs.Definitions.{names_of, known_as, verdef_of, verdauxes_with, verdauxes_of, verdaux_bytes, definition_bytes}
+use Rattle.wild_table_formats.specs.VersionChain.{chain, next_of, name_at}
+use Rattle.wild_table_formats.specs.VersionDefinitions.{names_of, known_as, verdef_of, verdauxes_with, verdauxes_of, verdaux_bytes, definition_bytes}
 use Rattle.wild_needs.specs.Versions.{size_with, definition_size, need_size}
-use Rattle.wild_versions.specs.Needs.{verneed_of, vernaux_of, needed_bytes, need_bytes}
-use Rattle.wild_versions.specs.Reading.{Defined, Needed, Library, names_from, defined, defined_at, definitions_from, needed, needed_from, library_at, needs_from}
-use Rattle.wild_versions.specs.Laws.{DefinitionsAreRead, NeedsAreRead, name_offsets, defined_as, all_defined, Need, NeedFits, needs_bytes, needed_as, all_needed, library_of}
-use Rattle.wild_versions.proofs.ChainLemmas.{chain-cons}
-use Rattle.wild_versions.proofs.LawLemmas.{length-verdef, length-verdaux, length-verneed, length-vernaux, length-definition, length-need_bytes}
+use Rattle.wild_table_formats.specs.VersionNeeds.{verneed_of, vernaux_of, needed_bytes, need_bytes}
+use Rattle.wild_table_formats.specs.VersionReading.{Defined, Needed, Library, names_from, defined, defined_at, definitions_from, needed, needed_from, library_at, needs_from}
+use Rattle.wild_table_formats.specs.VersionLaws.{DefinitionsAreRead, NeedsAreRead, name_offsets, defined_as, all_defined, Need, NeedFits, needs_bytes, needed_as, all_needed, library_of}
+use Rattle.wild_table_formats.proofs.VersionChains.{chain-cons}
+use Rattle.wild_table_formats.proofs.VersionLengths.{length-verdef, length-verdaux, length-verneed, length-vernaux, length-definition, length-need_bytes}
 
 -- ---- numbers have their fields
 

@@ -11,7 +11,7 @@ use Rattle.wild_types.specs.declared.part.Role.{Role}
 use Rattle.wild_types.specs.Faults.{nowhere}
 use Rattle.wild_types.specs.Shares.{part_of, share_of}
 use Rattle.wild_versions.specs.declared.table.VersionTable.{VersionTable}
-use Rattle.wild_versions.specs.Room.{with_bytes}
+use Rattle.wild_table_formats.specs.VersionRoom.{with_bytes}
 
 -- an empty table with the size of the group's share of the part with a role
 abbrev pub empty_table : Layout → ℕ → Role → VersionTable

@@ -10,9 +10,9 @@ use Rattle.wild_types.specs.declared.file.VersionNeeds.{VersionNeeds}
 use Rattle.wild_types.specs.declared.layout.Layout.{Layout}
 use Rattle.wild_types.specs.declared.part.Role.TheVariants as role
 use Rattle.wild_versions.specs.Table.{empty_table, filled_with, left_of}
-use Rattle.wild_versions.specs.Symbols.{version_bytes}
-use Rattle.wild_versions.specs.Definitions.{definition_table}
-use Rattle.wild_versions.specs.Needs.{need_bytes}
+use Rattle.wild_table_formats.specs.SymbolVersions.{version_bytes}
+use Rattle.wild_table_formats.specs.VersionDefinitions.{definition_table}
+use Rattle.wild_table_formats.specs.VersionNeeds.{need_bytes}
 use Rattle.wild_versions.specs.declared.writer.VersionWriter.{VersionWriter}
 
 -- empty tables

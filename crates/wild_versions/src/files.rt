@@ -4,10 +4,10 @@ ghost use Rattle.std.specs.List.{filter};
 ghost use Rattle.wild_types.specs.declared.file.File.{File};
 ghost use Rattle.wild_needs.specs.DynamicSymbols.{is_undefined_entry};
 ghost use Rattle.wild_needs.specs.Versions.{length_of, needs_of};
-ghost use Rattle.wild_versions.specs.Needs.{need_bytes};
-ghost use Rattle.wild_versions.specs.Room.{IsFull};
-ghost use Rattle.wild_versions.specs.Symbols.{spelled, version_bytes, version_of, listed_version, null_versions, entry_versions};
-ghost use Rattle.wild_versions.specs.Names.{symbol_versions, file_definitions, need_of, group_needs};
+ghost use Rattle.wild_table_formats.specs.VersionNeeds.{need_bytes};
+ghost use Rattle.wild_table_formats.specs.VersionRoom.{IsFull};
+ghost use Rattle.wild_table_formats.specs.SymbolVersions.{spelled, version_bytes, version_of, listed_version, null_versions, entry_versions};
+ghost use Rattle.wild_table_formats.specs.VersionNames.{symbol_versions, file_definitions, need_of, group_needs};
 
 use crate::definitions::push_definitions;
 use crate::names::{behind_entries, behind_text, definition_offsets, needed_offsets, told};
@@ -103,7 +103,7 @@ pub fn file_versions(alloc: Global, layout: &Layout, file: &File) -> Result<Vec<
 }
 
 /// The versions that the output defines. They belong to the last file, and only if the output has a `.dynsym`.
-#[tactic(auto, unfolding(crate::specs::Names::file_definitions), using(crate::proofs::NameLemmas::sizes))]
+#[tactic(auto, unfolding(wild_table_formats::specs::VersionNames::file_definitions), using(crate::proofs::NameLemmas::sizes))]
 pub fn file_definitions(alloc: Global, layout: &Layout, file: &File) -> Result<Vec<u8>, AllocError>
     requires few { length layout.now.verdefs < 2 ^ 16 }
     ensures { IfOk result (λ bytes. bytes.items ≡ file_definitions layout.now file.now) }
@@ -159,7 +159,7 @@ fn add_need(
 }
 
 /// The versions that are needed of a group's libraries; empty if the output has no `.dynsym`.
-#[tactic(auto, unfolding(crate::specs::Names::group_needs), using(crate::proofs::NameLemmas::need_steps))]
+#[tactic(auto, unfolding(wild_table_formats::specs::VersionNames::group_needs), using(crate::proofs::NameLemmas::need_steps))]
 pub fn group_needs(alloc: Global, layout: &Layout, group: &Group) -> Result<Vec<u8>, AllocError>
     requires few { All (λ (f : File). length_of (needs_of f) < 2 ^ 16) group.now.files }
     ensures { IfOk result (λ bytes. bytes.items ≡ group_needs layout.now group.now) }

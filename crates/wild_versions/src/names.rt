@@ -3,7 +3,7 @@ ghost use Rattle.std.specs.Prelude.{◌≡◌, ◌∷◌, [], ◌++◌, true, If
 ghost use Rattle.wild_needs.specs.DynamicStrings.{behind_text};
 ghost use Rattle.wild_types.specs.FileRoles.{is_epilogue};
 ghost use Rattle.wild_needs.specs.Versions.{definition_names, needed_names};
-ghost use Rattle.wild_versions.specs.Names.{told, offsets_from, behind_entries, behind_path, definition_offsets};
+ghost use Rattle.wild_table_formats.specs.VersionNames.{told, offsets_from, behind_entries, behind_path, definition_offsets};
 
 use std::alloc::{AllocError, Global};
 use wild_needs::{entry_room, lead_room, string_start};
@@ -84,7 +84,7 @@ fn add_defined(
 
 /// The offsets of the names of the versions that the output defines. With a soname, the first version's name is the
 /// soname's string.
-#[tactic(auto, unfolding(crate::specs::Names::definition_offsets))]
+#[tactic(auto, unfolding(wild_table_formats::specs::VersionNames::definition_offsets))]
 pub(crate) fn definition_offsets(
     alloc: Global,
     layout: &Layout,

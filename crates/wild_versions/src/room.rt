@@ -1,6 +1,6 @@
 //! A buffer of fixed size that is filled from its front.
 ghost use Rattle.std.specs.Prelude.{◌≡◌, ◌+◌, ◌++◌, ◌^◌, ◌<◌, ◌≤◌, length, take, [], IfOk, OnOk};
-ghost use Rattle.wild_versions.specs.Room.{with_bytes, IsFull};
+ghost use Rattle.wild_table_formats.specs.VersionRoom.{with_bytes, IsFull};
 
 use std::alloc::{AllocError, Global};
 use std::marker::Model;
@@ -14,7 +14,7 @@ pub struct FilledRoom {
 }
 
 impl Model for FilledRoom {
-    ghost use Rattle.wild_versions.specs.Room.{Filled, filled_in, IsFilled};
+    ghost use Rattle.wild_table_formats.specs.VersionRoom.{Filled, filled_in, IsFilled};
 
     ghost Value = { Filled };
 
@@ -24,7 +24,7 @@ impl Model for FilledRoom {
 }
 
 /// Writes bytes at an offset, after those already written.
-#[tactic(auto, using(crate::proofs::ChainLemmas::front_of))]
+#[tactic(auto, using(wild_table_formats::proofs::VersionChains::front_of))]
 fn put_behind(out: &mut [u8], at: usize, bytes: &[u8])
     requires { at + length bytes.now ≤ length out.old }
     ensures { take (at + length bytes.now) out.new ≡ take at out.old ++ bytes.now }

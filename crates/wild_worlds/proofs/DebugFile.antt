@@ -34,7 +34,7 @@ use Rattle.wild_types.specs.Flags.{has_flag, absolute, ifunc}
 use Rattle.wild_types.specs.Item.{Item, item_with}
 use Rattle.wild_types.specs.ResolvedFlags.{HasItsFlags, HaveTheirFlags}
 use Rattle.wild_needs.specs.Dynamic.{dynamic_entries}
-use Rattle.wild_headers.specs.Headers.{entry_address}
+use Rattle.wild_table_formats.specs.Headers.{entry_address}
 use Rattle.wild_loader.specs.declared.memory.Memory.{Memory}
 use Rattle.wild_loader.specs.declared.world.World.{World}
 use Rattle.wild_loader.specs.Memory.{number_in}
@@ -55,8 +55,8 @@ use Rattle.wild_meaning.specs.Template.{IsTemplate}
 use Rattle.wild_meaning.specs.Item.{IsInput, IsKept, IsKeptSection, IsReference, OfSection, OfFrames, stood_item, place_at}
 use Rattle.wild_meaning.specs.Reference.{ReferenceHolds, IsExcepted, IsLinkedAlone, IsFilled, TakesEntry, IsSlotValue, NamesSlot, TakesStub, IsByStub, GoesAside, IsLeftOut}
 use Rattle.wild_meaning.specs.Linked.{IsLinked}
-use Rattle.wild_meaning.specs.Worked.{Refuses}
-use Rattle.wild_meaning.specs.Refusals.{HasWrongNumber}
+use Rattle.wild_meaning.specs.Worked.Builders.{Refuses}
+use Rattle.wild_meaning.specs.Worked.Refusals.{HasWrongNumber}
 use Rattle.wild_meaning.proofs.StringLemmas.{nothing_named}
 use Rattle.wild_meaning.proofs.SymbolLemmas.{referent_stands}
 use Rattle.wild_laws.specs.Laws.{ImagesAreSound}

@@ -17,7 +17,7 @@ use Rattle.wild_meaning.specs.World.{IsExecutable, IsFirstModule, IsLegal, Answe
 use Rattle.std.proofs.lemmas.Bool.{cases_Bool, eqb-true}
 use Rattle.wild_types.specs.declared.section.Segment.{Segment}
 use Rattle.wild_types.specs.Kinds.{is_partial_link}
-use Rattle.wild_clauses.specs.WellFormed.{first_clause}
+use Rattle.wild_plan_rules.specs.WellFormed.{first_clause}
 use Rattle.wild_layout.specs.Faults.{flat_map_from, clause_errors, part_errors, group_errors, errors}
 use Rattle.wild_layout.proofs.FaultLemmas.{clause_holds, first_empty, rest_empty, laid_out}
 use Rattle.wild_geometry.proofs.LaidLemmas.{Laid, Laid-from_clauses}

@@ -30,8 +30,8 @@ use Rattle.wild_meaning.specs.Sequence.{Sort, Target, TargetInSlot, Instruction}
 use Rattle.wild_meaning.specs.Template.{IsTemplate}
 use Rattle.wild_meaning.specs.Reference.{IsExcepted, IsLinkedAlone, IsLeftOut, ReferenceHolds}
 use Rattle.wild_meaning.specs.Linked.{IsLinked}
-use Rattle.wild_meaning.specs.Worked.{Refuses}
-use Rattle.wild_meaning.specs.Refusals.{HasWrongNumber}
+use Rattle.wild_meaning.specs.Worked.Builders.{Refuses}
+use Rattle.wild_meaning.specs.Worked.Refusals.{HasWrongNumber}
 
 -- how an instruction calls or jumps: on x86-64 through the slot that it names, on AArch64 by the distance in its word
 abbrev pub GoesBy : Machine → Sort → Type 0

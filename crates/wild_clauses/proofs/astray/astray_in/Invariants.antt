@@ -1,5 +1,5 @@
 use Rattle.std.proofs.Common.{◌≡◌, ◌+◌, drop}
-use Rattle.wild_clauses.specs.Indexes.{symbol_indexes_fit}
+use Rattle.wild_plan_rules.specs.Indexes.{symbol_indexes_fit}
 use Rattle.wild_types.specs.Lists.{first_failing}
 use Rattle.wild_clauses.proofs.astray.astray_in.Given as goal
 

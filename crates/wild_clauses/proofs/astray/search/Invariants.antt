@@ -1,5 +1,5 @@
 use Rattle.std.proofs.Common.{◌≡◌, drop}
-use Rattle.wild_clauses.specs.Indexes.{symbol_misfit}
+use Rattle.wild_plan_rules.specs.Indexes.{symbol_misfit}
 use Rattle.wild_types.specs.Lookups.{files_of}
 use Rattle.wild_clauses.proofs.astray.search.Given as goal
 

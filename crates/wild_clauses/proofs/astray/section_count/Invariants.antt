@@ -1,5 +1,5 @@
 use Rattle.std.proofs.Common.{◌≡◌, drop}
-use Rattle.wild_clauses.specs.Indexes.{section_count}
+use Rattle.wild_plan_rules.specs.Indexes.{section_count}
 use Rattle.wild_types.specs.Lookups.{files_of, file_of}
 use Rattle.wild_clauses.proofs.astray.section_count.Given as goal
 

@@ -1,6 +1,6 @@
 use Rattle.std.proofs.Common.{◌≡◌, drop}
 use Rattle.std.specs.List.{list_any}
-use Rattle.wild_clauses.specs.Fronts.{stands_in_front}
+use Rattle.wild_plan_rules.specs.Fronts.{stands_in_front}
 use Rattle.wild_clauses.proofs.fronts.any_stands.Given as goal
 
 abbrev pub invariant-loop-other : goal.invariant-loop-other

@@ -1,5 +1,5 @@
 use Rattle.std.proofs.Common.{◌≡◌, [], take, drop}
-use Rattle.wild_clauses.specs.Fronts.{properties_differ}
+use Rattle.wild_plan_rules.specs.Fronts.{properties_differ}
 use Rattle.wild_clauses.proofs.fronts.property_again.Given as goal
 
 abbrev pub invariant-loop-i : goal.invariant-loop-i

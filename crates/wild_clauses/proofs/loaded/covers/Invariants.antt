@@ -1,5 +1,5 @@
 use Rattle.std.proofs.Common.{◌≡◌, drop}
-use Rattle.wild_clauses.specs.Covers.{covers}
+use Rattle.wild_plan_rules.specs.Covers.{covers}
 use Rattle.wild_clauses.proofs.loaded.covers.Given as goal
 
 abbrev pub invariant-loop-segment : goal.invariant-loop-segment

@@ -1,5 +1,5 @@
 use Rattle.std.proofs.Common.{sym, ◌∙◌, arith}
-use Rattle.wild_clauses.proofs.CoverLemmas.{asked_step, unasked_step}
+use Rattle.wild_plan_rules.proofs.CoverLemmas.{asked_step, unasked_step}
 use Rattle.wild_clauses.proofs.loaded.not_loaded.Goals.{then-is_asked+else-not-covers, else-is_asked}
 use Rattle.wild_clauses.proofs.loaded.not_loaded.Goals as goal
 

@@ -1,7 +1,7 @@
 use Rattle.std.proofs.Common.{◌≡◌, ◌+◌, ◌≤◌, true, length, take, drop, All}
-use Rattle.wild_clauses.specs.Covers.{is_passed}
+use Rattle.wild_plan_rules.specs.Covers.{is_passed}
 use Rattle.wild_types.specs.Lists.{first_failing}
-use Rattle.wild_clauses.specs.Segments.{bytes_are_loaded}
+use Rattle.wild_plan_rules.specs.Segments.{bytes_are_loaded}
 use Rattle.wild_clauses.proofs.loaded.not_loaded.Given as goal
 
 abbrev pub invariant-loop-i : goal.invariant-loop-i

@@ -1,5 +1,5 @@
 use Rattle.std.proofs.Common.{◌≡◌, ◌-◌, ◌≤◌, true, length, take, All}
-use Rattle.wild_clauses.specs.Covers.{is_passed}
+use Rattle.wild_plan_rules.specs.Covers.{is_passed}
 use Rattle.wild_clauses.proofs.loaded.pass.Given as goal
 
 abbrev pub invariant-loop-next : goal.invariant-loop-next

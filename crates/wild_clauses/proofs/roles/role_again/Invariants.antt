@@ -1,5 +1,5 @@
 use Rattle.std.proofs.Common.{◌≡◌, [], take, drop}
-use Rattle.wild_clauses.specs.Places.{role_again}
+use Rattle.wild_plan_rules.specs.Places.{role_again}
 use Rattle.wild_clauses.proofs.roles.role_again.Given as goal
 
 abbrev pub invariant-loop-i : goal.invariant-loop-i

@@ -1,5 +1,5 @@
 use Rattle.std.proofs.Common.{◌≡◌, drop}
-use Rattle.wild_clauses.specs.SlotFlags.{first_asked_failing}
+use Rattle.wild_plan_rules.specs.SlotFlags.{first_asked_failing}
 use Rattle.wild_clauses.proofs.slot_flags.first_asked_failing.Given as goal
 
 abbrev pub invariant-loop-i : goal.invariant-loop-i

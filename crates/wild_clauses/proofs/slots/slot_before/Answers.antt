@@ -1,7 +1,7 @@
 use Rattle.std.proofs.Common.{Some, None, sym, ap, ◌∙◌}
 use Rattle.wild_types.specs.Lists.{first_failing}
 use Rattle.wild_types.specs.SymbolSlots.{is_without}
-use Rattle.wild_clauses.proofs.SlotPlaceLemmas.{slot_found}
+use Rattle.wild_plan_rules.proofs.SlotPlaceLemmas.{slot_found}
 use Rattle.wild_clauses.proofs.slots.slot_before.Goals as goal
 
 pub returns-in_err-found : goal.returns-in_err-found

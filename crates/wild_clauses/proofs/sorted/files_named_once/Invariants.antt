@@ -1,5 +1,5 @@
 use Rattle.std.proofs.Common.{◌≡◌, drop}
-use Rattle.wild_clauses.specs.Contents.{files_named_once}
+use Rattle.wild_plan_rules.specs.Contents.{files_named_once}
 use Rattle.wild_clauses.proofs.sorted.files_named_once.Given as goal
 
 abbrev pub invariant-loop-k : goal.invariant-loop-k

@@ -1,5 +1,5 @@
 use Rattle.std.proofs.Common.{◌≡◌, drop}
-use Rattle.wild_clauses.specs.Contents.{sorted_named_once}
+use Rattle.wild_plan_rules.specs.Contents.{sorted_named_once}
 use Rattle.wild_clauses.proofs.sorted.sorted_named_once.Given as goal
 
 abbrev pub invariant-loop-i : goal.invariant-loop-i

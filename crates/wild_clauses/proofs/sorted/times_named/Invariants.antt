@@ -1,5 +1,5 @@
 use Rattle.std.proofs.Common.{◌≡◌, ◌+◌, ◌≤◌, drop}
-use Rattle.wild_clauses.specs.Contents.{times_named}
+use Rattle.wild_plan_rules.specs.Contents.{times_named}
 use Rattle.wild_clauses.proofs.sorted.times_named.Given as goal
 
 abbrev pub invariant-loop-entry : goal.invariant-loop-entry

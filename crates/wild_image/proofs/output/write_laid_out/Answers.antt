@@ -3,7 +3,7 @@ use Rattle.wild_crew.specs.Ended.{AreTotals}
 use Rattle.wild_types.specs.declared.part.Role.TheVariants as role
 use Rattle.wild_types.specs.declared.file.Group.{Group}
 use Rattle.wild_types.specs.declared.layout.Layout.{Layout}
-use Rattle.wild_clauses.specs.Places.{relocation_count}
+use Rattle.wild_plan_rules.specs.Places.{relocation_count}
 use Rattle.wild_layout.specs.Faults.{flat_map_from, part_errors}
 use Rattle.wild_layout.specs.Geometry.{IsLaidOut}
 use Rattle.wild_image.specs.declared.batch.Batch.{Batch}

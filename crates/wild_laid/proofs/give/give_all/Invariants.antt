@@ -1,5 +1,5 @@
 use Rattle.std.proofs.Common.{drop}
-use Rattle.wild_walk.specs.Runs.{Left}
+use Rattle.wild_words.specs.Runs.{Left}
 use Rattle.wild_laid.proofs.give.give_all.Given as goal
 
 abbrev pub invariant-loop-relocation : goal.invariant-loop-relocation

@@ -2,8 +2,8 @@ use Rattle.std.proofs.Common.{List, subst}
 use Rattle.wild_types.specs.declared.input.InputRelocation.{InputRelocation}
 use Rattle.wild_laid.specs.FrameInputs.{frames_of}
 use Rattle.wild_laid.specs.Laid.{laid_relocations}
-use Rattle.wild_walk.specs.Runs.{Ran}
-use Rattle.wild_walk.proofs.RunLemmas.{ran_none}
+use Rattle.wild_words.specs.Runs.{Ran}
+use Rattle.wild_words.proofs.RunLemmas.{ran_none}
 use Rattle.wild_laid.proofs.FrameLemmas.{laid_none, laid_whole}
 use Rattle.wild_laid.proofs.give.give_frames.Goals as goal
 

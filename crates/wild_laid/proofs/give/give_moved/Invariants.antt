@@ -1,6 +1,6 @@
 use Rattle.std.proofs.Common.{drop, map}
 use Rattle.wild_laid.specs.Laid.{moved_by}
-use Rattle.wild_walk.specs.Runs.{Left}
+use Rattle.wild_words.specs.Runs.{Left}
 use Rattle.wild_laid.proofs.give.give_moved.Given as goal
 
 abbrev pub invariant-loop-relocation : goal.invariant-loop-relocation

@@ -1,5 +1,5 @@
 use Rattle.wild_laid.specs.Stood.{placed_at}
-use Rattle.wild_walk.proofs.RunLemmas.{mapped_next}
+use Rattle.wild_words.proofs.RunLemmas.{mapped_next}
 use Rattle.wild_laid.proofs.give.give_placed.Goals as goal
 
 pub loop-relocation-preserved : goal.loop-relocation-preserved

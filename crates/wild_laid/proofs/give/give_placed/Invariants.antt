@@ -1,6 +1,6 @@
 use Rattle.std.proofs.Common.{drop, map}
 use Rattle.wild_laid.specs.Stood.{placed_at}
-use Rattle.wild_walk.specs.Runs.{Left}
+use Rattle.wild_words.specs.Runs.{Left}
 use Rattle.wild_laid.proofs.give.give_placed.Given as goal
 
 abbrev pub invariant-loop-relocation : goal.invariant-loop-relocation

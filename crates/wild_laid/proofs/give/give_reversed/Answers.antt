@@ -1,5 +1,5 @@
 use Rattle.wild_laid.specs.Turned.{turned_offset}
-use Rattle.wild_walk.proofs.RunLemmas.{mapped_next}
+use Rattle.wild_words.proofs.RunLemmas.{mapped_next}
 use Rattle.wild_laid.proofs.give.give_reversed.Goals as goal
 
 pub loop-relocation-preserved : goal.loop-relocation-preserved

@@ -1,6 +1,6 @@
 use Rattle.std.proofs.Common.{drop, map}
 use Rattle.wild_laid.specs.Turned.{turned_offset}
-use Rattle.wild_walk.specs.Runs.{Left}
+use Rattle.wild_words.specs.Runs.{Left}
 use Rattle.wild_laid.proofs.give.give_reversed.Given as goal
 
 abbrev pub invariant-loop-relocation : goal.invariant-loop-relocation

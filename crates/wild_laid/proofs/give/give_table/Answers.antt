@@ -2,8 +2,8 @@ use Rattle.std.proofs.Common.{List, map, subst, sym, ap, ◌∙◌}
 use Rattle.std.specs.Prelude.{option_copied}
 use Rattle.wild_types.specs.declared.input.InputRelocation.{InputRelocation}
 use Rattle.wild_laid.specs.Stood.{placed_at}
-use Rattle.wild_walk.specs.Runs.{Ran}
-use Rattle.wild_walk.proofs.RunLemmas.{ran_none}
+use Rattle.wild_words.specs.Runs.{Ran}
+use Rattle.wild_words.proofs.RunLemmas.{ran_none}
 use Rattle.wild_laid.proofs.TableLemmas.{target_placed, target_missing}
 use Rattle.wild_laid.proofs.give.give_table.Goals as goal
 

@@ -1,6 +1,6 @@
 use Rattle.std.proofs.Common.{◌+◌, drop}
 use Rattle.wild_needs.specs.TableSymbols.{pass_items}
-use Rattle.wild_walk.specs.Runs.{Left}
+use Rattle.wild_words.specs.Runs.{Left}
 use Rattle.wild_needs.proofs.walk.give_pass.Given as goal
 
 abbrev pub invariant-loop-i : goal.invariant-loop-i

@@ -1,6 +1,6 @@
 use Rattle.std.proofs.Common.{drop}
 use Rattle.wild_needs.specs.TableSymbols.{items_of}
-use Rattle.wild_walk.specs.Runs.{Left}
+use Rattle.wild_words.specs.Runs.{Left}
 use Rattle.wild_needs.proofs.walk.give_symbols.Given as goal
 
 abbrev pub invariant-loop-pass : goal.invariant-loop-pass

@@ -1,7 +1,7 @@
 use Rattle.std.proofs.Common.{drop}
 use Rattle.std.specs.List.{flat_map}
 use Rattle.wild_needs.specs.TableSymbols.{thunk_item, thunk_items}
-use Rattle.wild_walk.specs.Runs.{Left}
+use Rattle.wild_words.specs.Runs.{Left}
 use Rattle.wild_needs.proofs.walk.give_thunks.Given as goal
 
 abbrev pub invariant-loop-thunk : goal.invariant-loop-thunk

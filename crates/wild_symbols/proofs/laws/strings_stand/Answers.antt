@@ -1,4 +1,4 @@
-use Rattle.wild_symbols.proofs.StringLemmas.{length-string_bytes, with_strings-behind, string_stands}
+use Rattle.wild_table_formats.proofs.StringLemmas.{length-string_bytes, with_strings-behind, string_stands}
 use Rattle.wild_symbols.proofs.laws.strings_stand.Goals as goal
 
 pub returns-clause-lengths : goal.returns-clause-lengths

@@ -1,7 +1,7 @@
 use Rattle.std.proofs.Common.{◌≡◌}
 use Rattle.std.specs.Prelude.{map}
 use Rattle.std.specs.List.{range_with_len}
-use Rattle.wild_symbols.specs.SectionSymbols.{symbol_index}
+use Rattle.wild_table_formats.specs.SectionSymbols.{symbol_index}
 use Rattle.wild_symbols.proofs.map.joined.Given as goal
 
 abbrev pub invariant-loop-i : goal.invariant-loop-i

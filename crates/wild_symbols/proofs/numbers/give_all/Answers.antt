@@ -1,5 +1,5 @@
 use Rattle.std.proofs.Common.{List, subst}
-use Rattle.wild_walk.specs.Runs.{Ran}
+use Rattle.wild_words.specs.Runs.{Ran}
 use Rattle.wild_needs.specs.TableSymbols.{TableSymbol}
 use Rattle.wild_symbols.proofs.NumberLemmas.{items_in_turn}
 use Rattle.wild_symbols.proofs.numbers.give_all.Goals as goal

@@ -1,6 +1,6 @@
 use Rattle.std.proofs.Common.{drop}
 use Rattle.std.specs.List.{flat_map}
-use Rattle.wild_walk.specs.Runs.{Left}
+use Rattle.wild_words.specs.Runs.{Left}
 use Rattle.wild_needs.specs.TableSymbols.{file_items}
 use Rattle.wild_symbols.proofs.numbers.give_group.Given as goal
 

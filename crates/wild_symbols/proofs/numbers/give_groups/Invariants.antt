@@ -1,7 +1,7 @@
 use Rattle.std.proofs.Common.{drop}
 use Rattle.std.specs.List.{flat_map}
 use Rattle.wild_types.specs.declared.file.Group.{Group}
-use Rattle.wild_walk.specs.Runs.{Left}
+use Rattle.wild_words.specs.Runs.{Left}
 use Rattle.wild_needs.specs.TableSymbols.{file_items}
 use Rattle.wild_symbols.proofs.numbers.give_groups.Given as goal
 

@@ -1,4 +1,4 @@
-use Rattle.wild_walk.proofs.RunLemmas.{listed_next}
+use Rattle.wild_words.proofs.RunLemmas.{listed_next}
 use Rattle.wild_symbols.specs.SectionWalk.{alone_in}
 use Rattle.wild_symbols.proofs.section_walk.give_alone_among.Goals as goal
 

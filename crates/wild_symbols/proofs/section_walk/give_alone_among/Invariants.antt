@@ -1,6 +1,6 @@
 use Rattle.std.proofs.Common.{drop}
 use Rattle.std.specs.List.{flat_map}
-use Rattle.wild_walk.specs.Runs.{Left}
+use Rattle.wild_words.specs.Runs.{Left}
 use Rattle.wild_symbols.specs.SectionWalk.{alone_in}
 use Rattle.wild_symbols.proofs.section_walk.give_alone_among.Given as goal
 

@@ -1,6 +1,6 @@
 use Rattle.std.specs.Prelude.{option_to_list}
 use Rattle.wild_types.specs.declared.input.InputSection.{InputSection}
-use Rattle.wild_walk.proofs.RunLemmas.{listed_next}
+use Rattle.wild_words.proofs.RunLemmas.{listed_next}
 use Rattle.wild_symbols.proofs.section_walk.give_alone_in.Goals as goal
 
 pub loop-section-preserved : goal.loop-section-preserved

@@ -2,7 +2,7 @@ use Rattle.std.proofs.Common.{drop}
 use Rattle.std.specs.Prelude.{option_to_list}
 use Rattle.std.specs.List.{flat_map}
 use Rattle.wild_types.specs.declared.input.InputSection.{InputSection}
-use Rattle.wild_walk.specs.Runs.{Left}
+use Rattle.wild_words.specs.Runs.{Left}
 use Rattle.wild_symbols.specs.SectionWalk.{alone_in}
 use Rattle.wild_symbols.proofs.section_walk.give_alone_in.Given as goal
 

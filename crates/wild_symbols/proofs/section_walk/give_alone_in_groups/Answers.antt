@@ -1,6 +1,6 @@
 use Rattle.std.specs.List.{flat_map}
 use Rattle.wild_types.specs.declared.file.Group.{Group}
-use Rattle.wild_walk.proofs.RunLemmas.{listed_next}
+use Rattle.wild_words.proofs.RunLemmas.{listed_next}
 use Rattle.wild_symbols.specs.SectionWalk.{alone_in}
 use Rattle.wild_symbols.proofs.section_walk.give_alone_in_groups.Goals as goal
 

@@ -1,7 +1,7 @@
 use Rattle.std.proofs.Common.{drop}
 use Rattle.std.specs.List.{flat_map}
 use Rattle.wild_types.specs.declared.file.Group.{Group}
-use Rattle.wild_walk.specs.Runs.{Left}
+use Rattle.wild_words.specs.Runs.{Left}
 use Rattle.wild_symbols.specs.SectionWalk.{alone_in, alone_in_groups}
 use Rattle.wild_symbols.proofs.section_walk.give_alone_in_groups.Given as goal
 

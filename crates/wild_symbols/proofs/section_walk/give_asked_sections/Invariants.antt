@@ -1,6 +1,6 @@
 use Rattle.std.proofs.Common.{drop}
 use Rattle.wild_needs.specs.TableSymbols.{asked_from}
-use Rattle.wild_walk.specs.Runs.{Left}
+use Rattle.wild_words.specs.Runs.{Left}
 use Rattle.wild_symbols.proofs.section_walk.give_asked_sections.Given as goal
 
 abbrev pub invariant-loop-i : goal.invariant-loop-i

@@ -1,7 +1,7 @@
 use Rattle.std.proofs.Common.{◌+◌, List, ℕ, arith, ap, take, ◌∙◌}
 use Rattle.std.proofs.lemmas.List.{length-drop}
 use Rattle.wild_needs.specs.DynamicStrings.{behind_text}
-use Rattle.wild_tables.proofs.DynamicLemmas.{auxiliary_offset, auxiliary_written, auxiliary_done}
+use Rattle.wild_table_formats.proofs.DynamicLemmas.{auxiliary_offset, auxiliary_written, auxiliary_done}
 use Rattle.wild_tables.proofs.dynamic.write_auxiliary.Goals as goal
 
 pub loop-text-preserved : goal.loop-text-preserved

@@ -1,7 +1,7 @@
 use Rattle.std.proofs.Common.{◌≡◌, ◌+◌, ◌*◌, ◌++◌, drop, take, length}
 use Rattle.wild_records.specs.Dynamic.{dynamic_entry_size}
 use Rattle.wild_needs.specs.DynamicStrings.{auxiliary_strings, string_entries}
-use Rattle.wild_tables.specs.Dynamic.{behind_strings, entries_bytes}
+use Rattle.wild_table_formats.specs.DynamicSection.{behind_strings, entries_bytes}
 use Rattle.wild_tables.proofs.dynamic.write_auxiliary.Given as goal
 
 abbrev pub invariant-loop-text : goal.invariant-loop-text

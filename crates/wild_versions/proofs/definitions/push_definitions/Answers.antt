@@ -1,6 +1,6 @@
 use Rattle.std.proofs.Common.{◌+◌, refl, ap, arith}
-use Rattle.wild_versions.specs.Room.{Filled}
-use Rattle.wild_versions.proofs.ChainLemmas.{definition_more, definition_end, definition_room}
+use Rattle.wild_table_formats.specs.VersionRoom.{Filled}
+use Rattle.wild_table_formats.proofs.VersionChains.{definition_more, definition_end, definition_room}
 use Rattle.wild_versions.proofs.definitions.push_definitions.Goals as goal
 
 pub loop-i-preserved : goal.loop-i-preserved

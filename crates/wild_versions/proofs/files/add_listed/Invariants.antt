@@ -1,6 +1,6 @@
 use Rattle.std.proofs.Common.{◌≡◌, ◌++◌, drop, map}
-use Rattle.wild_versions.specs.Room.{IsFull}
-use Rattle.wild_versions.specs.Symbols.{version_bytes, listed_version}
+use Rattle.wild_table_formats.specs.VersionRoom.{IsFull}
+use Rattle.wild_table_formats.specs.SymbolVersions.{version_bytes, listed_version}
 use Rattle.wild_versions.proofs.files.add_listed.Given as goal
 
 abbrev pub invariant-loop-symbol : goal.invariant-loop-symbol

@@ -1,7 +1,7 @@
 use Rattle.std.proofs.Common.{◌+◌, refl, ap, arith}
 use Rattle.std.proofs.lemmas.List.{length-drop}
-use Rattle.wild_versions.specs.Room.{Filled}
-use Rattle.wild_versions.proofs.ChainLemmas.{needed_more, needed_end}
+use Rattle.wild_table_formats.specs.VersionRoom.{Filled}
+use Rattle.wild_table_formats.proofs.VersionChains.{needed_more, needed_end}
 use Rattle.wild_versions.proofs.needs.push_versions.Goals as goal
 
 pub loop-i-preserved : goal.loop-i-preserved
