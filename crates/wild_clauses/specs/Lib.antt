@@ -1,8 +1,8 @@
-pub mod Astray
+pub mod SymbolIndexes
 pub mod Copies
-pub mod Ordered
-pub mod Passed
+pub mod SortedOrder
+pub mod FileTests
 pub mod Positions
 pub mod Roles
-pub mod Seen
+pub mod LayoutSurvey
 pub mod Survey

@@ -2,7 +2,7 @@
 ghost use Rattle.std.specs.Prelude.{◌≡◌, ◌+◌, ◌-◌, ◌^◌, min, length, is_some};
 ghost use Rattle.wild_needs.specs.Needs.{total_share};
 ghost use Rattle.wild_needs.specs.DynamicPlaces.{need_number};
-ghost use Rattle.wild_clauses.specs.Astray.{all_ranges_lie};
+ghost use Rattle.wild_clauses.specs.SymbolIndexes.{all_ranges_lie};
 ghost use Rattle.wild_plan_rules.specs.Counts.{symbols_of, table_fits, lists_fit, counts_fit};
 ghost use Rattle.wild_plan_rules.specs.Places.{relocation_count};
 ghost use Rattle.wild_types.specs.Lists.{total};

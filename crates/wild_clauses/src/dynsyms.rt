@@ -10,11 +10,11 @@ ghost use Rattle.wild_needs.specs.UndefinedCounts.{undefined_count};
 ghost use Rattle.wild_clauses.specs.Survey.{are_simple};
 ghost use Rattle.wild_plan_rules.specs.ClauseTests.{check_indexes, check_dynsyms};
 
-use crate::listed::misfit;
+use crate::listed_symbols::first_misplaced_listed;
 use crate::verdict::fails;
 use wild_needs::{dynsym_of, is_undefined_entry, undefined_count};
 use wild_types::{
-    Clause, File, FileRole, Group, Layout, Symbol, Test, ValueFlags, all_pass, some_from,
+    Clause, File, FileRole, Group, Layout, Symbol, Test, ValueFlags, all_pass, symbols_in_range,
 };
 
 /// Whether the entry at that place lists the symbol of that number.
@@ -106,10 +106,10 @@ fn walk_file(
     }
     let symbols = layout.symbols.as_slice();
     let (next, count) = at;
-    let gap = some_from(symbols, next, file.first_symbol.0.saturating_sub(next));
+    let gap = symbols_in_range(symbols, next, file.first_symbol.0.saturating_sub(next));
     let count = walk_run(layout, undefined, FileRole::NotLoaded, next, count, gap)?;
     let first = next + gap.len();
-    let range = some_from(symbols, first, file.symbol_count);
+    let range = symbols_in_range(symbols, first, file.symbol_count);
     let count = walk_run(layout, undefined, file.role, first, count, range)?;
     Ok((first + range.len(), count))
 }
@@ -150,7 +150,7 @@ fn walk(layout: &Layout, undefined: usize) -> Option<usize>
     match walk_groups(layout, undefined) {
         Ok((next, count)) => {
             let symbols = layout.symbols.as_slice();
-            let rest = some_from(symbols, next, symbols.len());
+            let rest = symbols_in_range(symbols, next, symbols.len());
             walk_run(layout, undefined, FileRole::NotLoaded, next, count, rest).err()
         }
         Err(symbol) => Some(symbol),
@@ -213,5 +213,5 @@ pub(crate) fn check_dynsyms(layout: &Layout, simple: bool) -> Result<(), Clause>
     }
     let undefined = exact_count(layout);
     fails(13, misplaced(layout, undefined))?;
-    fails(13, misfit(layout, undefined))
+    fails(13, first_misplaced_listed(layout, undefined))
 }

@@ -2,7 +2,7 @@
 ghost use Rattle.std.specs.Prelude.{◌≡◌, ◌&&◌};
 ghost use Rattle.wild_plan_rules.specs.Contents.{field_lies, fields_lie, is_read_well, relocations_are_read};
 ghost use Rattle.wild_types.specs.Rows.{field_bytes};
-ghost use Rattle.wild_clauses.specs.Passed.{groups_pass};
+ghost use Rattle.wild_clauses.specs.FileTests.{groups_pass};
 ghost use Rattle.wild_plan_rules.specs.ClauseTests.{check_fields};
 
 use crate::each_section::failing_group;

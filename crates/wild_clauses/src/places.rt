@@ -1,15 +1,15 @@
 //! Whether the input sections of each part are in its range of their group, in order and without overlap.
 ghost use Rattle.std.specs.Prelude.{◌≡◌, ◌+◌, ◌^◌, ◌≤◌, ◌<◌, length, Ok, if◌then◌else◌, is_some, Some, None, ℕ, slice_index};
-ghost use Rattle.wild_laid.specs.Laid.{sorted_input};
+ghost use Rattle.wild_placement.specs.PlacedSections.{sorted_input};
 ghost use Rattle.wild_plan_rules.specs.Contents.{addresses, ends_of, section_misplaced};
 ghost use Rattle.wild_types.specs.FilePlaces.{given};
 ghost use Rattle.wild_types.specs.Lists.{through, total};
 ghost use Rattle.wild_plan_rules.specs.ClauseTests.{check_sizes, check_shares};
-ghost use Rattle.wild_plan_rules.specs.Misplaced.{earlier, misplaced, all_placed, bytes_placed, file_all_placed};
-ghost use Rattle.wild_clauses.specs.Ordered.{as_ordered, sections_of, ordered};
+ghost use Rattle.wild_plan_rules.specs.MisplacedSections.{earlier, misplaced, all_placed, bytes_placed, file_all_placed};
+ghost use Rattle.wild_clauses.specs.SortedOrder.{sorted_as_loaded, sections_of, sections_by_order};
 
-use crate::sorted::has_ordered_bytes;
-use wild_laid::sorted_input;
+use crate::sorted_sections::has_ordered_bytes;
+use wild_placement::sorted_input;
 use wild_types::{File, Group, InputSection, Layout, Part, SortedSection, wide_sum};
 
 /// The smaller of two places, if both exist; else the one that does.
@@ -57,7 +57,7 @@ fn pass_section(
     requires { length ends.now ≡ length cursors.old }
     ensures { all_placed layout.now part ends.now cursors.old section.now ≡ (if result then Some cursors.new else None) }
 {
-    !section.is_given(layout) || pass_bytes(part, ends, cursors, section)
+    !section.has_range_bytes(layout) || pass_bytes(part, ends, cursors, section)
 }
 
 /// The same for a sorted section.
@@ -70,7 +70,7 @@ fn pass_ordered(
     section: &InputSection,
 ) -> bool
     requires { length ends.now ≡ length cursors.old }
-    ensures { all_placed layout.now part ends.now cursors.old (as_ordered layout.now section.now) ≡ (if result then Some cursors.new else None) }
+    ensures { all_placed layout.now part ends.now cursors.old (sorted_as_loaded layout.now section.now) ≡ (if result then Some cursors.new else None) }
 {
     !has_ordered_bytes(layout, section) || pass_bytes(part, ends, cursors, section)
 }
@@ -118,7 +118,7 @@ fn pass_order(
     order: &[SortedSection],
 ) -> bool
     requires { length ends.now ≡ length cursors.old }
-    ensures { through (all_placed layout.now part ends.now) cursors.old (ordered layout.now order.now) ≡ (if result then Some cursors.new else None) }
+    ensures { through (all_placed layout.now part ends.now) cursors.old (sections_by_order layout.now order.now) ≡ (if result then Some cursors.new else None) }
 {
     for entry in order {
         if !pass_entry(layout, part, ends, cursors, *entry) {

@@ -23,7 +23,7 @@ use Rattle.wild_loader.specs.declared.kind.DynamicKind.TheVariants as kinds
 use Rattle.wild_loader.specs.Changes.{kind_of}
 use Rattle.wild_loader.specs.Headers.{machine_of}
 use Rattle.wild_meaning.specs.Field.{formula_of}
-use Rattle.wild_meaning.specs.Linked.{processor_of}
+use Rattle.wild_meaning.specs.LinkedImage.{processor_of}
 use Rattle.wild_meaning.specs.Thread.{control_block_size, rounded_up, thread_pointer_of}
 use Rattle.wild_geometry.specs.EntryKinds.{loaded_kind}
 

@@ -20,7 +20,7 @@ use Rattle.wild_sections.specs.Fits.{FieldsFit}
 use Rattle.wild_types.specs.declared.part.Part.{Part}
 use Rattle.wild_types.specs.declared.part.Role.{Role}
 use Rattle.wild_types.specs.Parts.{has_role, part_with}
-use Rattle.wild_laid.specs.Laid.{part_address}
+use Rattle.wild_placement.specs.PlacedSections.{part_address}
 use Rattle.wild_layout.specs.SearchTable.{address_of_role}
 use Rattle.std.proofs.lemmas.List.Elements.{All-head, All-tail}
 use Rattle.wild_types.specs.declared.part.Role.TheVariants as role
@@ -70,9 +70,9 @@ image_is (Ok x) l one two a b = b ∙ ap (overlay (flat_map_from (group_pieces l
 image_is (Err x) l one two a b = b
 
 -- without faults of clauses and shares, those of the groups are all
-pub errors_behind : (l : Layout) → clause_errors (first_clause l) ≡ [] → flat_map_from (part_errors l) 0 l.parts ≡ [] → flat_map_from (group_errors l) 0 l.groups ≡ errors l
+pub file_trailer_errors : (l : Layout) → clause_errors (first_clause l) ≡ [] → flat_map_from (part_errors l) 0 l.parts ≡ [] → flat_map_from (group_errors l) 0 l.groups ≡ errors l
 unfolding errors
-errors_behind l a b = rw (a, b) refl
+file_trailer_errors l a b = rw (a, b) refl
 
 -- neither relocations nor groups are too many
 pub few_lists : (l : Layout) → check_counts l ≡ Ok tt → (relocation_count l < 2 ^ 32 - 1) × (length l.groups < 2 ^ 32 - 1)

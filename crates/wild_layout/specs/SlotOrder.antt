@@ -10,7 +10,7 @@ use Rattle.wild_types.specs.declared.part.Part.{Part}
 use Rattle.wild_types.specs.declared.part.Role.TheVariants as role
 use Rattle.wild_types.specs.declared.symbol.Symbol.{Symbol}
 use Rattle.wild_types.specs.declared.layout.Layout.{Layout}
-use Rattle.wild_types.specs.FilePlaces.{file_misplaced}
+use Rattle.wild_types.specs.FilePlaces.{first_misplaced_file}
 use Rattle.wild_types.specs.Lookups.{canonical}
 use Rattle.wild_needs.specs.SlotShares.{word_size}
 use Rattle.wild_plan_rules.specs.SlotPlaces.{start_of, slots_astray, slot_is_even, block_has_base}
@@ -46,7 +46,7 @@ pub record HasSlotsInOrder (l : Layout) : Type 0 where
   pub slots : SlotsFollow l
   pub flags : EachAgrees l
   pub resolved : HaveTheirFlags l
-  pub files : file_misplaced true 0 l.groups ≡ None
+  pub files : first_misplaced_file true 0 l.groups ≡ None
 
 -- ---- law
 

@@ -13,7 +13,7 @@ use Rattle.wild_meaning.specs.World.{HasResolver, IsAnswer, IsAnswered, IsKnownM
 use Rattle.wild_meaning.specs.Worked.Builders.{file_of, group_of}
 use Rattle.wild_meaning.specs.Worked.Static.{static_pie, static_pie_world, branch_code, load_code, general_code, described_code, static_data, first_function, second_function, thread_symbol, getter_symbol}
 use Rattle.wild_meaning.specs.Worked.StaticRefusals.{StaticPieWorldIsLegal}
-use Rattle.wild_meaning.proofs.Told.{only}
+use Rattle.wild_meaning.proofs.SymbolUnique.{only}
 use Rattle.wild_meaning.proofs.Legal.{not_indirect, no_index}
 
 module_1 : IsKnownModule static_pie_world 1

@@ -13,7 +13,7 @@ use Rattle.wild_meaning.specs.World.{HasResolver, IsAnswer, IsAnswered, IsKnownM
 use Rattle.wild_meaning.specs.Worked.Builders.{file_of, group_of}
 use Rattle.wild_meaning.specs.Worked.AArch64.{words_static, words_world, address_code, slot_code, call_code, past_code, descriptor_code, kept_code, near_function, local_data}
 use Rattle.wild_meaning.specs.Worked.ImageRefusalsAArch64.{WordsWorldIsLegal}
-use Rattle.wild_meaning.proofs.Told.{only}
+use Rattle.wild_meaning.proofs.SymbolUnique.{only}
 use Rattle.wild_meaning.proofs.Legal.{not_indirect, no_index}
 
 module_1 : IsKnownModule words_world 1

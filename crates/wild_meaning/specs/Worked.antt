@@ -16,4 +16,4 @@ pub mod RefusalsAArch64
 pub mod AArch64
 pub mod AArch64Image
 pub mod ImageRefusalsAArch64
-pub mod Replaced
+pub mod ReplaceableSymbols

@@ -20,15 +20,15 @@ use Rattle.wild_types.specs.Flags.{has_flag, ifunc}
 use Rattle.wild_types.specs.Kinds.{is_partial_link, has_fixed_load_address}
 use Rattle.wild_types.specs.Lookups.{section_of, section_of_part, files_of, file_of}
 use Rattle.wild_types.specs.SymbolSlots.{plt_of}
-use Rattle.wild_laid.specs.Laid.{base_of}
+use Rattle.wild_placement.specs.PlacedSections.{base_of}
 use Rattle.wild_needs.specs.DynamicSymbols.{output_section, section_of_input}
 use Rattle.wild_table_formats.specs.declared.symbols.SymbolAttributes.{SymbolAttributes}
 use Rattle.wild_table_formats.specs.declared.symbols.TableFields.{TableFields}
-use Rattle.wild_table_formats.specs.DynamicFields.{is_thread_symbol, some_section, stands_as_stub}
+use Rattle.wild_table_formats.specs.DynamicFields.{is_thread_symbol, some_section, has_stub_address}
 use Rattle.wild_table_formats.specs.TableEntries.{NamedEntry, in_table_section, counted_from, table_value, table_attributes, table_at, table_by}
 use Rattle.wild_table_formats.specs.SectionSymbols.{symbol_section}
 use Rattle.wild_layout.specs.Geometry.{IsLaidOut}
-use Rattle.wild_names.specs.Links.{Link, entry_value, StandsIn}
+use Rattle.wild_names.specs.Links.{Link, entry_value, IsInObjectSection}
 
 -- ---- entries
 
@@ -62,7 +62,7 @@ section_low l part laid = by (slice_get l.parts part) refl
 
 -- ---- symbols of input sections
 
-no_stub : (l : Layout) (s : Symbol) → is_partial_link l.kind ≡ true → stands_as_stub l s ≡ false
+no_stub : (l : Layout) (s : Symbol) → is_partial_link l.kind ≡ true → has_stub_address l s ≡ false
 no_stub l s partial = none (has_flag s.flags ifunc) (is_some (plt_of s)) (has_fixed_load_address l.kind) (moves l.kind partial)
   where
     moves : (k : OutputKind) → is_partial_link k ≡ true → has_fixed_load_address k ≡ false
@@ -80,7 +80,7 @@ pub record IsTableValue (l : Layout) (i : ℕ) (s : Symbol) (t : InputSection) :
   pub is : table_value l i s ≡ Some value
   pub same : value % 2 ^ 64 ≡ (base_of t + s.value) % 2 ^ 64
 
-table_value_is : (l : Layout) (i n : ℕ) (s : Symbol) (t : InputSection) → is_partial_link l.kind ≡ true → symbol_section l i ≡ Some t → StandsIn l t n → ((a : ℕ) → raw_value l i ≡ Some a → a ≡ (t.address + s.value) % 2 ^ 64) → IsTableValue l i s t
+table_value_is : (l : Layout) (i n : ℕ) (s : Symbol) (t : InputSection) → is_partial_link l.kind ≡ true → symbol_section l i ≡ Some t → IsInObjectSection l t n → ((a : ℕ) → raw_value l i ≡ Some a → a ≡ (t.address + s.value) % 2 ^ 64) → IsTableValue l i s t
 table_value_is l i n s t partial there stands own = by t.singleton refl
   where
     decided : (o : Option ℕ) → raw_value l i ≡ o → t.singleton ≡ None → IsTableValue l i s t
@@ -120,7 +120,7 @@ tells_in i n v w a f (Some m) e same told =
 pub own_place : (l : Layout) (i : ℕ) (role : FileRole) (s : Symbol) (section : ℕ) → is_library role ≡ false → table_by l i role s section ≡ table_at l i role s section s.place
 own_place l i role s section h = rw h refl
 
-pub symbol_in_section : (l : Layout) (f : File) (i j n : ℕ) (s : Symbol) (t : InputSection) (fields : TableFields) → is_partial_link l.kind ≡ true → is_library f.role ≡ false → slice_get l.symbols i ≡ Some s → file_of (files_of l.groups) i ≡ Some f → s.place ≡ at.Section j → symbol_section l i ≡ Some t → StandsIn l t n
+pub symbol_in_section : (l : Layout) (f : File) (i j n : ℕ) (s : Symbol) (t : InputSection) (fields : TableFields) → is_partial_link l.kind ≡ true → is_library f.role ≡ false → slice_get l.symbols i ≡ Some s → file_of (files_of l.groups) i ≡ Some f → s.place ≡ at.Section j → symbol_section l i ≡ Some t → IsInObjectSection l t n
     → ((a : ℕ) → raw_value l i ≡ Some a → a ≡ (t.address + s.value) % 2 ^ 64) → (is_thread_symbol s ≡ true → l.tls.start ≡ 0) → table_by l i f.role s (output_section l (Some f) s.place) ≡ Ok fields → TellsIn n (base_of t + s.value) fields
 symbol_in_section l f i j n s t fields partial plain listed filed placed there stands own start told =
     let v = table_value_is l i n s t partial there stands own in

@@ -14,7 +14,7 @@ use Rattle.wild_types.specs.declared.layout.Layout.{Layout}
 use Rattle.wild_types.specs.FileRoles.{is_prelude}
 use Rattle.wild_types.specs.Kinds.{is_partial_link}
 use Rattle.wild_types.specs.Lookups.{files_of}
-use Rattle.wild_needs.specs.TableSymbols.{TableSymbol, file_items, is_on, side, section_symbols}
+use Rattle.wild_needs.specs.TableSymbols.{TableSymbol, file_items, is_on_side, side, section_symbols}
 use Rattle.wild_table_formats.specs.TableEntries.{NamedEntry, named_entry, null_entry, section_entry, null_entries, file_table, group_table, is_side}
 use Rattle.wild_table_formats.specs.SectionSymbols.{front_count}
 use Rattle.wild_layout.specs.Geometry.{IsLaidOut}
@@ -87,16 +87,16 @@ side_ordered l local partial laid =
 
 -- ---- symbols among them
 
-sides_same : (l : Layout) (f : File) (local : Bool) (x : TableSymbol) → is_side local (named_entry l f x) ≡ is_on local x
+sides_same : (l : Layout) (f : File) (local : Bool) (x : TableSymbol) → is_side local (named_entry l f x) ≡ is_on_side local x
 sides_same l f true x = refl
 sides_same l f false x = refl
 
-pub mapped : (l : Layout) (f : File) (local : Bool) (xs : List TableSymbol) → filter (is_side local) (map (named_entry l f) xs) ≡ map (named_entry l f) (filter (is_on local) xs)
+pub mapped : (l : Layout) (f : File) (local : Bool) (xs : List TableSymbol) → filter (is_side local) (map (named_entry l f) xs) ≡ map (named_entry l f) (filter (is_on_side local) xs)
 mapped l f local [] = refl
 mapped l f local (x ∷ xs) =
     let again = mapped l f local xs in
     let same = sides_same l f local x in
-    elim (cases_Bool (is_on local x)) [
+    elim (cases_Bool (is_on_side local x)) [
       | inl t ↦ rw (same ∙ t, t) (ap (λ (es : List NamedEntry). named_entry l f x ∷ es) again)
       | inr n ↦ rw (same ∙ n, n) again
     ]
@@ -111,15 +111,15 @@ pub record IsEntryAt (l : Layout) (local : Bool) (n : ℕ) (x : TableSymbol) (fs
 pub entry_at : (l : Layout) (local : Bool) (n : ℕ) (x : TableSymbol) (fs : List File) → slice_get (side local (flat_map (file_items l) fs)) n ≡ Some x → IsEntryAt l local n x fs
 entry_at l local n x [] h = cc
 entry_at l local n x (f ∷ fs) h =
-    let xs = filter (is_on local) (file_items l f) in
-    let ys = filter (is_on local) (flat_map (file_items l) fs) in
+    let xs = filter (is_on_side local) (file_items l f) in
+    let ys = filter (is_on_side local) (flat_map (file_items l) fs) in
     let own = mapped l f local (file_items l f) in
-    let joined : slice_get (xs ++ ys) n ≡ Some x = subst (λ (zs : List TableSymbol). slice_get zs n ≡ Some x) (filter-append (is_on local) (file_items l f) (flat_map (file_items l) fs)) h in
+    let joined : slice_get (xs ++ ys) n ≡ Some x = subst (λ (zs : List TableSymbol). slice_get zs n ≡ Some x) (filter-append (is_on_side local) (file_items l f) (flat_map (file_items l) fs)) h in
     elim (either xs ys n x joined) [
       | inl a ↦
           (let e = slice_get-map (named_entry l f) xs n ∙ ap (option_map (named_entry l f)) a in
           let here : slice_get (own_side l local f) n ≡ Some (named_entry l f x) = subst (λ (es : List NamedEntry). slice_get es n ≡ Some (named_entry l f x)) (sym own) e in
-          record { file = f; filed = Contains-here f fs; listed = filtered (is_on local) (file_items l f) n x a; there = in_front (own_side l local f) (flat_map (own_side l local) fs) n (named_entry l f x) here })
+          record { file = f; filed = Contains-here f fs; listed = filtered (is_on_side local) (file_items l f) n x a; there = in_front (own_side l local f) (flat_map (own_side l local) fs) n (named_entry l f x) here })
       | inr b ↦
           (let r = entry_at l local (n - length xs) x fs b.1 in
           let from = b.0 in

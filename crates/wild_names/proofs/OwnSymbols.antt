@@ -12,13 +12,13 @@ use Rattle.wild_types.specs.declared.layout.Layout.{Layout}
 use Rattle.wild_types.specs.FileRoles.{is_loaded_file}
 use Rattle.wild_types.specs.FileSymbols.{range_of, loaded_symbols}
 use Rattle.wild_types.specs.FileThunks.{thunks_of}
-use Rattle.wild_types.specs.Lookups.{has_table}
+use Rattle.wild_types.specs.Lookups.{has_symtab}
 use Rattle.wild_types.specs.SymbolSlots.{names_slot, names_stub}
-use Rattle.wild_laid.specs.FrameInputs.{has_symbol}
-use Rattle.wild_needs.specs.declared.table.Named.{Named}
-use Rattle.wild_needs.specs.declared.table.Named.TheVariants as named
-use Rattle.wild_needs.specs.declared.table.Pass.{Pass}
-use Rattle.wild_needs.specs.TableSymbols.{TableSymbol, item, where_asked, slot_items, own_item, is_of_pass, symbol_items, pass_items, passes, items_of, named_thunk, thunk_item, thunk_items, file_items}
+use Rattle.wild_placement.specs.FrameInputs.{has_symbol}
+use Rattle.wild_needs.specs.declared.table.SymtabName.{SymtabName}
+use Rattle.wild_needs.specs.declared.table.SymtabName.TheVariants as named
+use Rattle.wild_needs.specs.declared.table.SymtabPass.{SymtabPass}
+use Rattle.wild_needs.specs.TableSymbols.{TableSymbol, item, item_if, slot_items, own_item, is_of_pass, symbol_items, pass_items, passes, items_of, named_thunk, thunk_item, thunk_items, file_items}
 use Rattle.wild_table_formats.specs.SectionSymbols.{is_own_entry}
 use Rattle.wild_names.proofs.PlaceLemmas.{dropped, taken}
 
@@ -29,15 +29,15 @@ record IsOf (i : ℕ) (s : Symbol) (x : TableSymbol) : Type 0 where
   index : x.index ≡ i
   symbol : x.symbol ≡ s
 
-asked_of : (b : Bool) (n : Named) (i : ℕ) (s : Symbol) → All (IsOf i s) (where_asked b (item n i s))
+asked_of : (b : Bool) (n : SymtabName) (i : ℕ) (s : Symbol) → All (IsOf i s) (item_if b (item n i s))
 asked_of true n i s = All-cons (IsOf i s) (item n i s) [] (record { index = refl; symbol = refl }) (All-nil (IsOf i s))
 asked_of false n i s = All-nil (IsOf i s)
 
-symbol_of : (l : Layout) (p : Pass) (i : ℕ) (s : Symbol) → All (IsOf i s) (symbol_items l p i s)
+symbol_of : (l : Layout) (p : SymtabPass) (i : ℕ) (s : Symbol) → All (IsOf i s) (symbol_items l p i s)
 symbol_of l p i s = All-append (IsOf i s) (if p.slots then slot_items l i s else []) (own_item p.own i s) (slots p.slots) (asked_of (is_of_pass p.own s && s.emit) named.Itself i s)
   where
     slots : (b : Bool) → All (IsOf i s) (if b then slot_items l i s else [])
-    slots true = All-append (IsOf i s) (where_asked (names_slot l i s) (item named.Slot i s)) (where_asked (names_stub l i s) (item named.Stub i s)) (asked_of (names_slot l i s) named.Slot i s) (asked_of (names_stub l i s) named.Stub i s)
+    slots true = All-append (IsOf i s) (item_if (names_slot l i s) (item named.Slot i s)) (item_if (names_stub l i s) (item named.Stub i s)) (asked_of (names_slot l i s) named.Slot i s) (asked_of (names_stub l i s) named.Stub i s)
     slots false = All-nil (IsOf i s)
 
 -- ---- a pass
@@ -59,7 +59,7 @@ later_of i s ss x h =
     let same : suc (x.index - (i + 1)) ≡ x.index - i = omega (arith, from) in
     record { from = omega (arith, from); there = subst (λ (k : ℕ). slice_get (s ∷ ss) k ≡ Some x.symbol) same h.there }
 
-pass_of : (l : Layout) (p : Pass) (i : ℕ) (ss : List Symbol) → All (IsAmong i ss) (pass_items l p i ss)
+pass_of : (l : Layout) (p : SymtabPass) (i : ℕ) (ss : List Symbol) → All (IsAmong i ss) (pass_items l p i ss)
 pass_of l p i [] = All-nil (IsAmong i [])
 pass_of l p i (s ∷ ss) =
     All-append (IsAmong i (s ∷ ss)) (symbol_items l p i s) (pass_items l p (i + 1) ss)
@@ -81,7 +81,7 @@ OwnIsKnown l f x = (i : ℕ) → is_own_entry i x ≡ true → IsOwn l f i x
 own_parts : (i : ℕ) (x : TableSymbol) → is_own_entry i x ≡ true → (x.named ≡ named.Itself) × (x.index ≡ i)
 own_parts i x h = by x.named refl
   where
-    by : (n : Named) → x.named ≡ n → (x.named ≡ named.Itself) × (x.index ≡ i)
+    by : (n : SymtabName) → x.named ≡ n → (x.named ≡ named.Itself) × (x.index ≡ i)
     by named.Itself e = (e, index_is (rw e at h))
       where
         index_is : (x.index == i) ≡ true → x.index ≡ i
@@ -116,12 +116,12 @@ thunk_of l f t = by (slice_get l.symbols t.symbol)
 
 pub own_known : (l : Layout) (f : File) (x : TableSymbol) → Contains (file_items l f) x → OwnIsKnown l f x
 unfolding file_items
-own_known l f x c = All-contains (OwnIsKnown l f) (if has_table l then items_of l (passes l.kind f.role) f ++ thunk_items l f else []) x (all (has_table l)) c
+own_known l f x c = All-contains (OwnIsKnown l f) (if has_symtab l then items_of l (passes l.kind f.role) f ++ thunk_items l f else []) x (all (has_symtab l)) c
   where
-    pass : (p : Pass) → All (OwnIsKnown l f) (pass_items l p f.first_symbol (loaded_symbols l f))
+    pass : (p : SymtabPass) → All (OwnIsKnown l f) (pass_items l p f.first_symbol (loaded_symbols l f))
     pass p = All-weaker (IsAmong f.first_symbol (loaded_symbols l f)) (OwnIsKnown l f) (ranged l f) (pass_items l p f.first_symbol (loaded_symbols l f)) (pass_of l p f.first_symbol (loaded_symbols l f))
 
-    of_passes : (ps : List Pass) → All (OwnIsKnown l f) (items_of l ps f)
+    of_passes : (ps : List SymtabPass) → All (OwnIsKnown l f) (items_of l ps f)
     of_passes [] = All-nil (OwnIsKnown l f)
     of_passes (p ∷ ps) = All-append (OwnIsKnown l f) (pass_items l p f.first_symbol (loaded_symbols l f)) (items_of l ps f) (pass p) (of_passes ps)
 

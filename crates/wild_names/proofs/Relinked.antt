@@ -18,13 +18,13 @@ use Rattle.wild_types.specs.declared.layout.Layout.{Layout}
 use Rattle.wild_types.specs.FileRoles.{is_library}
 use Rattle.wild_types.specs.Kinds.{is_partial_link}
 use Rattle.wild_types.specs.Lookups.{canonical, section_of, files_of, file_of}
-use Rattle.wild_laid.specs.Laid.{base_of}
+use Rattle.wild_placement.specs.PlacedSections.{base_of}
 use Rattle.wild_needs.specs.DynamicSymbols.{output_section}
-use Rattle.wild_needs.specs.declared.table.Named.{Named}
-use Rattle.wild_needs.specs.declared.table.Named.TheVariants as named
-use Rattle.wild_needs.specs.TableSymbols.{TableSymbol, file_items, is_on, side, is_local_symbol, asked_from, kept_alone, section_symbols, full_name, item_name}
+use Rattle.wild_needs.specs.declared.table.SymtabName.{SymtabName}
+use Rattle.wild_needs.specs.declared.table.SymtabName.TheVariants as named
+use Rattle.wild_needs.specs.TableSymbols.{TableSymbol, file_items, is_on_side, side, is_local_symbol, marked_sections, singleton_sections, section_symbols, full_name, item_name}
 use Rattle.wild_table_formats.specs.declared.symbols.TableFields.{TableFields}
-use Rattle.wild_table_formats.specs.DynamicFields.{nowhere_with}
+use Rattle.wild_table_formats.specs.DynamicFields.{undefined_with}
 use Rattle.wild_table_formats.specs.TableEntries.{NamedEntry, short, table_attributes, undefined_attributes, fields_of, table_fields, named_entry, section_entry, table_by}
 use Rattle.wild_table_formats.specs.SectionSymbols.{symbol_section, is_section_type, all_items, front_count, entry_by, entry_index, number_from, is_own_entry, section_index, number_of_section, symbol_index, named_index}
 use Rattle.wild_layout.specs.SymbolValues.{sum}
@@ -33,7 +33,7 @@ use Rattle.wild_layout.specs.Faults.{errors}
 use Rattle.wild_layout.specs.Geometry.{IsLaidOut}
 use Rattle.wild_names.specs.FieldLaws.{TableSymbolsHaveFields, entry_with}
 use Rattle.wild_names.specs.IndexLaws.{side_table}
-use Rattle.wild_names.specs.Links.{Link, object_symbols, entry_value, IsNumberOf, NoNumber, OfEntry, StandsIn, HasValue, InSection, Absolute, Outside, IsPlain, Asks, NoSymbol, OfSection, OfSymbol, RelinkingIsFaithful}
+use Rattle.wild_names.specs.Links.{Link, object_symbols, entry_value, IsNumberOf, NoNumber, OfEntry, IsInObjectSection, HasValue, InSection, Absolute, Outside, IsPlain, HasTargetValue, NoSymbol, OfSection, OfSymbol, RelinkingIsFaithful}
 use Rattle.wild_names.proofs.PlaceLemmas.{in_front, behind, number_in, own_at}
 use Rattle.wild_names.proofs.ObjectSymbols.{front, front_local, front_global, length-front, own_side, side_ordered, mapped, entry_at}
 use Rattle.wild_names.proofs.OwnSymbols.{own_known}
@@ -58,27 +58,27 @@ record IsEntry (l : Layout) (n : ℕ) (e : NamedEntry) : Type 0 where
 -- ---- sections
 
 -- the number of an input section's section is that of its symbol
-section_listed : (l : Layout) (t : InputSection) (n : ℕ) → is_partial_link l.kind ≡ true → StandsIn l t n → (section_index l t ≡ 0 → ⊥) → (1 ≤ section_index l t) × (slice_get (section_symbols l) (section_index l t - 1) ≡ Some n)
+section_listed : (l : Layout) (t : InputSection) (n : ℕ) → is_partial_link l.kind ≡ true → IsInObjectSection l t n → (section_index l t ≡ 0 → ⊥) → (1 ≤ section_index l t) × (slice_get (section_symbols l) (section_index l t - 1) ≡ Some n)
 unfolding section_symbols
 section_listed l t n partial stands told = by t.singleton refl
   where
     asked : List ℕ
-    asked = asked_from 0 l.sections
+    asked = marked_sections 0 l.sections
 
     Listed : ℕ → Type 0
-    Listed i = (1 ≤ i) × (slice_get (if is_partial_link l.kind then asked ++ kept_alone l else []) (i - 1) ≡ Some n)
+    Listed i = (1 ≤ i) × (slice_get (if is_partial_link l.kind then asked ++ singleton_sections l else []) (i - 1) ≡ Some n)
 
-    joined : (i : ℕ) → 1 ≤ i → slice_get (asked ++ kept_alone l) (i - 1) ≡ Some n → Listed i
+    joined : (i : ℕ) → 1 ≤ i → slice_get (asked ++ singleton_sections l) (i - 1) ≡ Some n → Listed i
     joined i some there = (some, rw partial there)
 
     by : (o : Option ℕ) → t.singleton ≡ o → Listed (section_index l t)
     by (Some h) e =
-        let is : section_index l t ≡ unwrap_or (number_from h (1 + length asked) (kept_alone l)) 0 = rw e refl in
+        let is : section_index l t ≡ unwrap_or (number_from h (1 + length asked) (singleton_sections l)) 0 = rw e refl in
         let own = stands.alone h e in
-        let i = unwrap_or (number_from h (1 + length asked) (kept_alone l)) 0 in
-        let found = number_in h (1 + length asked) i (kept_alone l) (some_number (number_from h (1 + length asked) (kept_alone l)) (λ z. told (is ∙ z))) in
+        let i = unwrap_or (number_from h (1 + length asked) (singleton_sections l)) 0 in
+        let found = number_in h (1 + length asked) i (singleton_sections l) (some_number (number_from h (1 + length asked) (singleton_sections l)) (λ z. told (is ∙ z))) in
         let from = found.from in
-        let there = behind asked (kept_alone l) (i - (1 + length asked)) (i - 1) h (omega (arith, from)) found.there in
+        let there = behind asked (singleton_sections l) (i - (1 + length asked)) (i - 1) h (omega (arith, from)) found.there in
         subst Listed (sym is) (joined i (omega (arith, from)) (there ∙ ap (λ (k : ℕ). Some k) own))
     by None e =
         let m = section_of l t.part in
@@ -86,7 +86,7 @@ section_listed l t n partial stands told = by t.singleton refl
         let i = unwrap_or (number_from m 1 asked) 0 in
         let found = number_in m 1 i asked (some_number (number_from m 1 asked) (λ z. told (is ∙ z))) in
         let from = found.from in
-        let there = in_front asked (kept_alone l) (i - 1) m found.there in
+        let there = in_front asked (singleton_sections l) (i - 1) m found.there in
         subst Listed (sym is) (joined i from (there ∙ ap (λ (k : ℕ). Some k) stands.is))
 
 -- so its entry is that of the section
@@ -111,7 +111,7 @@ side_long l local (f ∷ fs) =
     let a = length-append (own_side l local f) (flat_map (own_side l local) fs) in
     let b = ap (λ (xs : List NamedEntry). length xs) (mapped l f local (file_items l f)) in
     let c = length-map (side local (file_items l f)) (named_entry l f) in
-    let d = ap (λ (xs : List TableSymbol). length xs) (filter-append (is_on local) (file_items l f) rest) in
+    let d = ap (λ (xs : List TableSymbol). length xs) (filter-append (is_on_side local) (file_items l f) rest) in
     let e = length-append (side local (file_items l f)) (side local rest) in
     let again = side_long l local fs in
     omega (arith, a, b, c, d, e, again)
@@ -171,7 +171,7 @@ unfolding table_fields
 fields_told l f x i s fields itself index symbol told =
     subst (λ (t : Symbol). fields_of l f named.Itself i t ≡ Ok fields) symbol
     (subst (λ (j : ℕ). fields_of l f named.Itself j x.symbol ≡ Ok fields) index
-    (subst (λ (m : Named). fields_of l f m x.index x.symbol ≡ Ok fields) itself told))
+    (subst (λ (m : SymtabName). fields_of l f m x.index x.symbol ≡ Ok fields) itself told))
 
 -- the entry of symbol i, by what its fields are
 value_told : (k : Link) (l : Layout) (f : File) (i v : ℕ) (s : Symbol) (x : TableSymbol) (fields : TableFields) → is_partial_link l.kind ≡ true → IsLaidOut l → is_library f.role ≡ false → slice_get l.symbols i ≡ Some s → file_of (files_of l.groups) i ≡ Some f → x.named ≡ named.Itself → x.symbol ≡ s
@@ -187,9 +187,9 @@ value_told k l f i v s x fields partial laid plain listed filed itself symbol to
     let made : short (record { section = shn_abs; value = s.value; attributes = table_attributes f.role s }) ≡ fields = cc in
     ap (λ (g : TableFields). entry_value k (entry_with x g) % 2 ^ 64) (sym made) ∙ ap (λ (n : ℕ). n % 2 ^ 64) (sym is)
 value_told k l f i v s x fields partial laid plain listed filed itself symbol told (Outside placed is) =
-    let here : Ok (short (nowhere_with (undefined_attributes l f.role s))) ≡ Ok fields = rw placed at (sym (own_place l i f.role s (output_section l (Some f) s.place) plain) ∙ told) in
-    let made : short (nowhere_with (undefined_attributes l f.role s)) ≡ fields = cc in
-    let name : item_name x ≡ s.name = ap (λ (m : Named). full_name m x.symbol.name) itself ∙ append-nil x.symbol.name ∙ ap (λ (y : Symbol). y.name) symbol in
+    let here : Ok (short (undefined_with (undefined_attributes l f.role s))) ≡ Ok fields = rw placed at (sym (own_place l i f.role s (output_section l (Some f) s.place) plain) ∙ told) in
+    let made : short (undefined_with (undefined_attributes l f.role s)) ≡ fields = cc in
+    let name : item_name x ≡ s.name = ap (λ (m : SymtabName). full_name m x.symbol.name) itself ∙ append-nil x.symbol.name ∙ ap (λ (y : Symbol). y.name) symbol in
     ap (λ (g : TableFields). entry_value k (entry_with x g) % 2 ^ 64) (sym made) ∙ ap (λ (bs : List ℕ). k.outside bs % 2 ^ 64) name ∙ ap (λ (n : ℕ). n % 2 ^ 64) (sym is)
 
 -- the own entry of a symbol of the input has its value
@@ -264,13 +264,13 @@ pub record Below (l : Layout) : Type 0 where
   pub partial : is_partial_link l.kind ≡ true
   pub laid : IsLaidOut l
 
-section_index_is : (l : Layout) (i n : ℕ) (s : Symbol) (t : InputSection) → slice_get l.symbols i ≡ Some s → is_section_type s ≡ true → entry_index l i ≡ None → symbol_section l i ≡ Some t → StandsIn l t n → named_index l (Some i) ≡ section_index l t
+section_index_is : (l : Layout) (i n : ℕ) (s : Symbol) (t : InputSection) → slice_get l.symbols i ≡ Some s → is_section_type s ≡ true → entry_index l i ≡ None → symbol_section l i ≡ Some t → IsInObjectSection l t n → named_index l (Some i) ≡ section_index l t
 section_index_is l i n s t listed kind none there stands =
     let kept = stands.kept in
     let number : symbol_index l i ≡ Some (section_index l t) = ap (λ (o : Option ℕ). option_or o (option_and_then (number_of_section l i) (slice_get l.symbols i))) none ∙ ap (option_and_then (number_of_section l i)) listed ∙ rw (kind, there, kept) refl in
     ap (λ (o : Option ℕ). unwrap_or (option_or o (symbol_index l (canonical l i))) 0) number
 
-shifted : (k : Link) (l : Layout) (symbol : Option ℕ) (v : ℕ) → Below l → (symbol ≢ None → named_index l symbol ≢ 0) → Asks k l symbol v → IsShifted k l symbol v
+shifted : (k : Link) (l : Layout) (symbol : Option ℕ) (v : ℕ) → Below l → (symbol ≢ None → named_index l symbol ≢ 0) → HasTargetValue k l symbol v → IsShifted k l symbol v
 shifted k l symbol v h told NoSymbol = record { told = 0; number = NoNumber refl refl; same = refl }
 shifted k l symbol v h told (OfSection i n s t listed kind none there stands) =
     let index = section_index_is l i n s t listed kind none there stands in

@@ -1,5 +1,5 @@
 //! What a relocatable object's tables of relocations and groups hold, and that a link that uses the object relocates as the input requires.
-ghost use Rattle.wild_names.specs.ObjectTables.{ObjectTablesStand};
+ghost use Rattle.wild_names.specs.ObjectTables.{ObjectTablesAreWritten};
 ghost use Rattle.wild_names.specs.Links.{RelinkingIsFaithful};
 
 use crate::symbols_have_fields;
@@ -9,7 +9,7 @@ use wild_loaded::owners_are_known;
 /// In the image of a relocatable object without faults each relocation of a table's target has its entry, with its offset in the
 /// output section, the number of its symbol and its addend. Each group has its flags and its members' sections.
 pub fn object_tables_are_read()
-    ensures { ObjectTablesStand }
+    ensures { ObjectTablesAreWritten }
 {
     layouts_are_laid_out();
     owners_are_known();

@@ -10,11 +10,11 @@ use Rattle.wild_types.specs.declared.file.File.{File}
 use Rattle.wild_types.specs.declared.file.Group.{Group}
 use Rattle.wild_types.specs.declared.layout.Layout.{Layout}
 use Rattle.wild_types.specs.Lists.{through}
-use Rattle.wild_types.specs.Lookups.{is_given}
+use Rattle.wild_types.specs.Lookups.{has_range_bytes}
 use Rattle.wild_plan_rules.specs.Contents.{addresses, ends_of, placed_in, file_placed_in, part_placed, parts_placed}
 use Rattle.wild_types.specs.FilePlaces.{given}
-use Rattle.wild_plan_rules.specs.Thunks.{standing}
-use Rattle.wild_plan_rules.specs.Misplaced.{both, all_placed, bytes_placed, file_all_placed}
+use Rattle.wild_plan_rules.specs.Thunks.{sections_in_ranges}
+use Rattle.wild_plan_rules.specs.MisplacedSections.{both, all_placed, bytes_placed, file_all_placed}
 
 both_none : (o : Option ℕ) → both o None ≡ None
 both_none None = refl
@@ -23,7 +23,7 @@ both_none (Some a) = refl
 -- ---- one input section
 
 -- one that owns no bytes moves no cursor
-pub unfilled : (l : Layout) (part : ℕ) (ends cursors : List ℕ) (s : InputSection) → length ends ≡ length cursors → is_given l s ≡ false → all_placed l part ends cursors s ≡ Some cursors
+pub unfilled : (l : Layout) (part : ℕ) (ends cursors : List ℕ) (s : InputSection) → length ends ≡ length cursors → has_range_bytes l s ≡ false → all_placed l part ends cursors s ≡ Some cursors
 unfilled l part [] [] s same h = refl
 unfilled l part [] (c ∷ cs) s same h = absurd (omega arith)
 unfilled l part (e ∷ es) [] s same h = absurd (omega arith)
@@ -32,7 +32,7 @@ unfilled l part (e ∷ es) (c ∷ cs) s same h =
     rw (h, again)
 
 -- one that owns bytes moves that of its part
-pub filled : (l : Layout) (part : ℕ) (ends cursors : List ℕ) (s : InputSection) → is_given l s ≡ true → all_placed l part ends cursors s ≡ bytes_placed part ends cursors s
+pub filled : (l : Layout) (part : ℕ) (ends cursors : List ℕ) (s : InputSection) → has_range_bytes l s ≡ true → all_placed l part ends cursors s ≡ bytes_placed part ends cursors s
 filled l part [] cs s h = refl
 filled l part (e ∷ es) [] s h = refl
 filled l part (e ∷ es) (c ∷ cs) s h = rw (h, filled l (part + 1) es cs s h) refl
@@ -107,7 +107,7 @@ sections_split l part end cursor ends cursors (s ∷ ss) =
 files_split : (l : Layout) (part end cursor : ℕ) (ends cursors : List ℕ) (fs : List File) → through (file_all_placed l part (end ∷ ends)) (cursor ∷ cursors) fs ≡ both (through (file_placed_in l part end) cursor fs) (through (file_all_placed l (part + 1) ends) cursors fs)
 files_split l part end cursor ends cursors [] = refl
 files_split l part end cursor ends cursors (f ∷ fs) =
-    rw (sections_split l part end cursor ends cursors (standing l f))
+    rw (sections_split l part end cursor ends cursors (sections_in_ranges l f))
     (split (file_placed_in l part end cursor f) (file_all_placed l (part + 1) ends cursors f) (λ c cs. files_split l part end c ends cs fs))
   where
     split : (a : Option ℕ) (b : Option (List ℕ)) → ((c : ℕ) (cs : List ℕ) → through (file_all_placed l part (end ∷ ends)) (c ∷ cs) fs ≡ both (through (file_placed_in l part end) c fs) (through (file_all_placed l (part + 1) ends) cs fs)) → option_and_then (λ t. through (file_all_placed l part (end ∷ ends)) t fs) (both a b) ≡ both (option_and_then (λ t. through (file_placed_in l part end) t fs) a) (option_and_then (λ t. through (file_all_placed l (part + 1) ends) t fs) b)
@@ -126,7 +126,7 @@ sections_none l part (s ∷ ss) = sections_none l part ss
 
 files_none : (l : Layout) (part : ℕ) (fs : List File) → through (file_all_placed l part []) [] fs ≡ Some []
 files_none l part [] = refl
-files_none l part (f ∷ fs) = rw (sections_none l part (standing l f)) (files_none l part fs)
+files_none l part (f ∷ fs) = rw (sections_none l part (sections_in_ranges l f)) (files_none l part fs)
 
 pub group_placed : (l : Layout) (part : ℕ) (starts : List ℕ) (g : Group) → is_some (through (file_all_placed l part (ends_of g part starts)) starts g.files) ≡ parts_placed l g part starts
 group_placed l part [] g = rw (files_none l part g.files)

@@ -10,12 +10,12 @@ use Rattle.wild_records.specs.Abi.Segment.{pt_load}
 use Rattle.wild_types.specs.declared.layout.Layout.{Layout}
 use Rattle.wild_types.specs.declared.section.Section.{Section}
 use Rattle.wild_types.specs.declared.section.Segment.{Segment}
-use Rattle.wild_plan_rules.specs.declared.side.Side.{Side}
-use Rattle.wild_plan_rules.specs.declared.side.Side.TheVariants as side
-use Rattle.wild_plan_rules.specs.Segments.{congruent, stands_behind, segment_out_of_order, size_on, at_equal_distance, has_byte, is_asked, all_below, bytes_are_loaded}
+use Rattle.wild_plan_rules.specs.declared.side.ImageOrMemory.{ImageOrMemory}
+use Rattle.wild_plan_rules.specs.declared.side.ImageOrMemory.TheVariants as side
+use Rattle.wild_plan_rules.specs.Segments.{congruent, segment_follows, segment_out_of_order, size_on, at_equal_distance, has_byte, must_be_loaded, all_below, bytes_are_loaded}
 use Rattle.wild_types.specs.Lists.{first_failing}
 use Rattle.wild_types.specs.Lookups.{fills_file}
-use Rattle.wild_plan_rules.specs.Covers.{is_passed, covers}
+use Rattle.wild_plan_rules.specs.SegmentCoverage.{loads_nothing_from, covers}
 
 -- ---- tests of numbers below n
 
@@ -35,32 +35,32 @@ all_below_from t (suc n) h = and_from (t n) (all_below t n) (h n (omega arith)) 
 -- ---- one segment
 
 -- what a segment says that has a byte
-record Has (on : Side) (l : Layout) (s : Section) (a : ℕ) (g : Segment) : Type 0 where
+record Has (on : ImageOrMemory) (l : Layout) (s : Section) (a : ℕ) (g : Segment) : Type 0 where
   loaded : (g.kind == pt_load) ≡ true
   from : g.address ≤ a
   to : a < g.address + size_on on g
   level : (not (fills_file l s) || at_equal_distance s g) ≡ true
 
-Has-from_test : (on : Side) (l : Layout) (s : Section) (a : ℕ) (g : Segment) → has_byte on l s a g ≡ true → Has on l s a g
+Has-from_test : (on : ImageOrMemory) (l : Layout) (s : Section) (a : ℕ) (g : Segment) → has_byte on l s a g ≡ true → Has on l s a g
 Has-from_test on l s a g h =
     let b = and_parts (g.kind == pt_load && (nat_le g.address a && nat_lt a (g.address + size_on on g))) (not (fills_file l s) || at_equal_distance s g) h in
     let c = and_parts (g.kind == pt_load) (nat_le g.address a && nat_lt a (g.address + size_on on g)) b.0 in
     let d = and_parts (nat_le g.address a) (nat_lt a (g.address + size_on on g)) c.1 in
     record { loaded = c.0; from = leb-true _ _ d.0; to = ltb-true _ _ d.1; level = b.1 }
 
-test-from_Has : (on : Side) (l : Layout) (s : Section) (a : ℕ) (g : Segment) → Has on l s a g → has_byte on l s a g ≡ true
+test-from_Has : (on : ImageOrMemory) (l : Layout) (s : Section) (a : ℕ) (g : Segment) → Has on l s a g → has_byte on l s a g ≡ true
 test-from_Has on l s a g h =
     let run = and_from (nat_le g.address a) (nat_lt a (g.address + size_on on g)) (le-leb _ _ h.from) (lt-ltb _ _ h.to) in
     and_from (g.kind == pt_load && (nat_le g.address a && nat_lt a (g.address + size_on on g))) _ (and_from (g.kind == pt_load) _ h.loaded run) h.level
 
 -- where a byte lies the later ones up to the end lie too
-more_bytes : (on : Side) (l : Layout) (s : Section) (a b : ℕ) (g : Segment) → has_byte on l s a g ≡ true → a ≤ b → b < g.address + size_on on g → has_byte on l s b g ≡ true
+more_bytes : (on : ImageOrMemory) (l : Layout) (s : Section) (a b : ℕ) (g : Segment) → has_byte on l s a g ≡ true → a ≤ b → b < g.address + size_on on g → has_byte on l s b g ≡ true
 more_bytes on l s a b g h le lt =
     let k = Has-from_test on l s a g h in
     let from = k.from in
     test-from_Has on l s b g (record { loaded = k.loaded; from = omega arith; to = lt; level = k.level })
 
-no_byte : (on : Side) (l : Layout) (s : Section) (a : ℕ) (g : Segment) → (Has on l s a g → ⊥) → has_byte on l s a g ≡ false
+no_byte : (on : ImageOrMemory) (l : Layout) (s : Section) (a : ℕ) (g : Segment) → (Has on l s a g → ⊥) → has_byte on l s a g ≡ false
 no_byte on l s a g h =
     elim (cases_Bool (has_byte on l s a g)) [
       | inl t ↦ absurd (h (Has-from_test on l s a g t))
@@ -69,16 +69,16 @@ no_byte on l s a g h =
 
 -- ---- segments that are passed
 
-pub covers_done : (on : Side) (l : Layout) (s : Section) (a : ℕ) (gs : List Segment) → s.address + s.size ≤ a → covers on l s a gs ≡ true
+pub covers_done : (on : ImageOrMemory) (l : Layout) (s : Section) (a : ℕ) (gs : List Segment) → s.address + s.size ≤ a → covers on l s a gs ≡ true
 covers_done on l s a [] h = le-leb _ _ h
 covers_done on l s a (g ∷ gs) h = let t = le-leb (s.address + s.size) a h in rw t
 
-covers_passed : (on : Side) (l : Layout) (s : Section) (a n : ℕ) (gs : List Segment) → All (λ g. is_passed a g ≡ true) (take n gs) → covers on l s a (drop n gs) ≡ covers on l s a gs
+covers_passed : (on : ImageOrMemory) (l : Layout) (s : Section) (a n : ℕ) (gs : List Segment) → All (λ g. loads_nothing_from a g ≡ true) (take n gs) → covers on l s a (drop n gs) ≡ covers on l s a gs
 covers_passed on l s a zero gs h = refl
 covers_passed on l s a (suc n) [] h = refl
 covers_passed on l s a (suc n) (g ∷ gs) h =
-    let here = All-head (λ x. is_passed a x ≡ true) g (take n gs) h in
-    let again = covers_passed on l s a n gs (All-tail (λ x. is_passed a x ≡ true) g (take n gs) h) in
+    let here = All-head (λ x. loads_nothing_from a x ≡ true) g (take n gs) h in
+    let again = covers_passed on l s a n gs (All-tail (λ x. loads_nothing_from a x ≡ true) g (take n gs) h) in
     elim (cases_Bool (nat_le (s.address + s.size) a)) [
       | inl t ↦ (let done = covers_done on l s a (drop n gs) (leb-true _ _ t) in rw t done)
       | inr f ↦ rw (f, here) again
@@ -103,9 +103,9 @@ Step-from_order page i end g gs h =
       | inr f ↦ record { next = i + 1; last = end; rest = rw f at h; grows = omega arith; starts = λ e. absurd (cc); sized = λ e. absurd (cc); ends = λ e. absurd (cc) }
     ]
   where
-    loaded : (g.kind == pt_load) ≡ true → (if stands_behind page end g then segment_out_of_order page (i + 1) (g.address + g.mem_size) gs else Some i) ≡ None → Step page end g gs
+    loaded : (g.kind == pt_load) ≡ true → (if segment_follows page end g then segment_out_of_order page (i + 1) (g.address + g.mem_size) gs else Some i) ≡ None → Step page end g gs
     loaded t h =
-        elim (cases_Bool (stands_behind page end g)) [
+        elim (cases_Bool (segment_follows page end g)) [
           | inl u ↦
               (let a = and_parts (nat_le end g.address && nat_le g.file_size g.mem_size) (congruent page g.address g.offset) u in
               let b = and_parts (nat_le end g.address) (nat_le g.file_size g.mem_size) a.0 in
@@ -116,12 +116,12 @@ Step-from_order page i end g gs h =
         ]
 
 -- a segment has no more bytes on either side than in memory
-size_on-most : (on : Side) (g : Segment) → g.file_size ≤ g.mem_size → size_on on g ≤ g.mem_size
+size_on-most : (on : ImageOrMemory) (g : Segment) → g.file_size ≤ g.mem_size → size_on on g ≤ g.mem_size
 size_on-most side.Memory g h = omega arith
 size_on-most side.File g h = h
 
 -- before the segments there is no byte
-none_before : (page i end : ℕ) (on : Side) (l : Layout) (s : Section) (a : ℕ) (gs : List Segment) → segment_out_of_order page i end gs ≡ None → a < end → list_any (has_byte on l s a) gs ≡ false
+none_before : (page i end : ℕ) (on : ImageOrMemory) (l : Layout) (s : Section) (a : ℕ) (gs : List Segment) → segment_out_of_order page i end gs ≡ None → a < end → list_any (has_byte on l s a) gs ≡ false
 none_before page i end on l s a [] h lt = refl
 none_before page i end on l s a (g ∷ gs) h lt =
     let k = Step-from_order page i end g gs h in
@@ -129,11 +129,11 @@ none_before page i end on l s a (g ∷ gs) h lt =
     let here = no_byte on l s a g (λ b. let from = b.from in let starts = k.starts b.loaded in omega arith) in
     rw here (none_before page k.next k.last on l s a gs k.rest (omega arith))
 
-passed_none : (on : Side) (l : Layout) (s : Section) (a b : ℕ) (g : Segment) → is_passed a g ≡ true → ((g.kind == pt_load) ≡ true → g.file_size ≤ g.mem_size) → a ≤ b → has_byte on l s b g ≡ false
+passed_none : (on : ImageOrMemory) (l : Layout) (s : Section) (a b : ℕ) (g : Segment) → loads_nothing_from a g ≡ true → ((g.kind == pt_load) ≡ true → g.file_size ≤ g.mem_size) → a ≤ b → has_byte on l s b g ≡ false
 passed_none on l s a b g p sized le =
     no_byte on l s b g (λ h. let most = size_on-most on g (sized h.loaded) in let to = h.to in let far = lt-ltb a (g.address + g.mem_size) (omega arith) in let t = h.loaded in cc (rw (t, far) at p))
 
-not_passed : (a : ℕ) (g : Segment) → is_passed a g ≡ false → ((g.kind == pt_load) ≡ true) × (a < g.address + g.mem_size)
+not_passed : (a : ℕ) (g : Segment) → loads_nothing_from a g ≡ false → ((g.kind == pt_load) ≡ true) × (a < g.address + g.mem_size)
 not_passed a g h = by (g.kind == pt_load) (nat_lt a (g.address + g.mem_size)) refl refl h
   where
     by : (t u : Bool) → (g.kind == pt_load) ≡ t → nat_lt a (g.address + g.mem_size) ≡ u → not (t && u) ≡ false → ((g.kind == pt_load) ≡ true) × (a < g.address + g.mem_size)
@@ -143,11 +143,11 @@ not_passed a g h = by (g.kind == pt_load) (nat_lt a (g.address + g.mem_size)) re
 
 -- ---- both ways
 
-covers_each : (on : Side) (l : Layout) (s : Section) (a : ℕ) (gs : List Segment) → covers on l s a gs ≡ true → (b : ℕ) → a ≤ b → b < s.address + s.size → list_any (has_byte on l s b) gs ≡ true
+covers_each : (on : ImageOrMemory) (l : Layout) (s : Section) (a : ℕ) (gs : List Segment) → covers on l s a gs ≡ true → (b : ℕ) → a ≤ b → b < s.address + s.size → list_any (has_byte on l s b) gs ≡ true
 covers_each on l s a [] h b le lt = absurd (let e = leb-true _ _ h in omega arith)
 covers_each on l s a (g ∷ gs) h b le lt =
     let more : nat_le (s.address + s.size) a ≡ false = lt-leb _ _ (omega arith) in
-    elim (cases_Bool (is_passed a g)) [
+    elim (cases_Bool (loads_nothing_from a g)) [
       | inl t ↦ or_right (has_byte on l s b g) _ (covers_each on l s a gs (rw (more, t) at h) b le lt)
       | inr f ↦
           elim (cases_Bool (has_byte on l s a g)) [
@@ -163,7 +163,7 @@ covers_each on l s a (g ∷ gs) h b le lt =
           | inr far ↦ or_right (has_byte on l s b g) _ (k (grind (arith, nat_tests)) lt)
         ]
 
-covers_all : (page i end : ℕ) (on : Side) (l : Layout) (s : Section) (a : ℕ) (gs : List Segment) → segment_out_of_order page i end gs ≡ None → ((b : ℕ) → a ≤ b → b < s.address + s.size → list_any (has_byte on l s b) gs ≡ true) → covers on l s a gs ≡ true
+covers_all : (page i end : ℕ) (on : ImageOrMemory) (l : Layout) (s : Section) (a : ℕ) (gs : List Segment) → segment_out_of_order page i end gs ≡ None → ((b : ℕ) → a ≤ b → b < s.address + s.size → list_any (has_byte on l s b) gs ≡ true) → covers on l s a gs ≡ true
 covers_all page i end on l s a [] order h =
     elim (cases_Bool (nat_le (s.address + s.size) a)) [
       | inl t ↦ t
@@ -174,7 +174,7 @@ covers_all page i end on l s a (g ∷ gs) order h =
     elim (cases_Bool (nat_le (s.address + s.size) a)) [
       | inl t ↦ rw t
       | inr f ↦
-          elim (cases_Bool (is_passed a g)) [
+          elim (cases_Bool (loads_nothing_from a g)) [
             | inl p ↦ rw (f, p) (covers_all page k.next k.last on l s a gs k.rest (λ b le lt. or_other (has_byte on l s b g) _ (h b le lt) (passed_none on l s a b g p k.sized le)))
             | inr n ↦ (let asked : a < s.address + s.size = grind (arith, nat_tests) in rw (f, n) (here k asked (not_passed a g n) (covers_all page k.next k.last on l s (g.address + size_on on g) gs k.rest)))
           ]
@@ -196,7 +196,7 @@ covers_all page i end on l s a (g ∷ gs) order h =
 
 -- ---- the whole section
 
-loaded_by_covers : (page : ℕ) (on : Side) (l : Layout) (s : Section) (gs : List Segment) → segment_out_of_order page 0 0 gs ≡ None → covers on l s s.address gs ≡ all_below (λ k. list_any (has_byte on l s (s.address + k)) gs) s.size
+loaded_by_covers : (page : ℕ) (on : ImageOrMemory) (l : Layout) (s : Section) (gs : List Segment) → segment_out_of_order page 0 0 gs ≡ None → covers on l s s.address gs ≡ all_below (λ k. list_any (has_byte on l s (s.address + k)) gs) s.size
 loaded_by_covers page on l s gs order =
     let each : (b : ℕ) → (k : ℕ) → s.address + k ≡ b → list_any (has_byte on l s (s.address + k)) gs ≡ true → list_any (has_byte on l s b) gs ≡ true = λ b k e. subst (λ (n : ℕ). list_any (has_byte on l s n) gs ≡ true) e in
     same_from_decides {P = (b : ℕ) → s.address ≤ b → b < s.address + s.size → list_any (has_byte on l s b) gs ≡ true}
@@ -208,27 +208,27 @@ loaded_by_covers page on l s gs order =
     )
 
 -- behind segments that are passed
-loaded_where_covered : (page : ℕ) (on : Side) (l : Layout) (s : Section) (n : ℕ) (gs : List Segment) → segment_out_of_order page 0 0 gs ≡ None → All (λ g. is_passed s.address g ≡ true) (take n gs) → covers on l s s.address (drop n gs) ≡ all_below (λ k. list_any (has_byte on l s (s.address + k)) gs) s.size
+loaded_where_covered : (page : ℕ) (on : ImageOrMemory) (l : Layout) (s : Section) (n : ℕ) (gs : List Segment) → segment_out_of_order page 0 0 gs ≡ None → All (λ g. loads_nothing_from s.address g ≡ true) (take n gs) → covers on l s s.address (drop n gs) ≡ all_below (λ k. list_any (has_byte on l s (s.address + k)) gs) s.size
 loaded_where_covered page on l s n gs order passed = covers_passed on l s s.address n gs passed ∙ loaded_by_covers page on l s gs order
 
 -- what is passed at an address is passed behind it
-pub passed_later : (a b : ℕ) (gs : List Segment) → a ≤ b → All (λ g. is_passed a g ≡ true) gs → All (λ g. is_passed b g ≡ true) gs
-passed_later a b gs le h = All-weaker (λ g. is_passed a g ≡ true) (λ g. is_passed b g ≡ true) (λ g p. at g p) gs h
+pub passed_later : (a b : ℕ) (gs : List Segment) → a ≤ b → All (λ g. loads_nothing_from a g ≡ true) gs → All (λ g. loads_nothing_from b g ≡ true) gs
+passed_later a b gs le h = All-weaker (λ g. loads_nothing_from a g ≡ true) (λ g. loads_nothing_from b g ≡ true) (λ g p. at g p) gs h
   where
-    at : (g : Segment) → is_passed a g ≡ true → is_passed b g ≡ true
+    at : (g : Segment) → loads_nothing_from a g ≡ true → loads_nothing_from b g ≡ true
     at g p =
-        elim (cases_Bool (is_passed b g)) [
+        elim (cases_Bool (loads_nothing_from b g)) [
           | inl t ↦ t
           | inr f ↦ (let q = not_passed b g f in let t = q.0 in let near = q.1 in let far = lt-ltb a (g.address + g.mem_size) (omega arith) in cc (rw (t, far) at p))
         ]
 
-pub passed_more : (a n : ℕ) (gs : List Segment) (g : Segment) → n < length gs → All (λ x. is_passed a x ≡ true) (take n gs) → true ≡ is_passed a (get_or gs n g) → All (λ x. is_passed a x ≡ true) (take (n + 1) gs)
-passed_more a n gs g lt h t = All-more (λ x. is_passed a x ≡ true) gs n g lt h (sym t)
+pub passed_more : (a n : ℕ) (gs : List Segment) (g : Segment) → n < length gs → All (λ x. loads_nothing_from a x ≡ true) (take n gs) → true ≡ loads_nothing_from a (get_or gs n g) → All (λ x. loads_nothing_from a x ≡ true) (take (n + 1) gs)
+passed_more a n gs g lt h t = All-more (λ x. loads_nothing_from a x ≡ true) gs n g lt h (sym t)
 
-loaded_is : (page : ℕ) (on : Side) (l : Layout) (s : Section) (n : ℕ) (gs : List Segment) → segment_out_of_order page 0 0 gs ≡ None → All (λ g. is_passed s.address g ≡ true) (take n gs) → is_asked on l s ≡ true → bytes_are_loaded on l gs s ≡ covers on l s s.address (drop n gs)
+loaded_is : (page : ℕ) (on : ImageOrMemory) (l : Layout) (s : Section) (n : ℕ) (gs : List Segment) → segment_out_of_order page 0 0 gs ≡ None → All (λ g. loads_nothing_from s.address g ≡ true) (take n gs) → must_be_loaded on l s ≡ true → bytes_are_loaded on l gs s ≡ covers on l s s.address (drop n gs)
 loaded_is page on l s n gs order passed asked = let same = loaded_where_covered page on l s n gs order passed in rw asked (sym same)
 
-loaded_unasked : (on : Side) (l : Layout) (s : Section) (gs : List Segment) → is_asked on l s ≡ false → bytes_are_loaded on l gs s ≡ true
+loaded_unasked : (on : ImageOrMemory) (l : Layout) (s : Section) (gs : List Segment) → must_be_loaded on l s ≡ false → bytes_are_loaded on l gs s ≡ true
 loaded_unasked on l s gs h = rw h
 
 -- ---- one section behind the other
@@ -245,7 +245,7 @@ from_place {X = X} t xs i x lt e =
     by false e = rw e
 
 -- a section that is asked for, with the segments from some place on
-pub asked_step : (page : ℕ) (on : Side) (l : Layout) (gs : List Segment) (n : ℕ) (later : List Section) (i : ℕ) (s : Section) (b : Bool) → segment_out_of_order page 0 0 gs ≡ None → n ≤ length gs → All (λ g. is_passed s.address g ≡ true) (take n gs) → i < length later → s ≡ get_or later i s → is_asked on l s ≡ true → b ≡ covers on l s s.address (take (length gs - n) (drop n gs))
+pub asked_step : (page : ℕ) (on : ImageOrMemory) (l : Layout) (gs : List Segment) (n : ℕ) (later : List Section) (i : ℕ) (s : Section) (b : Bool) → segment_out_of_order page 0 0 gs ≡ None → n ≤ length gs → All (λ g. loads_nothing_from s.address g ≡ true) (take n gs) → i < length later → s ≡ get_or later i s → must_be_loaded on l s ≡ true → b ≡ covers on l s s.address (take (length gs - n) (drop n gs))
     → first_failing (bytes_are_loaded on l gs) (i + 1) (drop i later) ≡ (if b then first_failing (bytes_are_loaded on l gs) (i + 1 + 1) (drop (i + 1) later) else Some (i + 1))
 asked_step page on l gs n later i s b order there passed lt e asked is =
     let whole = take_all (length gs - n) (drop n gs) (simp length-drop (omega arith)) in
@@ -255,7 +255,7 @@ asked_step page on l gs n later i s b order there passed lt e asked is =
     rw is' at
 
 -- one that is not
-pub unasked_step : (on : Side) (l : Layout) (gs : List Segment) (later : List Section) (i : ℕ) (s : Section) → i < length later → s ≡ get_or later i s → is_asked on l s ≡ false → first_failing (bytes_are_loaded on l gs) (i + 1) (drop i later) ≡ first_failing (bytes_are_loaded on l gs) (i + 1 + 1) (drop (i + 1) later)
+pub unasked_step : (on : ImageOrMemory) (l : Layout) (gs : List Segment) (later : List Section) (i : ℕ) (s : Section) → i < length later → s ≡ get_or later i s → must_be_loaded on l s ≡ false → first_failing (bytes_are_loaded on l gs) (i + 1) (drop i later) ≡ first_failing (bytes_are_loaded on l gs) (i + 1 + 1) (drop (i + 1) later)
 unasked_step on l gs later i s lt e asked =
     let at = from_place (bytes_are_loaded on l gs) later i s lt e in
     let is = loaded_unasked on l s gs asked in

@@ -7,28 +7,28 @@ use Rattle.std.specs.Prelude.{ℕ, true, [], drop, length, if◌then◌else◌, 
 use Rattle.std.specs.Int.{is_power_of_two}
 use Rattle.wild_types.specs.declared.fault.Clause.{Clause}
 use Rattle.wild_types.specs.declared.part.Role.TheVariants as role
-use Rattle.wild_plan_rules.specs.declared.side.Side.TheVariants as side
+use Rattle.wild_plan_rules.specs.declared.side.ImageOrMemory.TheVariants as side
 use Rattle.wild_types.specs.declared.layout.Layout.{Layout}
 use Rattle.wild_types.specs.Lists.{first_failing, unless}
 use Rattle.wild_types.specs.Lookups.{image_size, files_of}
 use Rattle.wild_needs.specs.HashShapes.{sysv_fits, gnu_fits, bucket_astray}
 use Rattle.wild_needs.specs.Versions.{need_count}
 use Rattle.wild_plan_rules.specs.VersionTables.{parent_is_there, definition_astray, mark_astray, versions_agree}
-use Rattle.wild_plan_rules.specs.Places.{page_fits, part_fits, section_misfit, segment_fits, group_fits, part_out_of_order, role_again, role_missing, role_not_at, program_headers_astray, loaded_sections, roles, dynamic_unasked, first_section_is_null, part_lies, stands_loaded, takes_room}
+use Rattle.wild_plan_rules.specs.Places.{page_fits, part_fits, section_misfit, segment_fits, group_fits, part_out_of_order, repeated_role, role_missing, role_not_at, program_headers_astray, loaded_sections, roles, unexpected_dynamic, first_section_is_null, part_lies, is_in_loaded_section, takes_room}
 use Rattle.wild_types.specs.Kinds.{is_fixed_static}
-use Rattle.wild_plan_rules.specs.Counts.{counts_fit, role_given}
+use Rattle.wild_plan_rules.specs.Counts.{counts_fit, role_has_needed_part}
 use Rattle.wild_plan_rules.specs.Segments.{segment_out_of_order, bytes_are_loaded, leaves_zero_free, segment_in_image, dynamic_astray}
 use Rattle.wild_types.specs.Parts.{part_with, entry_parts}
-use Rattle.wild_plan_rules.specs.LoadedTables.{entries_astray, stands_in_entries, entries_follow, table_is_loaded}
+use Rattle.wild_plan_rules.specs.LoadedTables.{entries_astray, is_in_entries_section, entries_follow, table_is_loaded}
 use Rattle.wild_plan_rules.specs.Indexes.{part_index_fits, primary_is_there, thunks_are_there, symbol_misfit, group_indexes_fit, definition_is_own, range_out_of_order, listed_misfit, sorted_is_there, merged_is_there, identity_is_there, entry_is_there}
-use Rattle.wild_types.specs.FileSymbols.{copied_again}
-use Rattle.wild_plan_rules.specs.SlotPlaces.{slots_astray, slot_is_even, block_is_asked, block_has_base, pair_follows}
-use Rattle.wild_needs.specs.DynamicSymbols.{dynamic_symbols, misplaced, misfit, first_listed}
-use Rattle.wild_plan_rules.specs.SlotFlags.{first_asked_failing, dynamic_is_interposable, stub_is_value, stub_has_slot, one_slot_for_address, thread_slot_alone, resolver_is_own, slot_agrees, resolver_moves, second_slot_fits}
+use Rattle.wild_types.specs.FileSymbols.{first_double_copy}
+use Rattle.wild_plan_rules.specs.SlotPlaces.{slots_astray, slot_is_even, block_needs_relr, block_has_base, pair_follows}
+use Rattle.wild_needs.specs.DynamicSymbols.{dynamic_symbols, misplaced, first_misplaced_listed, first_listed}
+use Rattle.wild_plan_rules.specs.SlotFlags.{first_tested_failing, dynamic_is_interposable, stub_is_value, stub_has_slot, one_slot_for_address, thread_slot_alone, resolver_is_own, slot_agrees, resolver_moves, second_slot_fits}
 use Rattle.wild_plan_rules.specs.Contents.{addresses, each_section, share_mismatch, has_share_for_each_part, section_misplaced, sorted_named_once, names_sorted, length_fits, frames_part_fits, discarded_is_empty, part_is_raw, merged_is_raw, identity_is_raw, primary_fits, front_is_free, allocation_agrees, bytes_take_room, fields_lie, relocations_are_read, tls_fits}
 use Rattle.wild_plan_rules.specs.Fronts.{reversed_fits, merged_fill, identity_fills, front_shared, identity_is_alone, properties_differ, keeps_tables, dynamic_is_dropped, headers_are_kept}
 use Rattle.wild_plan_rules.specs.Partial.{has_no_segments, has_no_slot, has_no_pair, has_no_thunks, lists_no_symbols, has_no_index, is_no_debug, is_of_kind, tables_fit, group_fits_members, table_has_data}
-use Rattle.wild_types.specs.FilePlaces.{file_misplaced}
+use Rattle.wild_types.specs.FilePlaces.{first_misplaced_file}
 use Rattle.wild_plan_rules.specs.Thunks.{ascends, thunks_misplaced, block_lost, machine_takes}
 use Rattle.wild_plan_rules.specs.GroupStarts.{start_places, no_starts, start_astray}
 use Rattle.wild_plan_rules.specs.ZeroFree.{name_fits, option_names_fit, section_name_fits, symbol_name_fits, group_names_fit, listed_name_fits, definition_name_fits, interp_fits}
@@ -64,28 +64,28 @@ check_order l = fails 3 (part_out_of_order l 0 0 l.parts)
 -- clause 4: the roles
 unfoldable pub check_roles : Layout → Result (Unit {0}) Clause
 check_roles l =
-    first_error (fails 4 (role_again [] 0 l.parts))
+    first_error (fails 4 (repeated_role [] 0 l.parts))
     (first_error (fails 4 (role_not_at role.FileHeader 0 0 l.parts))
     (first_error (fails 4 (role_missing role.SectionHeaders l.parts))
     (first_error (fails 4 (role_missing role.Shstrtab l.parts))
     (first_error (fails 4 (program_headers_astray l))
     (first_error (fails 4 (first_failing (entries_follow l.parts) 0 l.parts))
-    (first_error (fails 4 (first_failing (role_given l) 0 roles))
-    (fails 4 (dynamic_unasked l))))))))
+    (first_error (fails 4 (first_failing (role_has_needed_part l) 0 roles))
+    (fails 4 (unexpected_dynamic l))))))))
 
 -- clause 5: parts in sections
 unfoldable pub check_sections : Layout → Result (Unit {0}) Clause
 check_sections l =
     first_error (fails 5 (unless (first_section_is_null l.sections)))
     (first_error (fails 5 (first_failing (part_lies l) 0 l.parts))
-    (first_error (fails 5 (first_failing (stands_loaded l) 0 l.parts))
+    (first_error (fails 5 (first_failing (is_in_loaded_section l) 0 l.parts))
     (fails 5 (first_failing (takes_room l) 0 l.parts))))
 
 -- clause 6: relocation entries of an executable without a dynamic section
 unfoldable pub check_entries : Layout → Result (Unit {0}) Clause
 check_entries l =
     if is_fixed_static l.kind
-    then first_error (fails 6 (entries_astray (entry_parts l.parts) 1 (drop 1 l.sections))) (fails 6 (first_failing (stands_in_entries l) 0 l.parts))
+    then first_error (fails 6 (entries_astray (entry_parts l.parts) 1 (drop 1 l.sections))) (fails 6 (first_failing (is_in_entries_section l) 0 l.parts))
     else Ok tt
 
 -- clause 6: segments
@@ -105,11 +105,11 @@ unfoldable pub check_shares : Layout → Result (Unit {0}) Clause
 check_shares l =
     first_error (fails 7 (share_mismatch l.groups 0 l.parts))
     (first_error (fails 7 (first_failing (has_share_for_each_part (length l.parts)) 0 l.groups))
-    (fails 7 (file_misplaced true 0 l.groups)))
+    (fails 7 (first_misplaced_file true 0 l.groups)))
 
 -- clause 8: merged strings and the linker's identity string lie in raw parts
-abbrev pub once_fits : Layout → Result (Unit {0}) Clause
-once_fits l = first_error (fails 8 (first_failing (merged_is_raw l) 0 l.merged)) (fails 8 (unless (identity_is_raw l)))
+abbrev pub merged_and_identity_fit : Layout → Result (Unit {0}) Clause
+merged_and_identity_fit l = first_error (fails 8 (first_failing (merged_is_raw l) 0 l.merged)) (fails 8 (unless (identity_is_raw l)))
 
 -- clause 8: input sections in their parts
 unfoldable pub check_inputs : Layout → Result (Unit {0}) Clause
@@ -121,7 +121,7 @@ check_inputs l =
     (first_error (fails 8 (first_failing (each_section (frames_part_fits l)) 0 l.groups))
     (first_error (fails 8 (first_failing (each_section discarded_is_empty) 0 l.groups))
     (first_error (fails 8 (first_failing (each_section (part_is_raw l)) 0 l.groups))
-    (first_error (once_fits l)
+    (first_error (merged_and_identity_fit l)
     (first_error (fails 8 (unless (primary_fits l)))
     (first_error (fails 8 (unless (front_is_free l)))
     (first_error (fails 8 (first_failing (each_section (allocation_agrees l)) 0 l.groups))
@@ -141,7 +141,7 @@ check_indexes l =
     (first_error (fails 9 (first_failing (merged_is_there l) 0 l.merged))
     (first_error (fails 9 (unless (identity_is_there l)))
     (first_error (fails 9 (unless (entry_is_there l l.entry)))
-    (first_error (fails 9 (copied_again l [] 0 l.groups))
+    (first_error (fails 9 (first_double_copy l [] 0 l.groups))
     (first_error (fails 9 (first_failing (definition_is_own l) 0 l.symbols))
     (fails 9 (range_out_of_order 0 0 l.groups))))))))))))))
 
@@ -156,7 +156,7 @@ unfoldable pub check_slots : Layout → Result (Unit {0}) Clause
 check_slots l =
     first_error (fails 11 (slots_astray l))
     (first_error (fails 11 (first_failing slot_is_even 0 l.symbols))
-    (first_error (fails 11 (first_failing (block_is_asked l) 0 l.parts))
+    (first_error (fails 11 (first_failing (block_needs_relr l) 0 l.parts))
     (first_error (fails 11 (unless (pair_follows l)))
     (fails 11 (first_failing block_has_base 0 l.parts)))))
 
@@ -172,20 +172,20 @@ check_thunks l =
 unfoldable pub check_dynsyms : Layout → Result (Unit {0}) Clause
 check_dynsyms l =
     first_error (fails 13 (misplaced (dynamic_symbols l) 0 l.symbols))
-    (fails 13 (misfit l (first_listed l) 0 l.dynsyms))
+    (fails 13 (first_misplaced_listed l (first_listed l) 0 l.dynsyms))
 
 -- clause 14: flags and slots
 unfoldable pub check_slot_flags : Layout → Result (Unit {0}) Clause
 check_slot_flags l =
-    first_error (fails 14 (first_asked_failing l dynamic_is_interposable 0 l.symbols))
-    (first_error (fails 14 (first_asked_failing l stub_is_value 0 l.symbols))
-    (first_error (fails 14 (first_asked_failing l stub_has_slot 0 l.symbols))
-    (first_error (fails 14 (first_asked_failing l one_slot_for_address 0 l.symbols))
-    (first_error (fails 14 (first_asked_failing l thread_slot_alone 0 l.symbols))
-    (first_error (fails 14 (first_asked_failing l resolver_is_own 0 l.symbols))
-    (first_error (fails 14 (first_asked_failing l slot_agrees 0 l.symbols))
-    (first_error (fails 14 (first_asked_failing l resolver_moves 0 l.symbols))
-    (fails 14 (first_asked_failing l (second_slot_fits l) 0 l.symbols)))))))))
+    first_error (fails 14 (first_tested_failing l dynamic_is_interposable 0 l.symbols))
+    (first_error (fails 14 (first_tested_failing l stub_is_value 0 l.symbols))
+    (first_error (fails 14 (first_tested_failing l stub_has_slot 0 l.symbols))
+    (first_error (fails 14 (first_tested_failing l one_slot_for_address 0 l.symbols))
+    (first_error (fails 14 (first_tested_failing l thread_slot_alone 0 l.symbols))
+    (first_error (fails 14 (first_tested_failing l resolver_is_own 0 l.symbols))
+    (first_error (fails 14 (first_tested_failing l slot_agrees 0 l.symbols))
+    (first_error (fails 14 (first_tested_failing l resolver_moves 0 l.symbols))
+    (fails 14 (first_tested_failing l (second_slot_fits l) 0 l.symbols)))))))))
 
 -- clause 15: thread-local data
 unfoldable pub check_tls : Layout → Result (Unit {0}) Clause

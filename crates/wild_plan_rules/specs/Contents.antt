@@ -2,7 +2,7 @@
 -- group's place.
 --   each_section test g      every input section of the group passes the test
 --   section_misplaced l ..   the first group with an input section outside its part's range
---   standing l f             the input sections in a file's ranges: its own, and for the last file also the sorted ones
+--   sections_in_ranges l f             the input sections in a file's ranges: its own, and for the last file also the sorted ones
 --   sorted_unnamed l ..      the first group with a sorted section that is not named exactly once in the order
 --   front_is_free l          no other bytes of the first group are in the parts of merged strings or the linker's identity string
 --   fields_lie m s           the fields of the section's relocations lie in it
@@ -24,14 +24,14 @@ use Rattle.wild_types.specs.declared.layout.SortedSection.{SortedSection}
 use Rattle.wild_types.specs.declared.layout.Merged.{Merged}
 use Rattle.wild_types.specs.declared.layout.Layout.{Layout}
 use Rattle.wild_types.specs.Lists.{total, through}
-use Rattle.wild_types.specs.Lookups.{allocated, section_of, is_allocated_section, is_allocated_part, has_data, is_frame, is_discarded, is_rela, is_given, brings_bytes}
+use Rattle.wild_types.specs.Lookups.{allocated, section_of, is_allocated_section, is_allocated_part, has_data, is_frame, is_discarded, is_rela, has_range_bytes, brings_bytes}
 use Rattle.wild_types.specs.Kinds.{is_partial_link}
 use Rattle.wild_types.specs.FileThunks.{thunks_of}
 use Rattle.wild_types.specs.Parts.{has_role}
-use Rattle.wild_laid.specs.Laid.{sorted_input}
+use Rattle.wild_placement.specs.PlacedSections.{sorted_input}
 use Rattle.wild_plan_rules.specs.Places.{multiple_of}
 use Rattle.wild_plan_rules.specs.Fronts.{merged_size}
-use Rattle.wild_plan_rules.specs.Thunks.{has_thunks, standing}
+use Rattle.wild_plan_rules.specs.Thunks.{has_thunks, sections_in_ranges}
 use Rattle.wild_types.specs.Rows.{field_bytes}
 use Rattle.wild_types.specs.FilePlaces.{given, bool_eq}
 
@@ -68,13 +68,13 @@ ends_of g part (start ∷ starts) = (start + given part g) ∷ ends_of g (part +
 -- or ends after its group's range
 abbrev pub placed_in : Layout → ℕ → ℕ → ℕ → InputSection → Option ℕ
 placed_in l part end cursor s =
-    if is_given l s && s.part == part
+    if has_range_bytes l s && s.part == part
     then (if nat_le cursor s.address && nat_le (s.address + s.size) end then Some (s.address + s.size) else None)
     else Some cursor
 
 -- the same for all input sections in a file's ranges
 abbrev pub file_placed_in : Layout → ℕ → ℕ → ℕ → File → Option ℕ
-file_placed_in l part end cursor f = through (placed_in l part end) cursor (standing l f)
+file_placed_in l part end cursor f = through (placed_in l part end) cursor (sections_in_ranges l f)
 
 -- the group's input sections of a part are in its range from start to end, in order and without overlap
 abbrev pub part_placed : Layout → ℕ → ℕ → ℕ → Group → Bool
@@ -194,7 +194,7 @@ leaves_front l s = not (takes_bytes l s) || not (has_front l s.part)
 
 -- the same for all input sections in the file's ranges, and for its thunks
 abbrev pub file_leaves_front : Layout → File → Bool
-file_leaves_front l f = list_all (leaves_front l) (standing l f) && (length (thunks_of l f) == 0 || not (has_front l l.primary_part))
+file_leaves_front l f = list_all (leaves_front l) (sections_in_ranges l f) && (length (thunks_of l f) == 0 || not (has_front l l.primary_part))
 
 abbrev pub group_leaves_front : Layout → Option Group → Bool
 group_leaves_front l None = true
@@ -216,12 +216,12 @@ abbrev pub allocation_agrees : Layout → InputSection → Bool
 allocation_agrees l s = is_partial_link l.kind || not (has_room s.slot) || bool_eq (allocated s.flags) (is_allocated_part l s.part)
 
 -- the section has bytes, or bytes are generated for it
-abbrev pub has_some : InputSection → Bool
-has_some s = not (length s.bytes == 0) || (is_rela s.slot && not (s.size == 0))
+abbrev pub has_or_gets_bytes : InputSection → Bool
+has_or_gets_bytes s = not (length s.bytes == 0) || (is_rela s.slot && not (s.size == 0))
 
 -- no bytes are placed in a section without data
 abbrev pub bytes_take_room : Layout → InputSection → Bool
-bytes_take_room l s = not (has_some s) || has_data l (section_of l s.part)
+bytes_take_room l s = not (has_or_gets_bytes s) || has_data l (section_of l s.part)
 
 -- ---- clause 10: fields
 

@@ -2,7 +2,7 @@
 --   lists_fit l       no list is too long
 --   table_fits l      the dynamic symbol table is not too long
 --   counts_fit l      no string table is too long either
---   role_given l r    a part of role r exists, or no bytes have to be written in one
+--   role_has_needed_part l r    a part of role r exists, or no bytes have to be written in one
 use Rattle.std.specs.Prelude.{ℕ, ◌-◌, ◌^◌, ◌==◌, Bool, ◌&&◌, ◌||◌, nat_lt, nat_le, length}
 use Rattle.std.specs.List.{list_any}
 use Rattle.wild_types.specs.declared.file.File.{File}
@@ -42,5 +42,5 @@ counts_fit l =
     && nat_lt (total_share l role.Dynstr) (2 ^ 32) && nat_lt (total_share l role.Strtab) (2 ^ 32) && versions_fit l
 
 -- a part of that role exists, or no bytes have to be written in one
-abbrev pub role_given : Layout → Role → Bool
-role_given l r = list_any (has_role r) l.parts || total_share l r == 0
+abbrev pub role_has_needed_part : Layout → Role → Bool
+role_has_needed_part l r = list_any (has_role r) l.parts || total_share l r == 0

@@ -9,7 +9,7 @@
 --   headers_are_kept l p     headers and section names are written
 use Rattle.std.specs.Prelude.{ℕ, ◌+◌, ◌%◌, ◌==◌, Bool, true, false, not, ◌&&◌, ◌||◌, if◌then◌else◌, List, [], ◌∷◌, ◌++◌, length, Option, Some, None, slice_get}
 use Rattle.std.specs.List.{flat_map, list_all, list_any}
-use Rattle.wild_laid.specs.Turned.{word_size}
+use Rattle.wild_placement.specs.ReversedWords.{word_size}
 use Rattle.wild_types.specs.declared.kind.Machine.{Machine}
 use Rattle.wild_types.specs.declared.input.InputRelocation.{InputRelocation}
 use Rattle.wild_types.specs.declared.input.InputSection.{InputSection}
@@ -22,7 +22,7 @@ use Rattle.wild_types.specs.declared.part.Role.{Role}
 use Rattle.wild_types.specs.declared.part.Role.TheVariants as role
 use Rattle.wild_records.specs.Abi.Section.{sht_note}
 use Rattle.wild_types.specs.Kinds.{is_partial_link}
-use Rattle.wild_types.specs.Lookups.{kind_at, is_hollow_at}
+use Rattle.wild_types.specs.Lookups.{kind_at, is_header_only_at}
 use Rattle.wild_types.specs.Parts.{has_role}
 use Rattle.wild_types.specs.FilePlaces.{given}
 use Rattle.wild_types.specs.Lists.{first_failing}
@@ -64,17 +64,17 @@ abbrev pub identity_fills : Layout → Bool
 identity_fills l = length l.identity.bytes == 0 || fills_front l l.identity.part (length l.identity.bytes)
 
 -- the part contains merged strings, and these have bytes
-abbrev pub stands_in_front : ℕ → Merged → Bool
-stands_in_front part m = m.part == part && not (0 == merged_size m)
+abbrev pub has_bytes_in_part : ℕ → Merged → Bool
+has_bytes_in_part part m = m.part == part && not (0 == merged_size m)
 
 -- the first merged strings with bytes, from number i on, whose part also contains later ones of the list
 abbrev pub front_shared : ℕ → List Merged → Option ℕ
 front_shared i [] = None
-front_shared i (m ∷ ms) = if stands_in_front m.part m && list_any (stands_in_front m.part) ms then Some i else front_shared (i + 1) ms
+front_shared i (m ∷ ms) = if has_bytes_in_part m.part m && list_any (has_bytes_in_part m.part) ms then Some i else front_shared (i + 1) ms
 
 -- the linker's identity string, if it has bytes, shares its part with no merged strings
 abbrev pub identity_is_alone : Layout → Bool
-identity_is_alone l = length l.identity.bytes == 0 || not (list_any (stands_in_front l.identity.part) l.merged)
+identity_is_alone l = length l.identity.bytes == 0 || not (list_any (has_bytes_in_part l.identity.part) l.merged)
 
 -- ---- debug-only images
 
@@ -97,7 +97,7 @@ is_header_role other = false
 
 -- these are written: they are in no section that is omitted
 abbrev pub headers_are_kept : Layout → Part → Bool
-headers_are_kept l p = not (is_header_role p.role && is_hollow_at l p.section)
+headers_are_kept l p = not (is_header_role p.role && is_header_only_at l p.section)
 
 -- the property has that type
 abbrev pub has_type : ℕ → Property → Bool

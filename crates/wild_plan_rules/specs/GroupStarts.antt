@@ -15,9 +15,9 @@ use Rattle.wild_types.specs.FilePlaces.{given}
 -- ---- clause 16: where a group's strings, frames and symbols begin
 
 -- the group's bytes in the part at that place; 0 without a place
-abbrev pub given_at : Option ℕ → Group → ℕ
-given_at None g = 0
-given_at (Some part) g = given part g
+abbrev pub group_share_at : Option ℕ → Group → ℕ
+group_share_at None g = 0
+group_share_at (Some part) g = given part g
 
 -- the place of the part of a role
 abbrev pub place_with : Role → List Part → Option ℕ
@@ -32,17 +32,17 @@ abbrev pub no_starts : Starts ℕ
 no_starts = record { dynstr = 0; strtab = 0; frames = 0; locals = 0; globals = 0 }
 
 -- none of these parts exists
-abbrev pub nowhere : Starts (Option ℕ)
-nowhere = record { dynstr = None; strtab = None; frames = None; locals = None; globals = None }
+abbrev pub no_start_places : Starts (Option ℕ)
+no_start_places = record { dynstr = None; strtab = None; frames = None; locals = None; globals = None }
 
 -- where the group's shares end
-abbrev pub starts_behind : Starts (Option ℕ) → Starts ℕ → Group → Starts ℕ
-starts_behind places from g = record {
-  dynstr = from.dynstr + given_at places.dynstr g;
-  strtab = from.strtab + given_at places.strtab g;
-  frames = from.frames + given_at places.frames g;
-  locals = from.locals + given_at places.locals g;
-  globals = from.globals + given_at places.globals g;
+abbrev pub starts_after_group : Starts (Option ℕ) → Starts ℕ → Group → Starts ℕ
+starts_after_group places from g = record {
+  dynstr = from.dynstr + group_share_at places.dynstr g;
+  strtab = from.strtab + group_share_at places.strtab g;
+  frames = from.frames + group_share_at places.frames g;
+  locals = from.locals + group_share_at places.locals g;
+  globals = from.globals + group_share_at places.globals g;
 }
 
 -- the group's shares begin there
@@ -52,7 +52,7 @@ begins_at from g = g.dynstr_start == from.dynstr && (g.strtab_start == from.strt
 -- the first group whose shares do not begin where those of earlier groups end
 abbrev pub start_astray : Starts (Option ℕ) → Starts ℕ → ℕ → List Group → Option ℕ
 start_astray places from i [] = None
-start_astray places from i (g ∷ gs) = if begins_at from g then start_astray places (starts_behind places from g) (i + 1) gs else Some i
+start_astray places from i (g ∷ gs) = if begins_at from g then start_astray places (starts_after_group places from g) (i + 1) gs else Some i
 
 -- each start is that number or less
 pub record AreBelow (limit : ℕ) (from : Starts ℕ) : Type 0 where

@@ -1,12 +1,12 @@
 pub mod ClauseTests
 pub mod Contents
 pub mod Counts
-pub mod Covers
+pub mod SegmentCoverage
 pub mod Fronts
 pub mod GroupStarts
 pub mod Indexes
 pub mod LoadedTables
-pub mod Misplaced
+pub mod MisplacedSections
 pub mod Partial
 pub mod Places
 pub mod Segments

@@ -14,7 +14,7 @@ use Rattle.wild_types.specs.declared.section.Section.{Section}
 use Rattle.wild_types.specs.declared.section.Segment.{Segment}
 use Rattle.wild_types.specs.Kinds.{needs_dynamic}
 use Rattle.wild_types.specs.Lists.{total}
-use Rattle.wild_types.specs.Lookups.{allocated, is_allocated_section, is_hollow_at, kind_at}
+use Rattle.wild_types.specs.Lookups.{allocated, is_allocated_section, is_header_only_at, kind_at}
 use Rattle.wild_types.specs.Parts.{has_role, part_with, is_entry_role, bytes_in, is_table_role, is_look_up_role, has_hashes}
 use Rattle.wild_plan_rules.specs.Places.{within}
 
@@ -28,19 +28,19 @@ entries_astray parts k [] = None
 entries_astray parts k (s ∷ ss) = if holds_entries parts k s then entries_astray parts (k + 1) ss else Some k
 
 -- those parts are in such sections
-abbrev pub stands_in_entries : Layout → Part → Bool
-stands_in_entries l p = not (is_entry_role p.role) || (is_allocated_section l p.section && kind_at l p.section == sht_rela)
+abbrev pub is_in_entries_section : Layout → Part → Bool
+is_in_entries_section l p = not (is_entry_role p.role) || (is_allocated_section l p.section && kind_at l p.section == sht_rela)
 
 -- ---- entries with addends are one table, which begins with the relative ones (LSB, "Dynamic Entries", DT_RELACOUNT)
 
 -- the part begins where the other ends, in the file and in memory
-abbrev pub begins_behind : Option Part → Part → Bool
-begins_behind None q = true
-begins_behind (Some p) q = q.offset == p.offset + p.size && q.address == p.address + p.size
+abbrev pub begins_at_end_of : Option Part → Part → Bool
+begins_at_end_of None q = true
+begins_at_end_of (Some p) q = q.offset == p.offset + p.size && q.address == p.address + p.size
 
 -- the part of the entries that are not relative does so
 abbrev pub entries_follow : List Part → Part → Bool
-entries_follow parts q = not (has_role role.RelaDynGeneral q) || begins_behind (part_with role.RelaDynRelative parts) q
+entries_follow parts q = not (has_role role.RelaDynGeneral q) || begins_at_end_of (part_with role.RelaDynRelative parts) q
 
 -- the part that follows in the same table
 abbrev pub rest_of_table : List Part → Part → Option Part
@@ -49,14 +49,14 @@ rest_of_table parts p = if has_role role.RelaDynRelative p then part_with role.R
 -- ---- tables of entries, which a loader finds by the dynamic section and reads out of one segment
 
 -- the table is read from one segment: relocation entries, or, if names are looked up, a table for that
-abbrev pub is_asked_whole : Layout → Role → Bool
-is_asked_whole l r = is_table_role r || (is_look_up_role r && has_hashes l)
+abbrev pub is_read_from_one_segment : Layout → Role → Bool
+is_read_from_one_segment l r = is_table_role r || (is_look_up_role r && has_hashes l)
 
 -- the file bytes of the segment include those of the part, and address minus offset is the same for both; if the part's section is
 -- omitted, the segment includes its addresses
 abbrev pub holds_part : Layout → Part → Segment → Bool
 holds_part l p g =
-    if is_hollow_at l p.section
+    if is_header_only_at l p.section
     then within g.address g.mem_size p.address p.size
     else within g.offset g.file_size p.offset p.size && p.offset + g.address == p.address + g.offset
 
@@ -74,4 +74,4 @@ carries_table l p rest g = carries_part l p g && carries_rest l rest g
 -- one segment loads the whole table at its addresses
 abbrev pub table_is_loaded : Layout → Part → Bool
 table_is_loaded l p =
-    not (needs_dynamic l.kind) || not (is_asked_whole l p.role) || p.size == 0 || list_any (carries_table l p (rest_of_table l.parts p)) l.segments
+    not (needs_dynamic l.kind) || not (is_read_from_one_segment l p.role) || p.size == 0 || list_any (carries_table l p (rest_of_table l.parts p)) l.segments

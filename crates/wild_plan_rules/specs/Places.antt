@@ -1,5 +1,5 @@
 -- The clauses on sizes, counts, and the places of parts and sections.
---   stands_loaded l p   a part that a loader or a program reads is in an allocated section with data
+--   is_in_loaded_section l p   a part that a loader or a program reads is in an allocated section with data
 use Rattle.std.specs.Prelude.{ℕ, ◌+◌, ◌%◌, ◌^◌, ◌==◌, Bool, true, not, ◌&&◌, ◌||◌, if◌then◌else◌, nat_le, List, [], ◌∷◌, ◌++◌, drop, length, Option, Some, None, slice_get}
 use Rattle.std.specs.Int.{is_power_of_two}
 use Rattle.std.specs.List.{list_any, list_all}
@@ -80,12 +80,12 @@ part_out_of_order l i end (p ∷ ps) =
 -- ---- clause 4: the roles
 
 -- the first part, raw ones excepted, with the role of an earlier part
-abbrev pub role_again : List Part → ℕ → List Part → Option ℕ
-role_again earlier i [] = None
-role_again earlier i (p ∷ ps) =
+abbrev pub repeated_role : List Part → ℕ → List Part → Option ℕ
+repeated_role earlier i [] = None
+repeated_role earlier i (p ∷ ps) =
     if not (has_role role.Raw p) && list_any (has_role p.role) earlier
     then Some i
-    else role_again (earlier ++ p ∷ []) (i + 1) ps
+    else repeated_role (earlier ++ p ∷ []) (i + 1) ps
 
 -- none if a part of that role exists, else the role's place
 abbrev pub role_missing : Role → List Part → Option ℕ
@@ -113,8 +113,8 @@ roles =
     ∷ role.SymtabShndxGlobal ∷ role.Strtab ∷ role.Interp ∷ role.BuildId ∷ role.Property ∷ []
 
 -- a fixed static executable has no dynamic section (gABI, "Dynamic Section"); else the role's place
-abbrev pub dynamic_unasked : Layout → Option ℕ
-dynamic_unasked l =
+abbrev pub unexpected_dynamic : Layout → Option ℕ
+unexpected_dynamic l =
     if is_fixed_static l.kind && list_any (has_role role.Dynamic) l.parts then Some (role_place role.Dynamic) else None
 
 -- ---- clause 6: what segments load
@@ -153,8 +153,8 @@ abbrev pub part_lies : Layout → Part → Bool
 part_lies l p = p.section == 0 || lies_by l (slice_get l.sections p.section) p
 
 -- such a part is in an allocated section with data, except in relocatable objects
-abbrev pub stands_loaded : Layout → Part → Bool
-stands_loaded l p =
+abbrev pub is_in_loaded_section : Layout → Part → Bool
+is_in_loaded_section l p =
     is_partial_link l.kind || not (is_loaded_role p.role) || (is_allocated_section l p.section && has_data l p.section)
 
 -- a part that is not raw is in a section with data, or in no section

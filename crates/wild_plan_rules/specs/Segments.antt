@@ -11,10 +11,10 @@ use Rattle.wild_types.specs.declared.part.Part.{Part}
 use Rattle.wild_types.specs.declared.section.Section.{Section}
 use Rattle.wild_types.specs.declared.section.Segment.{Segment}
 use Rattle.wild_types.specs.declared.layout.Layout.{Layout}
-use Rattle.wild_plan_rules.specs.declared.side.Side.{Side}
-use Rattle.wild_plan_rules.specs.declared.side.Side.TheVariants as side
+use Rattle.wild_plan_rules.specs.declared.side.ImageOrMemory.{ImageOrMemory}
+use Rattle.wild_plan_rules.specs.declared.side.ImageOrMemory.TheVariants as side
 use Rattle.wild_types.specs.Kinds.{has_fixed_load_address}
-use Rattle.wild_types.specs.Lookups.{allocated, thread_local, is_without_data, fills_file, is_hollow_at}
+use Rattle.wild_types.specs.Lookups.{allocated, thread_local, is_without_data, fills_file, is_header_only_at}
 
 -- ---- the order
 
@@ -23,21 +23,21 @@ congruent page a b = not (page == 0) && a % page == b % page
 
 -- the segment begins at end or later, has at least as much memory as file bytes, and its address and offset are
 -- congruent modulo the page size
-abbrev pub stands_behind : ℕ → ℕ → Segment → Bool
-stands_behind page end g = nat_le end g.address && nat_le g.file_size g.mem_size && congruent page g.address g.offset
+abbrev pub segment_follows : ℕ → ℕ → Segment → Bool
+segment_follows page end g = nat_le end g.address && nat_le g.file_size g.mem_size && congruent page g.address g.offset
 
 -- the first loaded segment that does not follow the previous one
 abbrev pub segment_out_of_order : ℕ → ℕ → ℕ → List Segment → Option ℕ
 segment_out_of_order page i end [] = None
 segment_out_of_order page i end (g ∷ gs) =
     if g.kind == pt_load
-    then (if stands_behind page end g then segment_out_of_order page (i + 1) (g.address + g.mem_size) gs else Some i)
+    then (if segment_follows page end g then segment_out_of_order page (i + 1) (g.address + g.mem_size) gs else Some i)
     else segment_out_of_order page (i + 1) end gs
 
 -- ---- the bytes of sections
 
 -- the size of the segment in memory, or in the file
-abbrev pub size_on : Side → Segment → ℕ
+abbrev pub size_on : ImageOrMemory → Segment → ℕ
 size_on side.Memory g = g.mem_size
 size_on side.File g = g.file_size
 
@@ -46,7 +46,7 @@ abbrev pub at_equal_distance : Section → Segment → Bool
 at_equal_distance s g = s.offset + g.address == s.address + g.offset
 
 -- address a lies in the loaded segment; if the section has file bytes, address minus offset is the same for both
-abbrev pub has_byte : Side → Layout → Section → ℕ → Segment → Bool
+abbrev pub has_byte : ImageOrMemory → Layout → Section → ℕ → Segment → Bool
 has_byte on l s a g = g.kind == pt_load && (nat_le g.address a && nat_lt a (g.address + size_on on g)) && (not (fills_file l s) || at_equal_distance s g)
 
 -- an allocated section, other than thread-local ones without data
@@ -58,9 +58,9 @@ abbrev pub has_file_bytes : Layout → Section → Bool
 has_file_bytes l s = allocated s.flags && fills_file l s
 
 -- the section's bytes must be loaded: in the memory of a segment, or among the file bytes of one
-abbrev pub is_asked : Side → Layout → Section → Bool
-is_asked side.Memory l s = is_to_load s
-is_asked side.File l s = has_file_bytes l s
+abbrev pub must_be_loaded : ImageOrMemory → Layout → Section → Bool
+must_be_loaded side.Memory l s = is_to_load s
+must_be_loaded side.File l s = has_file_bytes l s
 
 -- every number below n passes
 abbrev pub all_below : (ℕ → Bool) → ℕ → Bool
@@ -68,8 +68,8 @@ all_below test zero = true
 all_below test (suc n) = test n && all_below test n
 
 -- each byte of the section that must be loaded lies in a segment
-abbrev pub bytes_are_loaded : Side → Layout → List Segment → Section → Bool
-bytes_are_loaded on l segments s = not (is_asked on l s) || all_below (λ k. list_any (has_byte on l s (s.address + k)) segments) s.size
+abbrev pub bytes_are_loaded : ImageOrMemory → Layout → List Segment → Section → Bool
+bytes_are_loaded on l segments s = not (must_be_loaded on l s) || all_below (λ k. list_any (has_byte on l s (s.address + k)) segments) s.size
 
 -- ---- other tests
 
@@ -84,7 +84,7 @@ segment_in_image size g = nat_le (g.offset + g.file_size) size
 
 -- the file size of the part's segment: 0 if the part's section is omitted
 abbrev pub size_in_file : Layout → Part → ℕ
-size_in_file l p = if is_hollow_at l p.section then 0 else p.size
+size_in_file l p = if is_header_only_at l p.section then 0 else p.size
 
 -- the segment has the place and the size of the part
 abbrev pub is_segment_of : Layout → Option Part → Segment → Bool

@@ -1,8 +1,8 @@
 -- Clause 14: a symbol's flags agree with its slots and its stub (x86-64 psABI, "Global Offset Table (GOT)", "Procedure Linkage
 -- Table"; ELF Handling For Thread-Local Storage). A symbol is not tested if another one defines it and it has no resolution of its
 -- own: its flags are never used.
---   is_asked l i s                 symbol i is tested
---   first_asked_failing l t i ss   the number of the first tested symbol that fails, counted from i on
+--   is_tested l i s                 symbol i is tested
+--   first_tested_failing l t i ss   the number of the first tested symbol that fails, counted from i on
 --   takes_block_word l s           the slot is in the block of slots that RELR relocates
 --   is_plain s                     the symbol has neither slots nor a stub
 --   agrees_in_all l s              the symbol passes each test
@@ -18,12 +18,12 @@ use Rattle.wild_types.specs.Lookups.{canonical}
 
 -- ---- which symbols are tested
 
-abbrev pub is_asked : Layout → ℕ → Symbol → Bool
-is_asked l i s = canonical l i == i || is_some s.resolution
+abbrev pub is_tested : Layout → ℕ → Symbol → Bool
+is_tested l i s = canonical l i == i || is_some s.resolution
 
-abbrev pub first_asked_failing : Layout → (Symbol → Bool) → ℕ → List Symbol → Option ℕ
-first_asked_failing l test i [] = None
-first_asked_failing l test i (s ∷ ss) = if is_asked l i s && not (test s) then Some i else first_asked_failing l test (i + 1) ss
+abbrev pub first_tested_failing : Layout → (Symbol → Bool) → ℕ → List Symbol → Option ℕ
+first_tested_failing l test i [] = None
+first_tested_failing l test i (s ∷ ss) = if is_tested l i s && not (test s) then Some i else first_tested_failing l test (i + 1) ss
 
 -- ---- the tests, in their order
 

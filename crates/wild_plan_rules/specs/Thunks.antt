@@ -2,7 +2,7 @@
 -- primary part, after the sections of the file that owns its block.
 --   has_thunks l         there are thunks
 --   ascends b            the thunks of a block ascend by their symbols
---   standing l f         the input sections in a file's ranges: its own, and for the last file also the sorted ones
+--   sections_in_ranges l f         the input sections in a file's ranges: its own, and for the last file also the sorted ones
 --   thunks_misplaced l   the first block whose thunks are not at the next free places, or group with an input section over them
 --   block_lost l i bs    the first block with thunks that no file owns
 --   machine_takes m b    the machine has thunks, or the block has none
@@ -18,8 +18,8 @@ use Rattle.wild_types.specs.declared.layout.Thunk.{Thunk}
 use Rattle.wild_types.specs.declared.layout.Layout.{Layout}
 use Rattle.wild_types.specs.FilePlaces.{given}
 use Rattle.wild_types.specs.FileThunks.{thunk_size, thunks_of}
-use Rattle.wild_types.specs.Lookups.{is_given}
-use Rattle.wild_laid.specs.Laid.{Input, sorted_inputs, of_last_file}
+use Rattle.wild_types.specs.Lookups.{has_range_bytes}
+use Rattle.wild_placement.specs.PlacedSections.{Input, sorted_inputs, of_last_file}
 use Rattle.wild_plan_rules.specs.SlotPlaces.{and_then, walk}
 
 -- the block has thunks
@@ -47,22 +47,22 @@ abbrev pub next_code : ℕ → ℕ
 next_code n = (n + 3) / 4 * 4
 
 -- the thunks are there, consecutively
-abbrev pub stand_from : ℕ → List Thunk → Bool
-stand_from at [] = true
-stand_from at (t ∷ ts) = t.address == at && stand_from (at + thunk_size) ts
+abbrev pub are_consecutive_from : ℕ → List Thunk → Bool
+are_consecutive_from at [] = true
+are_consecutive_from at (t ∷ ts) = t.address == at && are_consecutive_from (at + thunk_size) ts
 
 -- the place after consecutive thunks from a place on, which end at an end or before
-abbrev pub behind_thunks : ℕ → ℕ → ℕ → List Thunk → Result ℕ ℕ
-behind_thunks block end at ts = if stand_from at ts && nat_le (at + thunk_size * length ts) end then Ok (at + thunk_size * length ts) else Err block
+abbrev pub end_of_thunks : ℕ → ℕ → ℕ → List Thunk → Result ℕ ℕ
+end_of_thunks block end at ts = if are_consecutive_from at ts && nat_le (at + thunk_size * length ts) end then Ok (at + thunk_size * length ts) else Err block
 
 -- the place after the thunks of a block; a block without thunks occupies no bytes
 abbrev pub block_step : ℕ → ℕ → ℕ → List Thunk → Result ℕ ℕ
-block_step block end at ts = if is_used ts then behind_thunks block end (next_code at) ts else Ok at
+block_step block end at ts = if is_used ts then end_of_thunks block end (next_code at) ts else Ok at
 
 -- the place after an input section of the primary part; the group if the section begins before the free place
 abbrev pub section_step : Layout → ℕ → ℕ → InputSection → Result ℕ ℕ
 section_step l group at s =
-    if is_given l s && s.part == l.primary_part
+    if has_range_bytes l s && s.part == l.primary_part
     then (if nat_le at s.address then Ok (s.address + s.size) else Err group)
     else Ok at
 
@@ -71,12 +71,12 @@ abbrev pub bytes_step : ℕ → ℕ → ℕ → InputSection → Result ℕ ℕ
 bytes_step primary group at s = if s.part == primary then (if nat_le at s.address then Ok (s.address + s.size) else Err group) else Ok at
 
 -- the input sections in a file's ranges: its own, and for the last file also the sorted ones, which are written like loaded ones
-abbrev pub standing : Layout → File → List InputSection
-standing l f = f.sections ++ of_last_file f (map (λ (x : Input). x.section) (sorted_inputs l))
+abbrev pub sections_in_ranges : Layout → File → List InputSection
+sections_in_ranges l f = f.sections ++ of_last_file f (map (λ (x : Input). x.section) (sorted_inputs l))
 
 -- the place after a file: after its sections, and then after the thunks of its block, if the file owns one
 abbrev pub file_step : Layout → ℕ → ℕ → ℕ → File → Result ℕ ℕ
-file_step l group end at f = and_then (walk (section_step l group) at (standing l f)) (λ n. block_step f.thunk_block end n (thunks_of l f))
+file_step l group end at f = and_then (walk (section_step l group) at (sections_in_ranges l f)) (λ n. block_step f.thunk_block end n (thunks_of l f))
 
 abbrev pub or_next : Result ℕ ℕ → Option ℕ → Option ℕ
 or_next (Err i) next = Some i

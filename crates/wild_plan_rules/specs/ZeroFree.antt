@@ -22,13 +22,13 @@ abbrev pub name_fits : List ℕ → Bool
 name_fits name = list_all (λ b. not (b == 0)) name
 
 -- the same for an optional name
-abbrev pub given_name_fits : Option (List ℕ) → Bool
-given_name_fits None = true
-given_name_fits (Some name) = name_fits name
+abbrev pub optional_name_fits : Option (List ℕ) → Bool
+optional_name_fits None = true
+optional_name_fits (Some name) = name_fits name
 
 -- the search path and the name of the output
 abbrev pub option_names_fit : Options → Bool
-option_names_fit o = given_name_fits o.rpath && given_name_fits o.soname
+option_names_fit o = optional_name_fits o.rpath && optional_name_fits o.soname
 
 abbrev pub section_name_fits : Section → Bool
 section_name_fits s = name_fits s.name

@@ -6,5 +6,5 @@ mod side;
 mod slot_places;
 
 pub use group_starts::Starts;
-pub use side::Side;
-pub use slot_places::Free;
+pub use side::ImageOrMemory;
+pub use slot_places::SlotCursor;

@@ -2,7 +2,7 @@
 
 /// Where the bytes of a section have to lie: in the memory of segments, or among their file bytes.
 #[derive(Clone, Copy)]
-pub enum Side {
+pub enum ImageOrMemory {
     Memory,
     File,
 }

@@ -1,7 +1,7 @@
 //! A group's share of a string table (gABI, "String Table").
 ghost use Rattle.std.specs.Prelude.{◌≡◌, ◌+◌, ◌^◌, ◌<◌, ◌≤◌, [], ◌∷◌, ◌++◌, length, take, OnOk, OnErr, IfOk};
 ghost use Rattle.wild_words.specs.Words.{place};
-ghost use Rattle.wild_table_formats.specs.Strings.{string, with_string, room_for_string, left_of_strings, room_for_bytes, kept_strings, front_strings, strings_joined};
+ghost use Rattle.wild_table_formats.specs.Strings.{string, with_string, room_for_string, strings_full_or_fault, room_for_bytes, kept_strings, front_strings, strings_joined};
 
 use std::alloc::{AllocError, Global};
 use std::marker::Model;
@@ -101,7 +101,7 @@ impl StrTabWriter {
     ///
     /// `ExcessiveAllocation` exactly if unwritten bytes are left.
     pub fn check_exhausted(&self) -> Result<(), Error>
-        ensures { result ≡ left_of_strings self.now }
+        ensures { result ≡ strings_full_or_fault self.now }
     {
         let room = self.room();
         if self.used < room {

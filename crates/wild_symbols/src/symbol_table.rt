@@ -4,7 +4,7 @@ ghost use Rattle.wild_words.specs.Words.{place};
 ghost use Rattle.wild_words.specs.Record.{spell};
 ghost use Rattle.wild_records.specs.SymtabEntry.{symtab_entry_size, symtab_entry_fields, symtab_entry_at};
 ghost use Rattle.wild_records.specs.declared.symtab_entry.SymtabEntry.{SymtabEntry as Entry};
-ghost use Rattle.wild_table_formats.specs.Symbols.{symbol_bytes, symbols_in, IsSpelled, symbols_used, with_entry, room_for_entry, left_of_symbols, room_for_entries, kept_symbols, front_symbols, symbols_joined};
+ghost use Rattle.wild_table_formats.specs.Symbols.{symbol_bytes, symbols_in, IsSpelled, symbols_used, with_entry, room_for_entry, symbols_full_or_fault, room_for_entries, kept_symbols, front_symbols, symbols_joined};
 
 use std::alloc::{AllocError, Global};
 use std::marker::Model;
@@ -107,7 +107,7 @@ impl SymbolTable {
     ///
     /// `ExcessiveAllocation` exactly if unwritten bytes are left.
     pub fn check_exhausted(&self) -> Result<(), Error>
-        ensures { result ≡ left_of_symbols self.now }
+        ensures { result ≡ symbols_full_or_fault self.now }
     {
         let given = self.room();
         let used = self.used();

@@ -4,11 +4,11 @@ use Rattle.std.specs.Prelude.{All, flat_map}
 use Rattle.std.proofs.lemmas.List.{drop_more, drop_all, length-drop, length-take, append_assoc, append-nil, length-append, length-map, length-replicate, replicate-append-replicate}
 use Rattle.std.proofs.lemmas.List.Elements.{All-nil, All-cons, All-append}
 use Rattle.std.proofs.lemmas.Grind.{flat_map-append}
-use Rattle.wild_words.specs.Words.{word, place, Stands}
+use Rattle.wild_words.specs.Words.{word, place, HasBytesAt}
 use Rattle.wild_words.specs.Record.{spell}
 use Rattle.wild_words.proofs.WordLemmas.{front-place}
 use Rattle.wild_words.proofs.OverlayLemmas.{length-place}
-use Rattle.wild_words.proofs.RecordLemmas.{length-spell, Stands-left}
+use Rattle.wild_words.proofs.RecordLemmas.{length-spell, HasBytesAt-left}
 use Rattle.wild_records.specs.Dynamic.{dynamic_entry_size, dynamic_entry_fields, DynamicEntryFits}
 use Rattle.wild_records.specs.declared.dynamic.DynamicEntry.{DynamicEntry}
 use Rattle.wild_records.specs.Abi.Dynamic.{dt_needed, dt_soname, dt_auxiliary}
@@ -19,10 +19,10 @@ use Rattle.wild_types.specs.declared.file.File.{File}
 use Rattle.wild_types.specs.declared.file.Group.{Group}
 use Rattle.wild_types.specs.declared.layout.Layout.{Layout}
 use Rattle.wild_needs.specs.Dynamic.{entry_of, tag_entries, dynamic_entries, dynamic_count}
-use Rattle.wild_needs.specs.DynamicStrings.{NamedString, named, path_number, option_strings, named_strings, auxiliary_string, auxiliary_strings, behind_text, string_start, string_entries, behind_file, needed_of, needed_from, needed_entries}
+use Rattle.wild_needs.specs.DynamicStrings.{NamedString, named, path_number, option_strings, named_strings, auxiliary_string, auxiliary_strings, offset_after_string, string_start, string_entries, next_dynstr, needed_of, needed_from, needed_entries}
 use Rattle.wild_types.specs.FileRoles.{is_library}
 use Rattle.wild_types.specs.Kinds.{needs_dynamic}
-use Rattle.wild_table_formats.specs.DynamicSection.{behind_strings, entries_bytes, dynamic_bytes, null_entry, dynamic_records, RecordsAt, IsNeeded, NeededAreOfLibraries}
+use Rattle.wild_table_formats.specs.DynamicSection.{offset_after_strings, entries_bytes, dynamic_bytes, null_entry, dynamic_records, RecordsAt, IsNeeded, NeededAreOfLibraries}
 
 pub length_entry : (d : DynamicEntry) → length (spell (dynamic_entry_fields d)) ≡ 16
 unfolding dynamic_entry_fields
@@ -59,24 +59,24 @@ nulls_bytes (suc n) =
 zeros_cut : (n m : ℕ) → 16 * n ≤ m → zeros (16 * n) ++ zeros (m - 16 * n) ≡ zeros m
 zeros_cut n m h = let e : 16 * n + (m - 16 * n) ≡ m = omega arith in replicate-append-replicate {A = ℕ} (16 * n) (m - 16 * n) 0 ∙ ap zeros e
 
-whole_bytes : (ds : List DynamicEntry) (n m : ℕ) → 16 * n ≤ m → entries_bytes (ds ++ replicate n null_entry) ++ zeros (m - 16 * n) ≡ entries_bytes ds ++ zeros m
-whole_bytes ds n m h =
+unique_table : (ds : List DynamicEntry) (n m : ℕ) → 16 * n ≤ m → entries_bytes (ds ++ replicate n null_entry) ++ zeros (m - 16 * n) ≡ entries_bytes ds ++ zeros m
+unique_table ds n m h =
     ap (λ (x : List ℕ). x ++ zeros (m - 16 * n)) (flat_map-append (λ (d : DynamicEntry). spell (dynamic_entry_fields d)) ds (replicate n null_entry))
     ∙ append_assoc (entries_bytes ds) (entries_bytes (replicate n null_entry)) (zeros (m - 16 * n))
     ∙ ap (λ (x : List ℕ). entries_bytes ds ++ x) (ap (λ (x : List ℕ). x ++ zeros (m - 16 * n)) (nulls_bytes n) ∙ zeros_cut n m h)
 
-records_behind : (l : Layout) (front : List DynamicEntry) (room : ℕ) → dynamic_entry_size * dynamic_count l ≤ room → Stands (entries_bytes front ++ dynamic_bytes l room) 0 (entries_bytes (front ++ dynamic_records l room))
+records_behind : (l : Layout) (front : List DynamicEntry) (room : ℕ) → dynamic_entry_size * dynamic_count l ≤ room → HasBytesAt (entries_bytes front ++ dynamic_bytes l room) 0 (entries_bytes (front ++ dynamic_records l room))
 records_behind l front room h =
     let n : ℕ = room / 16 - dynamic_count l in
     let m : ℕ = room - 16 * dynamic_count l in
-    let P : List ℕ → Type 0 = λ xs. Stands xs 0 (entries_bytes (front ++ dynamic_records l room)) in
+    let P : List ℕ → Type 0 = λ xs. HasBytesAt xs 0 (entries_bytes (front ++ dynamic_records l room)) in
     let few : 16 * n ≤ m = omega (arith, h) in
     let j = flat_map-append (λ (d : DynamicEntry). spell (dynamic_entry_fields d)) front (dynamic_records l room) in
     let e : entries_bytes (front ++ dynamic_records l room) ++ zeros (m - 16 * n) ≡ entries_bytes front ++ dynamic_bytes l room =
     ap (λ (x : List ℕ). x ++ zeros (m - 16 * n)) j
     ∙ append_assoc (entries_bytes front) (entries_bytes (dynamic_records l room)) (zeros (m - 16 * n))
-    ∙ ap (λ (x : List ℕ). entries_bytes front ++ x) (whole_bytes (dynamic_entries l) n m few) in
-    subst P e (Stands-left (entries_bytes (front ++ dynamic_records l room)) (zeros (m - 16 * n)))
+    ∙ ap (λ (x : List ℕ). entries_bytes front ++ x) (unique_table (dynamic_entries l) n m few) in
+    subst P e (HasBytesAt-left (entries_bytes (front ++ dynamic_records l room)) (zeros (m - 16 * n)))
 
 pub records_at : (l : Layout) (front : List DynamicEntry) (room : ℕ) → dynamic_entry_size * dynamic_count l ≤ room → RecordsAt l front room
 records_at l front room h =
@@ -97,7 +97,7 @@ needed_names at f = named_if (is_library f.role)
 
 from_names : (l : Layout) (at : ℕ) (fs : List File) → All IsNeeded (needed_from l at fs)
 from_names l at [] = All-nil IsNeeded
-from_names l at (f ∷ fs) = All-append IsNeeded (needed_of at f) (needed_from l (behind_file l at f) fs) (needed_names at f) (from_names l (behind_file l at f) fs)
+from_names l at (f ∷ fs) = All-append IsNeeded (needed_of at f) (needed_from l (next_dynstr l at f) fs) (needed_names at f) (from_names l (next_dynstr l at f) fs)
 
 entries_name : (l : Layout) (g : Group) → All IsNeeded (needed_entries l g)
 unfolding needed_entries
@@ -121,8 +121,8 @@ needed_fits at f h = fit_if (is_library f.role)
 from_fit : (l : Layout) (at : ℕ) (fs : List File) → at < 2 ^ 64 → All DynamicEntryFits (needed_from l at fs)
 from_fit l at [] h = All-nil DynamicEntryFits
 from_fit l at (f ∷ fs) h =
-    let next : behind_file l at f < 2 ^ 64 = omega arith in
-    All-append DynamicEntryFits (needed_of at f) (needed_from l (behind_file l at f) fs) (needed_fits at f h) (from_fit l (behind_file l at f) fs next)
+    let next : next_dynstr l at f < 2 ^ 64 = omega arith in
+    All-append DynamicEntryFits (needed_of at f) (needed_from l (next_dynstr l at f) fs) (needed_fits at f h) (from_fit l (next_dynstr l at f) fs next)
 
 entries_fit : (l : Layout) (g : Group) → g.dynstr_start < 2 ^ 64 → All DynamicEntryFits (needed_entries l g)
 unfolding needed_entries
@@ -182,28 +182,28 @@ unfolding string_entries
 strings_end at front = append-nil front
 
 pub string_more : (at : ℕ) (front text : List ℕ) (texts : List (List ℕ))
-    → (front ++ entries_bytes (record { tag = dt_auxiliary; value = at } ∷ [])) ++ entries_bytes (string_entries (behind_text at text) (auxiliary_strings texts)) ≡ front ++ entries_bytes (string_entries at (auxiliary_strings (text ∷ texts)))
+    → (front ++ entries_bytes (record { tag = dt_auxiliary; value = at } ∷ [])) ++ entries_bytes (string_entries (offset_after_string at text) (auxiliary_strings texts)) ≡ front ++ entries_bytes (string_entries at (auxiliary_strings (text ∷ texts)))
 unfolding string_entries
 string_more at front text texts =
     let d : DynamicEntry = record { tag = dt_auxiliary; value = at } in
-    let B = entries_bytes (string_entries (behind_text at text) (auxiliary_strings texts)) in
+    let B = entries_bytes (string_entries (offset_after_string at text) (auxiliary_strings texts)) in
     append_assoc front (entries_bytes (d ∷ [])) B ∙ ap (λ (x : List ℕ). front ++ (x ++ B)) (entry_alone d)
 
-strings_joined : (at : ℕ) (xs ys : List NamedString) → string_entries at (xs ++ ys) ≡ string_entries at xs ++ string_entries (behind_strings at xs) ys
+strings_joined : (at : ℕ) (xs ys : List NamedString) → string_entries at (xs ++ ys) ≡ string_entries at xs ++ string_entries (offset_after_strings at xs) ys
 unfolding string_entries
 strings_joined at [] ys = refl
-strings_joined at (s ∷ xs) ys = ap (λ (r : List DynamicEntry). record { tag = s.number; value = at } ∷ r) (strings_joined (behind_text at s.text) xs ys)
+strings_joined at (s ∷ xs) ys = ap (λ (r : List DynamicEntry). record { tag = s.number; value = at } ∷ r) (strings_joined (offset_after_string at s.text) xs ys)
 
 -- the bytes of the entries of all strings, kind by kind
 pub option_bytes : (at : ℕ) (o : Options) → entries_bytes (string_entries at (option_strings o))
-    ≡ (entries_bytes (string_entries at (named (path_number o) o.rpath)) ++ entries_bytes (string_entries (behind_strings at (named (path_number o) o.rpath)) (named dt_soname o.soname)))
-    ++ entries_bytes (string_entries (behind_strings (behind_strings at (named (path_number o) o.rpath)) (named dt_soname o.soname)) (auxiliary_strings o.auxiliary))
+    ≡ (entries_bytes (string_entries at (named (path_number o) o.rpath)) ++ entries_bytes (string_entries (offset_after_strings at (named (path_number o) o.rpath)) (named dt_soname o.soname)))
+    ++ entries_bytes (string_entries (offset_after_strings (offset_after_strings at (named (path_number o) o.rpath)) (named dt_soname o.soname)) (auxiliary_strings o.auxiliary))
 option_bytes at o =
     let xs = named (path_number o) o.rpath in
     let ys = named dt_soname o.soname in
     let zs = auxiliary_strings o.auxiliary in
-    let b = behind_strings at xs in
-    let c = behind_strings b ys in
+    let b = offset_after_strings at xs in
+    let c = offset_after_strings b ys in
     ap entries_bytes (strings_joined at xs (ys ++ zs) ∙ ap (λ (r : List DynamicEntry). string_entries at xs ++ r) (strings_joined b ys zs))
     ∙ entries_joined (string_entries at xs) (string_entries b ys ++ string_entries c zs)
     ∙ ap (λ (r : List ℕ). entries_bytes (string_entries at xs) ++ r) (entries_joined (string_entries b ys) (string_entries c zs))
@@ -238,14 +238,14 @@ pub no_strings : (l : Layout) → needs_dynamic l.kind ≡ false → [] ≡ entr
 unfolding named_strings string_entries
 no_strings l h = rw h refl
 
-pub auxiliary_offset : (xs : List (List ℕ)) (i : ℕ) (x : List ℕ) (at next goal : ℕ) → i < length xs → x ≡ get_or xs i x → next ≡ behind_text at x
-    → behind_strings at (auxiliary_strings (drop i xs)) ≡ goal → behind_strings next (auxiliary_strings (drop (i + 1) xs)) ≡ goal
+pub auxiliary_offset : (xs : List (List ℕ)) (i : ℕ) (x : List ℕ) (at next goal : ℕ) → i < length xs → x ≡ get_or xs i x → next ≡ offset_after_string at x
+    → offset_after_strings at (auxiliary_strings (drop i xs)) ≡ goal → offset_after_strings next (auxiliary_strings (drop (i + 1) xs)) ≡ goal
 auxiliary_offset xs i x at next goal l e n h =
-    let P : List (List ℕ) → Type 0 = λ ys. behind_strings at (auxiliary_strings ys) ≡ goal in
+    let P : List (List ℕ) → Type 0 = λ ys. offset_after_strings at (auxiliary_strings ys) ≡ goal in
     let split : drop i xs ≡ x ∷ drop (i + 1) xs = drop_more xs i x l ∙ ap (λ (y : List ℕ). y ∷ drop (i + 1) xs) (sym e) in
     rw n (subst P split h)
 
-pub auxiliary_written : (xs : List (List ℕ)) (i : ℕ) (x : List ℕ) (at next : ℕ) (front longer goal : List ℕ) → i < length xs → x ≡ get_or xs i x → next ≡ behind_text at x
+pub auxiliary_written : (xs : List (List ℕ)) (i : ℕ) (x : List ℕ) (at next : ℕ) (front longer goal : List ℕ) → i < length xs → x ≡ get_or xs i x → next ≡ offset_after_string at x
     → longer ≡ front ++ entries_bytes (record { tag = dt_auxiliary; value = at } ∷ [])
     → front ++ entries_bytes (string_entries at (auxiliary_strings (drop i xs))) ≡ goal → longer ++ entries_bytes (string_entries next (auxiliary_strings (drop (i + 1) xs))) ≡ goal
 auxiliary_written xs i x at next front longer goal l e n w h =

@@ -2,11 +2,11 @@
 use Rattle.std.proofs.Common.{◌≡◌, ℕ, zero, suc, ◌+◌, ◌*◌, ◌<◌, ◌≤◌, List, [], ◌∷◌, ◌++◌, length, take, get_or, refl, sym, ap, ◌∙◌, arith}
 use Rattle.std.specs.Prelude.{All}
 use Rattle.std.proofs.lemmas.List.{append_assoc, append-nil, length-append}
-use Rattle.wild_words.specs.Words.{place, Stands}
+use Rattle.wild_words.specs.Words.{place, HasBytesAt}
 use Rattle.wild_words.specs.Record.{spell}
 use Rattle.wild_words.proofs.WordLemmas.{front-place}
-use Rattle.wild_words.proofs.OverlayLemmas.{Stands-place, Stands-inner}
-use Rattle.wild_words.proofs.RecordLemmas.{length-spell, Stands-left, Stands-right}
+use Rattle.wild_words.proofs.OverlayLemmas.{HasBytesAt-place, HasBytesAt-inner}
+use Rattle.wild_words.proofs.RecordLemmas.{length-spell, HasBytesAt-left, HasBytesAt-right}
 use Rattle.wild_words.proofs.OrderLemmas.{number_kept}
 use Rattle.wild_records.specs.declared.relocations.Rela.{Rela}
 use Rattle.wild_records.specs.Relocations.{rela_size, rela_fields, rela_at, RelaFits, RelaIsRead}
@@ -57,7 +57,7 @@ unfolding entries_in
 entries_in_next bs n r read fits l =
     let w = length-rela r in
     let f : 24 * n + length (spell (rela_fields r)) ≤ length bs = omega (arith, w) in
-    let e = read (place (24 * n) (spell (rela_fields r)) bs) (24 * n) r fits (Stands-place (24 * n) bs (spell (rela_fields r)) f) in
+    let e = read (place (24 * n) (spell (rela_fields r)) bs) (24 * n) r fits (HasBytesAt-place (24 * n) bs (spell (rela_fields r)) f) in
     let k = entries_in_kept n bs (spell (rela_fields r)) (24 * n) (omega arith) f in
     rw (e, k) refl
 
@@ -76,14 +76,14 @@ spelled_more bs n r m e read fits l s =
 
 -- ---- reading
 
-Stands-entry : (es : List Rela) (k : ℕ) (d : Rela) → k < length es → Stands (rela_bytes es) (24 * k) (spell (rela_fields (get_or es k d)))
-Stands-entry [] k d l = absurd (omega (arith, l))
-Stands-entry (r ∷ es) zero d l = Stands-left (spell (rela_fields r)) (rela_bytes es)
-Stands-entry (r ∷ es) (suc k) d l =
+HasBytesAt-entry : (es : List Rela) (k : ℕ) (d : Rela) → k < length es → HasBytesAt (rela_bytes es) (24 * k) (spell (rela_fields (get_or es k d)))
+HasBytesAt-entry [] k d l = absurd (omega (arith, l))
+HasBytesAt-entry (r ∷ es) zero d l = HasBytesAt-left (spell (rela_fields r)) (rela_bytes es)
+HasBytesAt-entry (r ∷ es) (suc k) d l =
     let n = length-rela r in
     let e : length (spell (rela_fields r)) + 24 * k ≡ 24 * suc k = omega (arith, n) in
-    rw e at (Stands-right (spell (rela_fields r)) (rela_bytes es) (spell (rela_fields (get_or es k d))) (24 * k) (Stands-entry es k d (omega (arith, l))))
+    rw e at (HasBytesAt-right (spell (rela_fields r)) (rela_bytes es) (spell (rela_fields (get_or es k d))) (24 * k) (HasBytesAt-entry es k d (omega (arith, l))))
 
-pub entry_read : RelaIsRead → (whole : List ℕ) (es : List Rela) (at k : ℕ) (d : Rela) → All RelaFits es → Stands whole at (rela_bytes es) → k < length es → rela_at whole (at + rela_size * k) ≡ get_or es k d
+pub entry_read : RelaIsRead → (whole : List ℕ) (es : List Rela) (at k : ℕ) (d : Rela) → All RelaFits es → HasBytesAt whole at (rela_bytes es) → k < length es → rela_at whole (at + rela_size * k) ≡ get_or es k d
 entry_read read whole es at k d h s l =
-    read whole (at + 24 * k) (get_or es k d) (h k d l) (Stands-inner whole (rela_bytes es) (spell (rela_fields (get_or es k d))) at (24 * k) s (Stands-entry es k d l))
+    read whole (at + 24 * k) (get_or es k d) (h k d l) (HasBytesAt-inner whole (rela_bytes es) (spell (rela_fields (get_or es k d))) at (24 * k) s (HasBytesAt-entry es k d l))

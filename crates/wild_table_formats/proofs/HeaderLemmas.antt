@@ -19,8 +19,8 @@ use Rattle.wild_types.specs.declared.section.Section.{Section}
 use Rattle.wild_types.specs.declared.layout.Layout.{Layout}
 use Rattle.wild_types.specs.Lists.{total}
 use Rattle.wild_types.proofs.ListLemmas.{total-prefix, total-more}
-use Rattle.wild_table_formats.specs.declared.section_info.Told.{Told}
-use Rattle.wild_table_formats.specs.Headers.{told_of, info_at, null_header, section_header, headers_from, section_headers_of}
+use Rattle.wild_table_formats.specs.declared.section_info.ComputedInfo.{ComputedInfo}
+use Rattle.wild_table_formats.specs.Headers.{computed_infos, info_at, null_header, section_header, headers_from, section_headers_of}
 
 pub length-program_header : (h : ProgramHeader) → length (spell (program_header_fields h)) ≡ program_header_size
 unfolding program_header_fields
@@ -66,12 +66,12 @@ table-more f n i xs d out l w room e =
 
 -- the header of the section with index i
 abbrev pub header_at : Layout → ℕ → ℕ → Section → SectionHeader
-header_at l i name s = if i == 0 then null_header l else section_header l (info_at (told_of l) i s.info) name s
+header_at l i name s = if i == 0 then null_header l else section_header l (info_at (computed_infos l) i s.info) name s
 
 abbrev pub named : Section → ℕ
 named s = length s.name + 1
 
-headers_from-push : (l : Layout) (d : List Told) (i name : ℕ) (ss : List Section) (s : Section) → headers_from l d i name (ss ++ s ∷ []) ≡ headers_from l d i name ss ++ section_header l (info_at d (i + length ss) s.info) (name + total named ss) s ∷ []
+headers_from-push : (l : Layout) (d : List ComputedInfo) (i name : ℕ) (ss : List Section) (s : Section) → headers_from l d i name (ss ++ s ∷ []) ≡ headers_from l d i name ss ++ section_header l (info_at d (i + length ss) s.info) (name + total named ss) s ∷ []
 headers_from-push l d i name [] s = let e : name + 0 ≡ name = omega arith in let z : i + 0 ≡ i = omega arith in rw (e, z) refl
 headers_from-push l d i name (t ∷ ss) s =
     let e : name + length t.name + 1 + total named ss ≡ name + (length t.name + 1 + total named ss) = omega arith in
@@ -83,7 +83,7 @@ section_headers_of-push l i [] s e = rw (← e) refl
 section_headers_of-push l i (t ∷ ss) s e =
     let z : nat_eq i 0 ≡ false = grind (arith, nat_tests) in
     let n : 1 + length ss ≡ i = omega (arith, e) in
-    rw (z, ← n) (ap (λ (r : List SectionHeader). null_header l ∷ r) (headers_from-push l (told_of l) 1 (length t.name + 1) ss s))
+    rw (z, ← n) (ap (λ (r : List SectionHeader). null_header l ∷ r) (headers_from-push l (computed_infos l) 1 (length t.name + 1) ss s))
 
 -- one more section header
 pub section_table-more : (l : Layout) (i : ℕ) (ss : List Section) (d : Section) (out : List ℕ) → i < length ss → section_header_size * length ss ≡ length out

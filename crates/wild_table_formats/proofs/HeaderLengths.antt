@@ -15,18 +15,18 @@ use Rattle.wild_types.specs.Lists.{total}
 use Rattle.wild_types.specs.declared.part.Part.{Part}
 use Rattle.wild_types.specs.declared.part.Role.{Role}
 use Rattle.wild_types.specs.Parts.{has_role}
-use Rattle.wild_table_formats.specs.declared.section_info.Told.{Told}
-use Rattle.wild_table_formats.specs.Headers.{file_header, program_header, told_of, headers_from, section_headers_of, section_of_role}
+use Rattle.wild_table_formats.specs.declared.section_info.ComputedInfo.{ComputedInfo}
+use Rattle.wild_table_formats.specs.Headers.{file_header, program_header, computed_infos, headers_from, section_headers_of, section_of_role}
 use Rattle.wild_table_formats.specs.HeaderLaws.{LengthsOfHeaders}
 use Rattle.wild_table_formats.proofs.HeaderLemmas.{length-program_header, length-section_header}
 
-length-headers_from : (l : Layout) (d : List Told) (i name : ℕ) (ss : List Section) → length (headers_from l d i name ss) ≡ length ss
+length-headers_from : (l : Layout) (d : List ComputedInfo) (i name : ℕ) (ss : List Section) → length (headers_from l d i name ss) ≡ length ss
 length-headers_from l d i name [] = refl
 length-headers_from l d i name (s ∷ ss) = let e = length-headers_from l d (i + 1) (name + length s.name + 1) ss in omega (arith, e)
 
 pub length-section_headers_of : (l : Layout) (ss : List Section) → length (section_headers_of l ss) ≡ length ss
 length-section_headers_of l [] = refl
-length-section_headers_of l (s ∷ ss) = let e = length-headers_from l (told_of l) 1 (length s.name + 1) ss in omega (arith, e)
+length-section_headers_of l (s ∷ ss) = let e = length-headers_from l (computed_infos l) 1 (length s.name + 1) ss in omega (arith, e)
 
 length-names : (ss : List Section) → length (flat_map (λ (s : Section). s.name ++ 0 ∷ []) ss) ≡ total (λ (s : Section). length s.name + 1) ss
 length-names [] = refl

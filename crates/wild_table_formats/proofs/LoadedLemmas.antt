@@ -4,7 +4,7 @@ use Rattle.std.specs.Prelude.{All}
 use Rattle.std.proofs.lemmas.List.Elements.{All-head, All-tail}
 use Rattle.std.proofs.lemmas.List.Sorted.{All-permutation}
 use Rattle.wild_words.proofs.ListLemmas.{All-append-left, All-append-right}
-use Rattle.wild_relr.specs.Packed.{PiecesAreRecorded, places_of_pieces, words_of}
+use Rattle.wild_relr.specs.RunWords.{PiecesAreRecorded, places_of_pieces, words_of}
 use Rattle.wild_table_formats.specs.EntryLaws.{LoadersAgree, PlacesAreLoaded}
 use Rattle.wild_relr.specs.Places.{window, places_of, next_after, places_from, places}
 use Rattle.wild_loader.specs.Places as loader

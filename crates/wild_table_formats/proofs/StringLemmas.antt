@@ -1,12 +1,12 @@
 -- Laws of strings.
 use Rattle.std.proofs.Common.{◌≡◌, ℕ, zero, suc, ◌+◌, ◌≤◌, List, [], ◌∷◌, ◌++◌, length, take, refl, sym, ap, ◌∙◌, arith, subst}
 use Rattle.std.proofs.lemmas.List.{append_assoc, append-nil, length-append}
-use Rattle.wild_words.specs.Words.{word, place, Stands}
+use Rattle.wild_words.specs.Words.{word, place, HasBytesAt}
 use Rattle.wild_words.proofs.WordLemmas.{word_1, front-place}
-use Rattle.wild_words.proofs.OverlayLemmas.{length-place, Stands-inner}
-use Rattle.wild_words.proofs.RecordLemmas.{Stands-left, Stands-right}
+use Rattle.wild_words.proofs.OverlayLemmas.{length-place, HasBytesAt-inner}
+use Rattle.wild_words.proofs.RecordLemmas.{HasBytesAt-left, HasBytesAt-right}
 use Rattle.wild_table_formats.specs.Strings.{Strings, string, string_bytes, offset_of, with_string, with_strings}
-use Rattle.wild_table_formats.specs.SymbolLaws.{LengthsOfStrings, StringsAreBehind, StringsStand}
+use Rattle.wild_table_formats.specs.SymbolLaws.{LengthsOfStrings, StringsAreAppended, StringsAreAtOffsets}
 
 -- a string whose second piece is empty
 pub ruleset joined_with_none = (append-nil)
@@ -36,23 +36,23 @@ length-string_bytes (s ∷ ss) =
     let r = length-string_bytes ss in
     omega (arith, e, f, r)
 
-pub with_strings-behind : StringsAreBehind
+pub with_strings-behind : StringsAreAppended
 with_strings-behind [] t = sym (ap (λ (bs : List ℕ). record t { bytes = bs }) (append-nil t.bytes))
 with_strings-behind (s ∷ ss) t =
     with_strings-behind ss (with_string s t)
     ∙ ap (λ (bs : List ℕ). record t { bytes = bs }) (append_assoc t.bytes (string s) (string_bytes ss))
 
 -- the string behind those before it
-stands_behind : (whole : List ℕ) (t : Strings) (s : List ℕ) (ss : List (List ℕ)) → Stands whole t.start (with_strings (s ∷ ss) t).bytes → Stands whole (offset_of t) (string s)
+stands_behind : (whole : List ℕ) (t : Strings) (s : List ℕ) (ss : List (List ℕ)) → HasBytesAt whole t.start (with_strings (s ∷ ss) t).bytes → HasBytesAt whole (offset_of t) (string s)
 stands_behind whole t s ss h =
     let e : (with_strings (s ∷ ss) t).bytes ≡ t.bytes ++ (string s ++ string_bytes ss) = ap (λ (x : Strings). x.bytes) (with_strings-behind (s ∷ ss) t) in
-    let inner = Stands-right t.bytes (string s ++ string_bytes ss) (string s) 0 (Stands-left (string s) (string_bytes ss)) in
+    let inner = HasBytesAt-right t.bytes (string s ++ string_bytes ss) (string s) 0 (HasBytesAt-left (string s) (string_bytes ss)) in
     let z : length t.bytes + 0 ≡ length t.bytes = omega arith in
-    Stands-inner whole (t.bytes ++ (string s ++ string_bytes ss)) (string s) t.start (length t.bytes)
-    (subst (λ (bs : List ℕ). Stands whole t.start bs) e h)
-    (subst (λ (n : ℕ). Stands (t.bytes ++ (string s ++ string_bytes ss)) n (string s)) z inner)
+    HasBytesAt-inner whole (t.bytes ++ (string s ++ string_bytes ss)) (string s) t.start (length t.bytes)
+    (subst (λ (bs : List ℕ). HasBytesAt whole t.start bs) e h)
+    (subst (λ (n : ℕ). HasBytesAt (t.bytes ++ (string s ++ string_bytes ss)) n (string s)) z inner)
 
-pub string_stands : StringsStand
+pub string_stands : StringsAreAtOffsets
 string_stands whole t [] k d h l = absurd (omega (arith, l))
 string_stands whole t (s ∷ ss) zero d h l = stands_behind whole t s ss h
 string_stands whole t (s ∷ ss) (suc k) d h l = string_stands whole (with_string s t) ss k d h (omega (arith, l))

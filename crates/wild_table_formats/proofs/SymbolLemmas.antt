@@ -3,11 +3,11 @@ use Rattle.std.proofs.Common.{◌≡◌, ℕ, inl, inr, zero, suc, ◌+◌, ◌-
 use Rattle.std.specs.Prelude.{All}
 use Rattle.std.proofs.lemmas.List.{append_assoc, append-nil, length-append, get_or_append_left, get_or-append_right}
 use Rattle.std.proofs.lemmas.Bool.{cases_lt}
-use Rattle.wild_words.specs.Words.{place, Stands}
+use Rattle.wild_words.specs.Words.{place, HasBytesAt}
 use Rattle.wild_words.specs.Record.{spell}
 use Rattle.wild_words.proofs.WordLemmas.{front-place}
-use Rattle.wild_words.proofs.OverlayLemmas.{Stands-place, Stands-inner}
-use Rattle.wild_words.proofs.RecordLemmas.{length-spell, Stands-left, Stands-right}
+use Rattle.wild_words.proofs.OverlayLemmas.{HasBytesAt-place, HasBytesAt-inner}
+use Rattle.wild_words.proofs.RecordLemmas.{length-spell, HasBytesAt-left, HasBytesAt-right}
 use Rattle.wild_words.proofs.OrderLemmas.{number_kept}
 use Rattle.wild_records.specs.declared.symtab_entry.SymtabEntry.{SymtabEntry}
 use Rattle.wild_records.specs.SymtabEntry.{symtab_entry_size, symtab_entry_fields, symtab_entry_at, SymtabEntryFits, SymtabEntryIsRead}
@@ -60,7 +60,7 @@ unfolding symbols_in
 symbols_in_next bs n r read fits l =
     let w = length-symbol r in
     let f : 24 * n + length (spell (symtab_entry_fields r)) ≤ length bs = omega (arith, w) in
-    let e = read (place (24 * n) (spell (symtab_entry_fields r)) bs) (24 * n) r fits (Stands-place (24 * n) bs (spell (symtab_entry_fields r)) f) in
+    let e = read (place (24 * n) (spell (symtab_entry_fields r)) bs) (24 * n) r fits (HasBytesAt-place (24 * n) bs (spell (symtab_entry_fields r)) f) in
     let k = symbols_in_kept n bs (spell (symtab_entry_fields r)) (24 * n) (omega arith) f in
     rw (e, k) refl
 
@@ -80,17 +80,17 @@ spelled_more bs n r m e read fits l s =
 -- ---- reading
 
 -- symbol k of symbols
-pub Stands-symbol : (es : List SymtabEntry) (k : ℕ) (d : SymtabEntry) → k < length es → Stands (symbol_bytes es) (24 * k) (spell (symtab_entry_fields (get_or es k d)))
-Stands-symbol [] k d l = absurd (omega (arith, l))
-Stands-symbol (r ∷ es) zero d l = Stands-left (spell (symtab_entry_fields r)) (symbol_bytes es)
-Stands-symbol (r ∷ es) (suc k) d l =
+pub HasBytesAt-symbol : (es : List SymtabEntry) (k : ℕ) (d : SymtabEntry) → k < length es → HasBytesAt (symbol_bytes es) (24 * k) (spell (symtab_entry_fields (get_or es k d)))
+HasBytesAt-symbol [] k d l = absurd (omega (arith, l))
+HasBytesAt-symbol (r ∷ es) zero d l = HasBytesAt-left (spell (symtab_entry_fields r)) (symbol_bytes es)
+HasBytesAt-symbol (r ∷ es) (suc k) d l =
     let n = length-symbol r in
     let e : length (spell (symtab_entry_fields r)) + 24 * k ≡ 24 * suc k = omega (arith, n) in
-    rw e at (Stands-right (spell (symtab_entry_fields r)) (symbol_bytes es) (spell (symtab_entry_fields (get_or es k d))) (24 * k) (Stands-symbol es k d (omega (arith, l))))
+    rw e at (HasBytesAt-right (spell (symtab_entry_fields r)) (symbol_bytes es) (spell (symtab_entry_fields (get_or es k d))) (24 * k) (HasBytesAt-symbol es k d (omega (arith, l))))
 
-pub symbol_read : SymtabEntryIsRead → (whole : List ℕ) (es : List SymtabEntry) (at k : ℕ) (d : SymtabEntry) → All SymtabEntryFits es → Stands whole at (symbol_bytes es) → k < length es → symtab_entry_at whole (at + symtab_entry_size * k) ≡ get_or es k d
+pub symbol_read : SymtabEntryIsRead → (whole : List ℕ) (es : List SymtabEntry) (at k : ℕ) (d : SymtabEntry) → All SymtabEntryFits es → HasBytesAt whole at (symbol_bytes es) → k < length es → symtab_entry_at whole (at + symtab_entry_size * k) ≡ get_or es k d
 symbol_read read whole es at k d h s l =
-    read whole (at + 24 * k) (get_or es k d) (h k d l) (Stands-inner whole (symbol_bytes es) (spell (symtab_entry_fields (get_or es k d))) at (24 * k) s (Stands-symbol es k d l))
+    read whole (at + 24 * k) (get_or es k d) (h k d l) (HasBytesAt-inner whole (symbol_bytes es) (spell (symtab_entry_fields (get_or es k d))) at (24 * k) s (HasBytesAt-symbol es k d l))
 
 -- symbol k of those at the front
 pub symbol_in : (bs : List ℕ) (n k : ℕ) (d : SymtabEntry) → k < length (symbols_in bs n) → symtab_entry_at bs (symtab_entry_size * k) ≡ get_or (symbols_in bs n) k d

@@ -12,11 +12,11 @@ use Rattle.wild_types.specs.declared.file.Group.{Group}
 use Rattle.wild_types.specs.declared.layout.Layout.{Layout}
 use Rattle.wild_types.specs.FileRoles.{is_prelude}
 use Rattle.wild_types.specs.Lists.{total}
-use Rattle.wild_needs.specs.TableSymbols.{TableSymbol, file_items, item_name, is_on, side, section_symbols, null_count, table_strings}
-use Rattle.wild_types.specs.Lookups.{has_table}
+use Rattle.wild_needs.specs.TableSymbols.{TableSymbol, file_items, item_name, is_on_side, side, section_symbols, null_count, table_strings}
+use Rattle.wild_types.specs.Lookups.{has_symtab}
 use Rattle.wild_table_formats.specs.Strings.{string_bytes}
 use Rattle.wild_table_formats.specs.DynamicEntries.{entry_at}
-use Rattle.wild_table_formats.specs.TableEntries.{NamedEntry, named_entry, null_entry, section_entry, null_entries, name_at, behind_name, is_side, file_table, group_table, side_entries, table_entries, long_indexes, index_bytes}
+use Rattle.wild_table_formats.specs.TableEntries.{NamedEntry, named_entry, null_entry, section_entry, null_entries, name_at, offset_after_name, is_side, file_table, group_table, side_entries, table_entries, long_indexes, index_bytes}
 use Rattle.wild_table_formats.specs.TableLaws.{side_count, LengthsOfSides, SidesOfFiles, SidesOfGroups, LengthsOfIndexes, IndexesHave4Bytes, names_of, NamesOfFiles, NamesOfGroups, LengthsOfTexts}
 use Rattle.wild_table_formats.proofs.StringLemmas.{length-string_bytes}
 
@@ -35,7 +35,7 @@ pub length-side_entries : LengthsOfSides
 unfolding side_entries
 length-side_entries local at [] = refl
 length-side_entries local at (n ∷ ns) =
-    one_before (is_side local n) (entry_at (name_at at n.name) n.fields.fields) n (side_entries local (behind_name at n.name) ns) (filter (is_side local) ns) (length-side_entries local (behind_name at n.name) ns)
+    one_before (is_side local n) (entry_at (name_at at n.name) n.fields.fields) n (side_entries local (offset_after_name at n.name) ns) (filter (is_side local) ns) (length-side_entries local (offset_after_name at n.name) ns)
 
 pub length-long_indexes : LengthsOfIndexes
 length-long_indexes local ns = length-map (filter (is_side local) ns) (λ (n : NamedEntry). n.fields.long)
@@ -67,17 +67,17 @@ null_side true false ks = refl
 null_side false true ks = no_sections ks
 null_side false false ks = refl
 
-items_side : (local : Bool) (l : Layout) (f : File) (xs : List TableSymbol) → length (filter (is_side local) (map (named_entry l f) xs)) ≡ length (filter (is_on local) xs)
+items_side : (local : Bool) (l : Layout) (f : File) (xs : List TableSymbol) → length (filter (is_side local) (map (named_entry l f) xs)) ≡ length (filter (is_on_side local) xs)
 items_side local l f [] = refl
-items_side true l f (x ∷ xs) = same_length (is_on true x) (named_entry l f x) x (filter (is_side true) (map (named_entry l f) xs)) (filter (is_on true) xs) (items_side true l f xs)
-items_side false l f (x ∷ xs) = same_length (is_on false x) (named_entry l f x) x (filter (is_side false) (map (named_entry l f) xs)) (filter (is_on false) xs) (items_side false l f xs)
+items_side true l f (x ∷ xs) = same_length (is_on_side true x) (named_entry l f x) x (filter (is_side true) (map (named_entry l f) xs)) (filter (is_on_side true) xs) (items_side true l f xs)
+items_side false l f (x ∷ xs) = same_length (is_on_side false x) (named_entry l f x) x (filter (is_side false) (map (named_entry l f) xs)) (filter (is_on_side false) xs) (items_side false l f xs)
 
 file_side : (local : Bool) (l : Layout) (f : File)
     → length (filter (is_side local) (file_table l f)) ≡ (if local then null_count l f else 0) + length (side local (file_items l f))
 file_side local l f =
     let e = ap length (filter-append (is_side local) (null_entries l f) (map (named_entry l f) (file_items l f))) in
     let a = length-append (filter (is_side local) (null_entries l f)) (filter (is_side local) (map (named_entry l f) (file_items l f))) in
-    let b = null_side local (has_table l && is_prelude f.role) (section_symbols l) in
+    let b = null_side local (has_symtab l && is_prelude f.role) (section_symbols l) in
     let c = items_side local l f (file_items l f) in
     omega (arith, e, a, b, c)
 
@@ -119,7 +119,7 @@ null_names false ks = refl
 pub names_of-file : NamesOfFiles
 unfolding table_strings
 names_of-file l f =
-    let b = has_table l && is_prelude f.role in
+    let b = has_symtab l && is_prelude f.role in
     names-append (null_entries l f) (map (named_entry l f) (file_items l f))
     ∙ ap (λ (ns : List (List ℕ)). ns ++ names_of (map (named_entry l f) (file_items l f))) (null_names b (section_symbols l))
     ∙ ap (λ (ns : List (List ℕ)). (if b then [] ∷ [] else []) ++ ns) (item_names l f (file_items l f))

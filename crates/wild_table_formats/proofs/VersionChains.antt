@@ -4,7 +4,7 @@ use Rattle.std.specs.Prelude.{Option}
 use Rattle.std.proofs.Math.Dec.{eqb-zero-suc, eqb-suc-suc}
 use Rattle.std.proofs.lemmas.List.{append_assoc, append-nil, drop_more, drop_all}
 use Rattle.wild_words.proofs.WordLemmas.{front-place}
-use Rattle.wild_table_formats.specs.VersionRoom.{Filled, with_bytes}
+use Rattle.wild_table_formats.specs.VersionRoom.{BufferContent, with_bytes}
 use Rattle.wild_types.specs.declared.file.NeededVersion.{NeededVersion}
 use Rattle.wild_types.specs.declared.layout.VersionDefinition.{VersionDefinition}
 use Rattle.wild_table_formats.specs.VersionChain.{chain, is_end}
@@ -16,14 +16,14 @@ use Rattle.wild_table_formats.specs.VersionNeeds.{needed_bytes}
 pub ruleset front_of = (front-place)
 
 -- bytes behind bytes
-pub behind : (xs ys : List ℕ) (t : Filled) → with_bytes ys (with_bytes xs t) ≡ with_bytes (xs ++ ys) t
+pub behind : (xs ys : List ℕ) (t : BufferContent) → with_bytes ys (with_bytes xs t) ≡ with_bytes (xs ++ ys) t
 behind xs ys t = ap (λ (bs : List ℕ). record t { bytes = bs }) (append_assoc t.bytes xs ys)
 
 -- bytes behind which nothing follows
-pub nothing : (t : Filled) → with_bytes [] t ≡ t
+pub nothing : (t : BufferContent) → with_bytes [] t ≡ t
 nothing t = ap (λ (bs : List ℕ). record t { bytes = bs }) (append-nil t.bytes)
 
-pub alone : (xs : List ℕ) (t : Filled) → with_bytes (xs ++ []) t ≡ with_bytes xs t
+pub alone : (xs : List ℕ) (t : BufferContent) → with_bytes (xs ++ []) t ≡ with_bytes xs t
 alone xs t = ap (λ (bs : List ℕ). with_bytes bs t) (append-nil xs)
 
 -- ---- chains
@@ -53,7 +53,7 @@ chain_next {X} f xs i x last l r e =
     ∙ ap (λ (y : X). f i last y ++ chain f (i + 1) (drop (i + 1) xs)) (sym r)
 
 -- one item more in a room, with what is to come
-chain_more : {X : Type 0} (f : ℕ → Bool → X → List ℕ) (xs : List X) (i : ℕ) (x : X) (last : Bool) (t u : Filled) → i < length xs → x ≡ get_or xs i x → last ≡ (i + 1 == length xs)
+chain_more : {X : Type 0} (f : ℕ → Bool → X → List ℕ) (xs : List X) (i : ℕ) (x : X) (last : Bool) (t u : BufferContent) → i < length xs → x ≡ get_or xs i x → last ≡ (i + 1 == length xs)
     → with_bytes (chain f i (drop i xs)) t ≡ u → with_bytes (chain f (i + 1) (drop (i + 1) xs)) (with_bytes (f i last x) t) ≡ u
 chain_more f xs i x last t u l r e h =
     behind (f i last x) (chain f (i + 1) (drop (i + 1) xs)) t
@@ -61,14 +61,14 @@ chain_more f xs i x last t u l r e h =
     ∙ h
 
 -- nothing is to come
-chain_end : {X : Type 0} (f : ℕ → Bool → X → List ℕ) (xs : List X) (i : ℕ) (t u : Filled) → length xs ≤ i → with_bytes (chain f i (drop i xs)) t ≡ u → t ≡ u
+chain_end : {X : Type 0} (f : ℕ → Bool → X → List ℕ) (xs : List X) (i : ℕ) (t u : BufferContent) → length xs ≤ i → with_bytes (chain f i (drop i xs)) t ≡ u → t ≡ u
 chain_end f xs i t u l h = sym (ap (λ (bs : List ℕ). with_bytes bs t) (ap (chain f i) (drop_all i xs l) ∙ chain-nil f i) ∙ nothing t) ∙ h
 
-pub definition_more : (names : List ℕ) (soname : Option (List ℕ)) (ds : List VersionDefinition) (i j : ℕ) (d : VersionDefinition) (last : Bool) (t u : Filled) → i < length ds → d ≡ get_or ds i d → j ≡ i + 1 → last ≡ (i + 1 == length ds)
+pub definition_more : (names : List ℕ) (soname : Option (List ℕ)) (ds : List VersionDefinition) (i j : ℕ) (d : VersionDefinition) (last : Bool) (t u : BufferContent) → i < length ds → d ≡ get_or ds i d → j ≡ i + 1 → last ≡ (i + 1 == length ds)
     → with_bytes (chain (definition_bytes names soname) i (drop i ds)) t ≡ u → with_bytes (chain (definition_bytes names soname) j (drop j ds)) (with_bytes (definition_bytes names soname i last d) t) ≡ u
 definition_more names soname ds i j d last t u l r s e h = rw s (chain_more (definition_bytes names soname) ds i d last t u l r e h)
 
-pub definition_end : (names : List ℕ) (soname : Option (List ℕ)) (ds : List VersionDefinition) (i : ℕ) (t u : Filled) → i ≡ length ds → with_bytes (chain (definition_bytes names soname) i (drop i ds)) t ≡ u → t ≡ u
+pub definition_end : (names : List ℕ) (soname : Option (List ℕ)) (ds : List VersionDefinition) (i : ℕ) (t u : BufferContent) → i ≡ length ds → with_bytes (chain (definition_bytes names soname) i (drop i ds)) t ≡ u → t ≡ u
 definition_end names soname ds i t u l h = chain_end (definition_bytes names soname) ds i t u (omega (arith, l)) h
 
 -- the room for what is to come
@@ -78,11 +78,11 @@ definition_room ds i d used next room l r e h =
     let z : definition_size d ≡ definition_size (get_or ds i d) = ap (λ (x : VersionDefinition). definition_size x) r in
     omega (arith, s, z, e, h)
 
-pub needed_more : (names : List ℕ) (vs : List NeededVersion) (i j : ℕ) (v : NeededVersion) (last : Bool) (t u : Filled) → i < length vs → v ≡ get_or vs i v → j ≡ i + 1 → last ≡ (i + 1 == length vs)
+pub needed_more : (names : List ℕ) (vs : List NeededVersion) (i j : ℕ) (v : NeededVersion) (last : Bool) (t u : BufferContent) → i < length vs → v ≡ get_or vs i v → j ≡ i + 1 → last ≡ (i + 1 == length vs)
     → with_bytes (chain (needed_bytes names) i (drop i vs)) t ≡ u → with_bytes (chain (needed_bytes names) j (drop j vs)) (with_bytes (needed_bytes names i last v) t) ≡ u
 needed_more names vs i j v last t u l r s e h = rw s (chain_more (needed_bytes names) vs i v last t u l r e h)
 
-pub needed_end : (names : List ℕ) (vs : List NeededVersion) (i : ℕ) (t u : Filled) → i ≡ length vs → with_bytes (chain (needed_bytes names) i (drop i vs)) t ≡ u → t ≡ u
+pub needed_end : (names : List ℕ) (vs : List NeededVersion) (i : ℕ) (t u : BufferContent) → i ≡ length vs → with_bytes (chain (needed_bytes names) i (drop i vs)) t ≡ u → t ≡ u
 needed_end names vs i t u l h = chain_end (needed_bytes names) vs i t u (omega (arith, l)) h
 
 pub ruleset definition_steps = (definition_more, definition_end)

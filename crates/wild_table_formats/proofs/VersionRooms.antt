@@ -8,14 +8,14 @@ use Rattle.wild_types.specs.declared.file.VersionNeeds.{VersionNeeds}
 use Rattle.wild_types.specs.declared.layout.Layout.{Layout}
 use Rattle.wild_types.specs.declared.layout.DynamicSymbol.{DynamicSymbol}
 use Rattle.wild_types.specs.declared.symbol.Symbol.{Symbol}
-use Rattle.wild_needs.specs.DynamicStrings.{behind_file, undefined_symbols, listed_names, symbol_names, entry_names}
+use Rattle.wild_needs.specs.DynamicStrings.{next_dynstr, undefined_symbols, listed_names, symbol_names, entry_names}
 use Rattle.wild_types.specs.FileRoles.{is_prelude, is_epilogue}
 use Rattle.wild_types.specs.Kinds.{needs_dynsym}
 use Rattle.wild_types.specs.Lists.{total}
 use Rattle.wild_needs.specs.Versions.{definitions_size, room_of, needs_of}
-use Rattle.wild_table_formats.specs.SymbolVersions.{version_of, listed_version, null_versions, entry_versions, file_versions}
+use Rattle.wild_table_formats.specs.SymbolVersions.{version_of, exported_version, null_versions, entry_versions, file_versions}
 use Rattle.wild_table_formats.specs.VersionDefinitions.{definition_table}
-use Rattle.wild_table_formats.specs.VersionNames.{told, behind_entries, symbol_versions, definition_offsets, file_definitions, group_needs, need_at, need_of, needs_from}
+use Rattle.wild_table_formats.specs.VersionNames.{offset_u32, offset_after_entry_names, symbol_versions, definition_offsets, file_definitions, group_needs, need_at, need_of, needs_from}
 use Rattle.wild_table_formats.specs.VersionLaws.{LengthsOfSymbolVersions, LengthsOfFileDefinitions, LengthsOfGroupNeeds}
 use Rattle.wild_table_formats.proofs.VersionLengths.{length-version_bytes, length-definition_table, length-need_bytes}
 
@@ -25,8 +25,8 @@ either_beside false xs ys us vs e f = f
 
 entries_counted : (l : Layout) (f : File) → length (entry_versions l f) ≡ length (entry_names l f)
 entries_counted l f =
-    either_beside (is_epilogue f.role) (map listed_version l.dynsyms) (map (version_of f.role) (undefined_symbols l.symbols f)) (listed_names l.dynsyms) (symbol_names (undefined_symbols l.symbols f))
-    (length-map l.dynsyms listed_version ∙ sym (length-map l.dynsyms (λ (d : DynamicSymbol). d.name)))
+    either_beside (is_epilogue f.role) (map exported_version l.dynsyms) (map (version_of f.role) (undefined_symbols l.symbols f)) (listed_names l.dynsyms) (symbol_names (undefined_symbols l.symbols f))
+    (length-map l.dynsyms exported_version ∙ sym (length-map l.dynsyms (λ (d : DynamicSymbol). d.name)))
     (length-map (undefined_symbols l.symbols f) (version_of f.role) ∙ sym (length-map (undefined_symbols l.symbols f) (λ (s : Symbol). s.name)))
 
 versions_counted : (l : Layout) (f : File) → length (file_versions l f) ≡ (if is_prelude f.role then 1 else 0) + length (entry_names l f)
@@ -47,14 +47,14 @@ length-file_definitions l f =
 
 length-need_at : (at : ℕ) (library : List ℕ) (n : Option VersionNeeds) → length (need_at at library n) ≡ room_of n
 length-need_at at library None = refl
-length-need_at at library (Some n) = length-need_bytes (told at) _ n
+length-need_at at library (Some n) = length-need_bytes (offset_u32 at) _ n
 
 length-needs_from : (l : Layout) (at : ℕ) (fs : List File) → length (needs_from l at fs) ≡ total (λ (f : File). room_of (needs_of f)) fs
 length-needs_from l at [] = refl
 length-needs_from l at (f ∷ fs) =
-    let a = length-append (need_of l at f) (needs_from l (behind_file l at f) fs) in
-    let n = length-need_at (behind_entries l at f) f.lib_name (needs_of f) in
-    let r = length-needs_from l (behind_file l at f) fs in
+    let a = length-append (need_of l at f) (needs_from l (next_dynstr l at f) fs) in
+    let n = length-need_at (offset_after_entry_names l at f) f.lib_name (needs_of f) in
+    let r = length-needs_from l (next_dynstr l at f) fs in
     omega (arith, a, n, r)
 
 total_if : {X : Type 0} (b : Bool) (f : X → ℕ) (xs : List X) → (if b then total f xs else 0) ≡ total (λ x. if b then f x else 0) xs

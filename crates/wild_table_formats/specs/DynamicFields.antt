@@ -1,7 +1,7 @@
 -- The fields of the entries of .dynsym (gABI, "Symbol Table").
 --   undefined_fields role s    those of a symbol that another module defines
 --   named_sections l           the output sections of symbols that no input section defines
---   listed_fields l i s        those of symbol i, which is exported; or the fault of a symbol without section or stub
+--   exported_symbol_fields l i s        those of symbol i, which is exported; or the fault of a symbol without section or stub
 use Rattle.std.specs.Prelude.{ℕ, ◌+◌, ◌-◌, ◌*◌, ◌/◌, ◌%◌, ◌^◌, ◌==◌, Bool, ◌&&◌, if◌then◌else◌, List, Option, Some, None, option_map, unwrap_or, is_some, Result, Ok, Err, bytes_eq, codes}
 use Rattle.std.specs.List.{position_from}
 use Rattle.wild_records.specs.Abi.Section.{shn_undef, shn_abs}
@@ -52,11 +52,11 @@ library_attributes info = record { info = info; other = 0; size = 0 }
 
 -- ---- symbols that other modules define
 
-abbrev pub nowhere_with : SymbolAttributes → SymbolFields
-nowhere_with a = record { section = shn_undef; value = 0; attributes = a }
+abbrev pub undefined_with : SymbolAttributes → SymbolFields
+undefined_with a = record { section = shn_undef; value = 0; attributes = a }
 
 abbrev pub undefined_fields : FileRole → Symbol → SymbolFields
-undefined_fields role s = nowhere_with (if is_library role then library_attributes (library_info s.info) else own_attributes s)
+undefined_fields role s = undefined_with (if is_library role then library_attributes (library_info s.info) else own_attributes s)
 
 -- ---- exported symbols
 
@@ -89,19 +89,19 @@ in_section i None value a = Err (faults.MissingResolution missing.Section i)
 in_section i (Some k) value a = Ok (record { section = (split_index k).0; value = value; attributes = a })
 
 -- the resolved address of a symbol; 0 if it has none
-abbrev pub decided_value : Symbol → ℕ
-decided_value s = unwrap_or (option_map (λ (r : Resolution). r.raw_value) s.resolution) 0
+abbrev pub resolved_value : Symbol → ℕ
+resolved_value s = unwrap_or (option_map (λ (r : Resolution). r.raw_value) s.resolution) 0
 
 abbrev pub is_thread_symbol : Symbol → Bool
 is_thread_symbol s = s.info % 16 == stt_tls
 
 -- st_value of a thread-local symbol is its offset from the start of the TLS segment (gABI, "Symbol Table", st_value)
 abbrev pub value_in : Layout → Symbol → ℕ
-value_in l s = if is_thread_symbol s then (decided_value s + (2 ^ 64 - l.tls.start)) % 2 ^ 64 else decided_value s
+value_in l s = if is_thread_symbol s then (resolved_value s + (2 ^ 64 - l.tls.start)) % 2 ^ 64 else resolved_value s
 
 -- an ifunc's entry has its PLT stub's address in an output with a fixed load address, where pointers to it must compare equal
-abbrev pub stands_as_stub : Layout → Symbol → Bool
-stands_as_stub l s = has_flag s.flags ifunc && (is_some (plt_of s) && has_fixed_load_address l.kind)
+abbrev pub has_stub_address : Layout → Symbol → Bool
+has_stub_address l s = has_flag s.flags ifunc && (is_some (plt_of s) && has_fixed_load_address l.kind)
 
 abbrev pub stub_or_zero : Symbol → ℕ
 stub_or_zero s = unwrap_or (plt_of s) 0
@@ -115,13 +115,13 @@ common_section l s = if is_thread_symbol s then section_named l (codes ".tbss") 
 -- in its section, or at its PLT stub
 abbrev pub placed_fields : Layout → ℕ → Symbol → Option ℕ → Result SymbolFields Fault
 placed_fields l i s section =
-    if stands_as_stub l s
+    if has_stub_address l s
     then in_section i (part_section (part_with role.PltGot l.parts)) (stub_or_zero s) (as_function s)
     else in_section i section (value_in l s) (own_attributes s)
 
 -- of a symbol that this output defines, or of an undefined one
 abbrev pub fields_at : Layout → ℕ → Symbol → ℕ → Place → Result SymbolFields Fault
-fields_at l i s section at.Undefined = Ok (nowhere_with (own_attributes s))
+fields_at l i s section at.Undefined = Ok (undefined_with (own_attributes s))
 fields_at l i s section at.Absolute = Ok (record { section = shn_abs; value = s.value; attributes = own_attributes s })
 fields_at l i s section at.Common = placed_fields l i s (common_section l s)
 fields_at l i s section other = placed_fields l i s (some_section section)
@@ -129,16 +129,16 @@ fields_at l i s section other = placed_fields l i s (some_section section)
 -- a library's function with a canonical PLT entry is undefined, with the stub's address as its value (x86-64 psABI, "Function
 -- Addresses")
 abbrev pub canonical_fields : ℕ → Symbol → Place → Option ℕ → Result SymbolFields Fault
-canonical_fields i s at.Undefined stub = Ok (nowhere_with (library_attributes s.info))
+canonical_fields i s at.Undefined stub = Ok (undefined_with (library_attributes s.info))
 canonical_fields i s other None = Err (faults.MissingResolution missing.Stub i)
 canonical_fields i s other (Some stub) = Ok (record { section = shn_undef; value = stub; attributes = library_attributes (with_type s.info stt_func) })
 
 -- a symbol with a COPY relocation is in .bss
 abbrev pub copied_fields : Layout → ℕ → Symbol → Result SymbolFields Fault
-copied_fields l i s = in_section i (section_named l (codes ".bss")) (decided_value s) (own_attributes s)
+copied_fields l i s = in_section i (section_named l (codes ".bss")) (resolved_value s) (own_attributes s)
 
-abbrev pub listed_by : Layout → ℕ → FileRole → Symbol → ℕ → Result SymbolFields Fault
-listed_by l i role s section =
+abbrev pub exported_fields_in : Layout → ℕ → FileRole → Symbol → ℕ → Result SymbolFields Fault
+exported_fields_in l i role s section =
     if is_library role && has_flag s.flags canonical_plt then canonical_fields i s s.place (plt_of s)
     else if is_library role && has_flag s.flags copy_relocation then copied_fields l i s
     else fields_at l i s section s.place
@@ -148,5 +148,5 @@ role_of None = file_role.Object
 role_of (Some f) = f.role
 
 -- the fields of symbol i
-abbrev pub listed_fields : Layout → ℕ → Symbol → Result SymbolFields Fault
-listed_fields l i s = listed_by l i (role_of (file_of (files_of l.groups) i)) s (output_section l (file_of (files_of l.groups) i) s.place)
+abbrev pub exported_symbol_fields : Layout → ℕ → Symbol → Result SymbolFields Fault
+exported_symbol_fields l i s = exported_fields_in l i (role_of (file_of (files_of l.groups) i)) s (output_section l (file_of (files_of l.groups) i) s.place)

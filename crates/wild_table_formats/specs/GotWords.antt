@@ -2,7 +2,7 @@
 --   GotWords   what callers see of a table of GOT words: the words, and the size of its share in bytes
 --   Stubs      the same for stubs: their bytes, and the size of their share
 use Rattle.std.specs.Prelude.{ℕ, ◌*◌, ◌≤◌, List, length, take}
-use Rattle.wild_relr.specs.Written.{words_in, IsSpelled}
+use Rattle.wild_relr.specs.WriterState.{words_in, IsSpelled}
 
 pub record GotWords : Type 0 where
   pub words : List ℕ

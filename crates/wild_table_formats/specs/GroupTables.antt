@@ -1,7 +1,7 @@
 -- The tables of a group: GOT words, stubs, RELA entries and RELR words.
 --   Tables                         what callers see of them
 --   with_address l place value t   with an address at a place recorded, in RELR or by a RELA entry
---   with_flat l place value t      the same, in RELR by its own address word
+--   with_relr_slot l place value t      the same, in RELR by its own address word
 --   room_for l place t             the table of a place fits in its share, or InsufficientAllocation
 use Rattle.std.specs.Prelude.{ℕ, ◌*◌, nat_lt, if◌then◌else◌, List, [], ◌∷◌, ◌++◌, length, Result, Ok, Err}
 use Rattle.wild_records.specs.declared.relocations.Rela.{Rela}
@@ -14,8 +14,8 @@ use Rattle.wild_types.specs.declared.fault.Error.{Error}
 use Rattle.wild_types.specs.declared.layout.Layout.{Layout}
 use Rattle.wild_types.specs.Lookups.{packs}
 use Rattle.wild_types.specs.Shares.{part_of, share_of, insufficient}
-use Rattle.wild_relr.specs.Packing.{State, after}
-use Rattle.wild_relr.specs.Packed.{after_flat, nothing}
+use Rattle.wild_relr.specs.Encoding.{State, after}
+use Rattle.wild_relr.specs.RunWords.{after_relr_slot, nothing}
 use Rattle.wild_table_formats.specs.RelativeEntries.{Entries}
 use Rattle.wild_table_formats.specs.RelrWords.{Words}
 use Rattle.wild_table_formats.specs.GotWords.{GotWords, Stubs}
@@ -44,8 +44,8 @@ packed_used t = relr_size * length t.packed.state.words
 abbrev pub no_words : Layout → ℕ → Role → GotWords
 no_words l group r = record { words = []; room = share_of l group r }
 
-abbrev pub no_list : Layout → ℕ → Role → Entries
-no_list l group r = record { entries = []; room = share_of l group r }
+abbrev pub empty_rela_table : Layout → ℕ → Role → Entries
+empty_rela_table l group r = record { entries = []; room = share_of l group r }
 
 -- empty tables with the sizes of the group's shares
 abbrev pub no_entries : Layout → ℕ → Tables
@@ -54,9 +54,9 @@ no_entries l group = record {
   got = no_words l group role.Got;
   block = no_words l group role.GotRelr;
   stubs = record { bytes = []; room = share_of l group role.PltGot };
-  plt = no_list l group role.RelaPlt;
-  relative = no_list l group role.RelaDynRelative;
-  general = no_list l group role.RelaDynGeneral;
+  plt = empty_rela_table l group role.RelaPlt;
+  relative = empty_rela_table l group role.RelaDynRelative;
+  general = empty_rela_table l group role.RelaDynGeneral;
   packed = record { state = nothing; room = share_of l group role.RelrDyn };
   packed_part = part_of l role.RelrDyn;
 }
@@ -93,8 +93,8 @@ abbrev pub with_address : Layout → ℕ → ℕ → Tables → Tables
 with_address l place value t = if packs l place then with_words (after t.packed.state place) t else with_entry l place value t
 
 -- the same, in RELR by its own address word
-abbrev pub with_flat : Layout → ℕ → ℕ → Tables → Tables
-with_flat l place value t = if packs l place then with_words (after_flat t.packed.state place) t else with_entry l place value t
+abbrev pub with_relr_slot : Layout → ℕ → ℕ → Tables → Tables
+with_relr_slot l place value t = if packs l place then with_words (after_relr_slot t.packed.state place) t else with_entry l place value t
 
 -- the file's content of the place: the value in RELR, since a loader adds the base to it; 0 with a RELA entry
 abbrev pub site_word : Layout → ℕ → ℕ → ℕ

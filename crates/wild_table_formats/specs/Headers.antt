@@ -27,10 +27,10 @@ use Rattle.wild_types.specs.declared.part.Role.TheVariants as role
 use Rattle.wild_types.specs.declared.section.Section.{Section}
 use Rattle.wild_types.specs.declared.section.Segment.{Segment}
 use Rattle.wild_types.specs.declared.layout.Layout.{Layout}
-use Rattle.wild_table_formats.specs.declared.section_info.Told.{Told}
+use Rattle.wild_table_formats.specs.declared.section_info.ComputedInfo.{ComputedInfo}
 use Rattle.wild_needs.specs.EntryPoint.{entry_point}
 use Rattle.wild_types.specs.Kinds.{is_partial_link}
-use Rattle.wild_types.specs.Lookups.{bit, is_hollow}
+use Rattle.wild_types.specs.Lookups.{bit, is_header_only}
 use Rattle.wild_types.specs.Parts.{has_role}
 use Rattle.wild_needs.specs.Versions.{need_count}
 
@@ -71,16 +71,16 @@ abbrev pub name_table : Layout → ℕ
 name_table l = section_of_role role.Shstrtab l.parts
 
 -- a number in the file header: itself below SHN_LORESERVE, the escape from there on
-abbrev pub or_escape : ℕ → ℕ → ℕ
-or_escape n escape = if nat_lt n shn_loreserve then n else escape
+abbrev pub number_or_escape : ℕ → ℕ → ℕ
+number_or_escape n escape = if nat_lt n shn_loreserve then n else escape
 
 -- the same number in section header 0: 0 below SHN_LORESERVE, itself from there on
 abbrev pub or_none : ℕ → ℕ
 or_none n = if nat_lt n shn_loreserve then 0 else n
 
 -- a field that is 0 in a relocatable object, which has no program headers (gABI, "ELF Header": e_phoff, e_phentsize)
-abbrev pub or_partial : OutputKind → ℕ → ℕ
-or_partial kind n = if is_partial_link kind then 0 else n
+abbrev pub zero_if_partial : OutputKind → ℕ → ℕ
+zero_if_partial kind n = if is_partial_link kind then 0 else n
 
 unfoldable pub file_header : Layout → FileHeader
 file_header l = record {
@@ -94,15 +94,15 @@ file_header l = record {
   machine = machine_number l.machine;
   version = ev_current;
   entry = entry_address l;
-  program_offset = or_partial l.kind file_header_size;
+  program_offset = zero_if_partial l.kind file_header_size;
   section_offset = offset_of_role role.SectionHeaders l.parts;
   flags = 0;
   header_size = file_header_size;
-  program_entry_size = or_partial l.kind program_header_size;
+  program_entry_size = zero_if_partial l.kind program_header_size;
   program_count = length l.segments;
   section_entry_size = section_header_size;
-  section_count = or_escape (length l.sections) shn_undef;
-  name_table = or_escape (name_table l) shn_xindex;
+  section_count = number_or_escape (length l.sections) shn_undef;
+  name_table = number_or_escape (name_table l) shn_xindex;
 }
 
 -- p_flags with PF_X set
@@ -138,12 +138,12 @@ null_header l = record {
 }
 
 -- sh_flags with SHF_COMPRESSED cleared
-abbrev pub uncompressed : ℕ → ℕ
-uncompressed flags = if bit flags shf_compressed then flags - shf_compressed else flags
+abbrev pub uncompressed_flags : ℕ → ℕ
+uncompressed_flags flags = if bit flags shf_compressed then flags - shf_compressed else flags
 
 -- sh_info of the section that holds the part with a role: a number modulo 2^32
-abbrev pub told_at : Layout → Role → ℕ → Told
-told_at l r info = record { section = section_of_role r l.parts; info = info % 2 ^ 32 }
+abbrev pub computed_info : Layout → Role → ℕ → ComputedInfo
+computed_info l r info = record { section = section_of_role r l.parts; info = info % 2 ^ 32 }
 
 -- the number of local symbols in .symtab: the size of their part, counted in entries
 abbrev pub local_symbols : Layout → ℕ
@@ -152,28 +152,28 @@ local_symbols l = size_of_role role.SymtabLocal l.parts / symtab_entry_size
 -- every sh_info that is not the layout's (gABI, "Sections", sh_link and sh_info; LSB, "Symbol Versioning"):
 -- .dynsym has one local symbol, the null symbol; .symtab has its number of local symbols, which come first; .rela.plt has the section
 -- of the GOT words; .gnu.version_d and .gnu.version_r have the number of their records
-unfoldable pub told_of : Layout → List Told
-told_of l =
-    told_at l role.Dynsym 1 ∷ told_at l role.RelaPlt (section_of_role role.Got l.parts) ∷ told_at l role.SymtabLocal (local_symbols l)
-    ∷ told_at l role.GnuVersionD (length l.verdefs) ∷ told_at l role.GnuVersionR (need_count l) ∷ []
+unfoldable pub computed_infos : Layout → List ComputedInfo
+computed_infos l =
+    computed_info l role.Dynsym 1 ∷ computed_info l role.RelaPlt (section_of_role role.Got l.parts) ∷ computed_info l role.SymtabLocal (local_symbols l)
+    ∷ computed_info l role.GnuVersionD (length l.verdefs) ∷ computed_info l role.GnuVersionR (need_count l) ∷ []
 
 -- sh_info of section i: the first computed value for it, otherwise the layout's
-abbrev pub info_at : List Told → ℕ → ℕ → ℕ
+abbrev pub info_at : List ComputedInfo → ℕ → ℕ → ℕ
 info_at [] i given = given
 info_at (t ∷ ts) i given = if i == t.section then t.info else info_at ts i given
 
 -- sh_type: SHT_NOBITS for a section of which only the header is written, otherwise the layout's
-abbrev pub type_told : Layout → Section → ℕ
-type_told l s = if is_hollow l s then sht_nobits else s.kind
+abbrev pub section_type : Layout → Section → ℕ
+section_type l s = if is_header_only l s then sht_nobits else s.kind
 
 -- the header of a section other than section 0, with its sh_info and sh_name; in a relocatable object sh_addr is 0 (gABI,
 -- "Section Header", sh_addr)
 unfoldable pub section_header : Layout → ℕ → ℕ → Section → SectionHeader
 section_header l info name s = record {
   name = name;
-  kind = type_told l s;
-  flags = uncompressed s.flags;
-  address = or_partial l.kind s.address;
+  kind = section_type l s;
+  flags = uncompressed_flags s.flags;
+  address = zero_if_partial l.kind s.address;
   offset = s.offset;
   size = s.size;
   link = s.link;
@@ -183,14 +183,14 @@ section_header l info name s = record {
 }
 
 -- the headers of a list of sections, whose first has index i and its name at offset name of .shstrtab
-abbrev pub headers_from : Layout → List Told → ℕ → ℕ → List Section → List SectionHeader
+abbrev pub headers_from : Layout → List ComputedInfo → ℕ → ℕ → List Section → List SectionHeader
 headers_from l told i name [] = []
 headers_from l told i name (s ∷ ss) = section_header l (info_at told i s.info) name s ∷ headers_from l told (i + 1) (name + length s.name + 1) ss
 
 -- all section headers, section header 0 first
 abbrev pub section_headers_of : Layout → List Section → List SectionHeader
 section_headers_of l [] = []
-section_headers_of l (s ∷ ss) = null_header l ∷ headers_from l (told_of l) 1 (length s.name + 1) ss
+section_headers_of l (s ∷ ss) = null_header l ∷ headers_from l (computed_infos l) 1 (length s.name + 1) ss
 
 abbrev pub file_header_bytes : Layout → List ℕ
 file_header_bytes l = spell (file_header_fields (file_header l))

@@ -16,9 +16,9 @@ use Rattle.wild_types.specs.declared.input.InputSection.{InputSection}
 use Rattle.wild_types.specs.declared.file.File.{File}
 use Rattle.wild_types.specs.declared.layout.Layout.{Layout}
 use Rattle.wild_types.specs.Lookups.{canonical, files_of, file_of, is_discarded, section_of}
-use Rattle.wild_needs.specs.declared.table.Named.{Named}
-use Rattle.wild_needs.specs.declared.table.Named.TheVariants as named
-use Rattle.wild_needs.specs.TableSymbols.{TableSymbol, file_items, side, is_local_symbol, asked_from, kept_alone, section_symbols}
+use Rattle.wild_needs.specs.declared.table.SymtabName.{SymtabName}
+use Rattle.wild_needs.specs.declared.table.SymtabName.TheVariants as named
+use Rattle.wild_needs.specs.TableSymbols.{TableSymbol, file_items, side, is_local_symbol, marked_sections, singleton_sections, section_symbols}
 
 -- ---- input sections of symbols
 
@@ -44,7 +44,7 @@ all_items l = flat_map (file_items l) (files_of l.groups)
 abbrev pub is_own_entry : ℕ → TableSymbol → Bool
 is_own_entry i x = is_itself x.named && x.index == i
   where
-    is_itself : Named → Bool
+    is_itself : SymtabName → Bool
     is_itself named.Itself = true
     is_itself other = false
 
@@ -79,8 +79,8 @@ abbrev pub section_index : Layout → InputSection → ℕ
 section_index l s = by s.singleton
   where
     by : Option ℕ → ℕ
-    by (Some k) = unwrap_or (number_from k (1 + length (asked_from 0 l.sections)) (kept_alone l)) 0
-    by None = unwrap_or (number_from (section_of l s.part) 1 (asked_from 0 l.sections)) 0
+    by (Some k) = unwrap_or (number_from k (1 + length (marked_sections 0 l.sections)) (singleton_sections l)) 0
+    by None = unwrap_or (number_from (section_of l s.part) 1 (marked_sections 0 l.sections)) 0
 
 abbrev pub section_number : Layout → InputSection → Option ℕ
 section_number l s = if is_discarded s.slot then None else Some (section_index l s)

@@ -4,7 +4,7 @@
 --   offset_of t         the offset of the next string in the output's string table
 --   with_string s t     with a string appended; with_strings ss t with several in order
 --   room_for_string s t the offset of the string, or InsufficientAllocation
---   left_of_strings t   the share is full, or ExcessiveAllocation
+--   strings_full_or_fault t   the share is full, or ExcessiveAllocation
 --   room_for_bytes m t  m more bytes fit, or InsufficientAllocation
 --   front_strings m t   with room for m more bytes only; kept_strings m t bytes are then reserved
 --   strings_joined k t  with k of the reserved bytes usable again
@@ -62,8 +62,8 @@ room_for_string s t =
     else Ok (offset_of t)
 
 -- the share is full
-abbrev pub left_of_strings : Strings → Result (Unit {0}) Error
-left_of_strings t =
+abbrev pub strings_full_or_fault : Strings → Result (Unit {0}) Error
+strings_full_or_fault t =
     if nat_lt (length t.bytes) t.room
     then Err (record { fault = faults.ExcessiveAllocation t.part t.group t.room (length t.bytes); at = nowhere })
     else Ok tt

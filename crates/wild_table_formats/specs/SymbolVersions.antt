@@ -31,8 +31,8 @@ abbrev pub version_of : FileRole → Symbol → ℕ
 version_of role s = if is_library role then s.version else ver_ndx_global
 
 -- an exported symbol has the version of the list of dynamic symbols
-abbrev pub listed_version : DynamicSymbol → ℕ
-listed_version d = d.version
+abbrev pub exported_version : DynamicSymbol → ℕ
+exported_version d = d.version
 
 -- symbol 0 has version VER_NDX_LOCAL; it belongs to the first file
 abbrev pub null_versions : File → List ℕ
@@ -40,7 +40,7 @@ null_versions f = if is_prelude f.role then ver_ndx_local ∷ [] else []
 
 -- the versions of the entries of a file; the exported symbols belong to the last file
 abbrev pub entry_versions : Layout → File → List ℕ
-entry_versions l f = if is_epilogue f.role then map listed_version l.dynsyms else map (version_of f.role) (undefined_symbols l.symbols f)
+entry_versions l f = if is_epilogue f.role then map exported_version l.dynsyms else map (version_of f.role) (undefined_symbols l.symbols f)
 
 abbrev pub file_versions : Layout → File → List ℕ
 file_versions l f = null_versions f ++ entry_versions l f

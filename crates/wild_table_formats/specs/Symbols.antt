@@ -4,7 +4,7 @@
 --   Symbols              what callers see of a list of symbols, in the group's share of a part
 --   with_entry e t       with a symbol appended
 --   room_for_entry t     one more symbol fits, or InsufficientAllocation
---   left_of_symbols t    the share is full, or ExcessiveAllocation
+--   symbols_full_or_fault t    the share is full, or ExcessiveAllocation
 --   room_for_entries n t n more symbols fit, or InsufficientAllocation
 --   front_symbols n t    with room for n more symbols only; kept_symbols n t bytes are then reserved
 --   symbols_joined k t   with k of the reserved bytes usable again
@@ -64,8 +64,8 @@ room_for_entry t =
     else Ok tt
 
 -- the share is full
-abbrev pub left_of_symbols : Symbols → Result (Unit {0}) Error
-left_of_symbols t =
+abbrev pub symbols_full_or_fault : Symbols → Result (Unit {0}) Error
+symbols_full_or_fault t =
     if nat_lt (symbols_used t) t.room
     then Err (record { fault = faults.ExcessiveAllocation t.part t.group t.room (symbols_used t); at = nowhere })
     else Ok tt

@@ -24,27 +24,27 @@ use Rattle.wild_types.specs.declared.symbol.Symbol.{Symbol}
 use Rattle.wild_types.specs.declared.file.FileRole.{FileRole}
 use Rattle.wild_types.specs.declared.file.File.{File}
 use Rattle.wild_types.specs.declared.file.Group.{Group}
-use Rattle.wild_needs.specs.declared.table.Named.{Named}
-use Rattle.wild_needs.specs.declared.table.Named.TheVariants as named
+use Rattle.wild_needs.specs.declared.table.SymtabName.{SymtabName}
+use Rattle.wild_needs.specs.declared.table.SymtabName.TheVariants as named
 use Rattle.wild_types.specs.declared.layout.Layout.{Layout}
 use Rattle.wild_types.specs.Addresses.{raw_value}
-use Rattle.wild_needs.specs.DynamicStrings.{behind_text, text_room}
+use Rattle.wild_needs.specs.DynamicStrings.{offset_after_string, text_room}
 use Rattle.wild_needs.specs.DynamicSymbols.{output_section}
 use Rattle.wild_types.specs.FileRoles.{is_prelude, is_library}
 use Rattle.wild_types.specs.FileThunks.{thunk_size}
 use Rattle.wild_types.specs.Flags.{has_flag, copy_relocation, canonical_plt, downgrade_to_local}
 use Rattle.wild_types.specs.Lists.{total}
 use Rattle.wild_types.specs.Parts.{part_with}
-use Rattle.wild_slot.specs.SlotParts.{begins_block}
+use Rattle.wild_slot.specs.SlotParts.{begins_relr_got}
 use Rattle.wild_slot.specs.SymbolWords.{slots_of}
 use Rattle.wild_types.specs.SymbolSlots.{got_of, plt_of}
 use Rattle.wild_needs.specs.TableSymbols.{TableSymbol, file_items, item_name, is_local, section_symbols}
 use Rattle.wild_types.specs.Kinds.{is_partial_link}
-use Rattle.wild_types.specs.Lookups.{has_table, is_discarded}
+use Rattle.wild_types.specs.Lookups.{has_symtab, is_discarded}
 use Rattle.wild_table_formats.specs.SectionSymbols.{symbol_section}
 use Rattle.wild_types.specs.declared.input.InputSection.{InputSection}
 use Rattle.std.specs.Option.{option_or}
-use Rattle.wild_table_formats.specs.DynamicFields.{with_type, nowhere_with, section_named, some_section, part_section, is_thread_symbol, stands_as_stub, stub_or_zero, common_section}
+use Rattle.wild_table_formats.specs.DynamicFields.{with_type, undefined_with, section_named, some_section, part_section, is_thread_symbol, has_stub_address, stub_or_zero, common_section}
 use Rattle.wild_table_formats.specs.DynamicEntries.{no_fields, entry_at}
 use Rattle.wild_table_formats.specs.declared.symbols.SymbolAttributes.{SymbolAttributes}
 use Rattle.wild_table_formats.specs.declared.symbols.SymbolFields.{SymbolFields}
@@ -99,7 +99,7 @@ table_value l i s = if is_partial_link l.kind then offset_by l i s.value (symbol
 -- in its section, or at its PLT stub
 abbrev pub table_placed : Layout → ℕ → FileRole → Symbol → Option ℕ → Result TableFields Fault
 table_placed l i r s section =
-    if stands_as_stub l s
+    if has_stub_address l s
     then in_table_section i (part_section (part_with role.PltGot l.parts)) (stub_or_zero s) (with_function (table_attributes r s))
     else at_address l i s section (table_value l i s) (table_attributes r s)
 
@@ -113,7 +113,7 @@ undefined_attributes l role s = if is_partial_link l.kind then record (table_att
 
 -- of a symbol that this output defines, or of an undefined one; section is the output section of its input section
 abbrev pub table_at : Layout → ℕ → FileRole → Symbol → ℕ → Place → Result TableFields Fault
-table_at l i role s section at.Undefined = Ok (short (nowhere_with (undefined_attributes l role s)))
+table_at l i role s section at.Undefined = Ok (short (undefined_with (undefined_attributes l role s)))
 table_at l i role s section at.Absolute = Ok (short (record { section = shn_abs; value = s.value; attributes = table_attributes role s }))
 table_at l i role s section at.Common = table_placed l i role s (common_section l s)
 table_at l i role s section (at.Output k) = table_placed l i role s (Some (first_or k))
@@ -121,7 +121,7 @@ table_at l i role s section (at.Section k) = table_placed l i role s (some_secti
 
 -- a library's function with a canonical PLT entry (x86-64 psABI, "Function Addresses")
 abbrev pub table_canonical : ℕ → FileRole → Symbol → Place → Option ℕ → Result TableFields Fault
-table_canonical i role s at.Undefined stub = Ok (short (nowhere_with (table_attributes role s)))
+table_canonical i role s at.Undefined stub = Ok (short (undefined_with (table_attributes role s)))
 table_canonical i role s other None = Err (faults.MissingResolution missing.Stub i)
 table_canonical i role s other (Some stub) = Ok (short (record { section = shn_undef; value = stub; attributes = with_function (table_attributes role s) }))
 
@@ -140,7 +140,7 @@ no_attributes = record { info = 0; other = 0; size = 0 }
 
 -- the part that contains the symbol's first slot
 abbrev pub slot_role : Layout → Symbol → Role
-slot_role l s = if begins_block (slots_of l s).words then role.GotRelr else role.Got
+slot_role l s = if begins_relr_got (slots_of l s).words then role.GotRelr else role.Got
 
 -- the address of a slot or a stub, in the section of its part
 abbrev pub at_part : Layout → ℕ → Role → Option ℕ → Result TableFields Fault
@@ -158,7 +158,7 @@ thunk_fields l i address = in_table_section i (part_section (slice_get l.parts l
 
 -- ---- symbols
 
-abbrev pub fields_of : Layout → File → Named → ℕ → Symbol → Result TableFields Fault
+abbrev pub fields_of : Layout → File → SymtabName → ℕ → Symbol → Result TableFields Fault
 fields_of l f named.Itself i s = table_by l i f.role s (output_section l (Some f) s.place)
 fields_of l f named.Slot i s = at_part l i (slot_role l s) (got_of s)
 fields_of l f named.Stub i s = at_part l i role.PltGot (plt_of s)
@@ -179,12 +179,12 @@ pub record NamedEntry : Type 0 where
 abbrev pub no_table_fields : TableFields
 no_table_fields = short no_fields
 
-abbrev pub or_none_in_table : Result TableFields Fault → TableFields
-or_none_in_table (Ok fields) = fields
-or_none_in_table (Err f) = no_table_fields
+abbrev pub table_fields_or_null : Result TableFields Fault → TableFields
+table_fields_or_null (Ok fields) = fields
+table_fields_or_null (Err f) = no_table_fields
 
 abbrev pub named_entry : Layout → File → TableSymbol → NamedEntry
-named_entry l f x = record { name = Some (item_name x); local = is_local x; fields = or_none_in_table (table_fields l f x) }
+named_entry l f x = record { name = Some (item_name x); local = is_local x; fields = table_fields_or_null (table_fields l f x) }
 
 -- the null symbol, an entry of zeros with the empty string as its name
 abbrev pub null_entry : NamedEntry
@@ -198,7 +198,7 @@ abbrev pub section_entry : ℕ → NamedEntry
 section_entry k = record { name = None; local = true; fields = section_fields k }
 
 abbrev pub null_entries : Layout → File → List NamedEntry
-null_entries l f = if has_table l && is_prelude f.role then null_entry ∷ map section_entry (section_symbols l) else []
+null_entries l f = if has_symtab l && is_prelude f.role then null_entry ∷ map section_entry (section_symbols l) else []
 
 -- the symbols of a file's entries
 abbrev pub file_table : Layout → File → List NamedEntry
@@ -217,14 +217,14 @@ abbrev pub name_at : ℕ → Option (List ℕ) → ℕ
 name_at at None = 0
 name_at at (Some name) = at
 
-abbrev pub behind_name : ℕ → Option (List ℕ) → ℕ
-behind_name at None = at
-behind_name at (Some name) = behind_text at name
+abbrev pub offset_after_name : ℕ → Option (List ℕ) → ℕ
+offset_after_name at None = at
+offset_after_name at (Some name) = offset_after_string at name
 
 -- the local entries, or the others; the names of all are consecutive strings
 unfoldable pub side_entries : Bool → ℕ → List NamedEntry → List SymtabEntry
 side_entries local at [] = []
-side_entries local at (n ∷ ns) = (if is_side local n then entry_at (name_at at n.name) n.fields.fields ∷ [] else []) ++ side_entries local (behind_name at n.name) ns
+side_entries local at (n ∷ ns) = (if is_side local n then entry_at (name_at at n.name) n.fields.fields ∷ [] else []) ++ side_entries local (offset_after_name at n.name) ns
 
 -- the entries of a group; its strings begin at the layout's offset
 unfoldable pub table_entries : Layout → Bool → Group → List SymtabEntry

@@ -6,11 +6,11 @@
 --   LengthsOfIndexes        there are as many extended section indexes; IndexesHave4Bytes: each has 4 bytes
 --   NamesOfFiles            the names of a file's entries are its strings; NamesOfGroups: those of a group are its files'
 --   LengthsOfTexts          a file's strings have their bytes and a zero each
---   SidesStand              local or other entry k is at offset 24 k of its list, and its st_name is the offset of its name
+--   SideEntriesAreAtOffsets              local or other entry k is at offset 24 k of its list, and its st_name is the offset of its name
 --   SidesAreRead            a reader finds it there
 use Rattle.std.specs.Prelude.{◌≡◌, ℕ, ◌+◌, ◌*◌, ◌<◌, ◌≤◌, ◌^◌, Bool, true, false, List, length, Option, Some, None, option_to_list, All, slice_index_or}
 use Rattle.std.specs.List.{filter, flat_map}
-use Rattle.wild_words.specs.Words.{Stands}
+use Rattle.wild_words.specs.Words.{HasBytesAt}
 use Rattle.wild_words.specs.Record.{spell}
 use Rattle.wild_records.specs.declared.symtab_entry.SymtabEntry.{SymtabEntry}
 use Rattle.wild_records.specs.SymtabEntry.{symtab_entry_size, symtab_entry_fields, symtab_entry_at}
@@ -72,23 +72,23 @@ LengthsOfTexts = (l : Layout) (f : File) → length (string_bytes (table_strings
 -- ---- reading
 
 -- the name, with a zero at its end, is at this offset; without a name the offset is 0, that of the empty string
-abbrev pub TellsName : List ℕ → ℕ → Option (List ℕ) → Type 0
-TellsName strings at None = at ≡ 0
-TellsName strings at (Some name) = Stands strings at (string name)
+abbrev pub NameIsAt : List ℕ → ℕ → Option (List ℕ) → Type 0
+NameIsAt strings at None = at ≡ 0
+NameIsAt strings at (Some name) = HasBytesAt strings at (string name)
 
 -- at this offset is the entry of the symbol, and its st_name is the offset of the symbol's name
-pub record TellsAt (table : List ℕ) (place : ℕ) (strings : List ℕ) (n : NamedEntry) : Type 0 where
+pub record EntryIsAt (table : List ℕ) (place : ℕ) (strings : List ℕ) (n : NamedEntry) : Type 0 where
   pub at : ℕ
   pub small : at < 2 ^ 32
-  pub entry : Stands table place (spell (symtab_entry_fields (entry_at at n.fields.fields)))
-  pub name : TellsName strings at n.name
+  pub entry : HasBytesAt table place (spell (symtab_entry_fields (entry_at at n.fields.fields)))
+  pub name : NameIsAt strings at n.name
 
 -- if a table has the local, or the other, entries, and a string table the names of all below 2^32, entry k is at offset 24 k, and its
 -- st_name is the offset of its name
-abbrev pub SidesStand : Type 0
-SidesStand = (local : Bool) (at : ℕ) (ns : List NamedEntry) (table : List ℕ) (from : ℕ) (strings : List ℕ) (k : ℕ) (d : NamedEntry) → at + length (string_bytes (names_of ns)) ≤ 2 ^ 32
-    → Stands table from (symbol_bytes (side_entries local at ns)) → Stands strings at (string_bytes (names_of ns)) → k < length (filter (is_side local) ns)
-    → TellsAt table (from + symtab_entry_size * k) strings (slice_index_or (filter (is_side local) ns) k d)
+abbrev pub SideEntriesAreAtOffsets : Type 0
+SideEntriesAreAtOffsets = (local : Bool) (at : ℕ) (ns : List NamedEntry) (table : List ℕ) (from : ℕ) (strings : List ℕ) (k : ℕ) (d : NamedEntry) → at + length (string_bytes (names_of ns)) ≤ 2 ^ 32
+    → HasBytesAt table from (symbol_bytes (side_entries local at ns)) → HasBytesAt strings at (string_bytes (names_of ns)) → k < length (filter (is_side local) ns)
+    → EntryIsAt table (from + symtab_entry_size * k) strings (slice_index_or (filter (is_side local) ns) k d)
 
 -- the symbol's numbers fit in the fields of an entry (gABI, "Symbol Table")
 pub record NamedEntryFits (n : NamedEntry) : Type 0 where
@@ -100,7 +100,7 @@ pub record NamedEntryFits (n : NamedEntry) : Type 0 where
 
 -- the entry has the fields of the symbol, and its st_name is the offset of the symbol's name
 pub record IsEntryOf (strings : List ℕ) (n : NamedEntry) (e : SymtabEntry) : Type 0 where
-  pub name : TellsName strings e.name n.name
+  pub name : NameIsAt strings e.name n.name
   pub info : e.info ≡ n.fields.fields.attributes.info
   pub other : e.other ≡ n.fields.fields.attributes.other
   pub section : e.section ≡ n.fields.fields.section
@@ -110,5 +110,5 @@ pub record IsEntryOf (strings : List ℕ) (n : NamedEntry) (e : SymtabEntry) : T
 -- a reader finds the entry there
 abbrev pub SidesAreRead : Type 0
 SidesAreRead = (local : Bool) (at : ℕ) (ns : List NamedEntry) (table : List ℕ) (from : ℕ) (strings : List ℕ) (k : ℕ) (d : NamedEntry) → All NamedEntryFits ns → at + length (string_bytes (names_of ns)) ≤ 2 ^ 32
-    → Stands table from (symbol_bytes (side_entries local at ns)) → Stands strings at (string_bytes (names_of ns)) → k < length (filter (is_side local) ns)
+    → HasBytesAt table from (symbol_bytes (side_entries local at ns)) → HasBytesAt strings at (string_bytes (names_of ns)) → k < length (filter (is_side local) ns)
     → IsEntryOf strings (slice_index_or (filter (is_side local) ns) k d) (symtab_entry_at table (from + symtab_entry_size * k))

@@ -20,9 +20,9 @@ names_of None = 1
 names_of (Some p) = 2
 
 -- the name of version i: for version 0 the soname, if there is one (LSB, VER_FLG_BASE)
-abbrev pub known_as : Option (List ℕ) → ℕ → List ℕ → List ℕ
-known_as None i name = name
-known_as (Some soname) i name = if i == 0 then soname else name
+abbrev pub version_name : Option (List ℕ) → ℕ → List ℕ → List ℕ
+version_name None i name = name
+version_name (Some soname) i name = if i == 0 then soname else name
 
 -- the record of version i
 abbrev pub verdef_of : Option (List ℕ) → ℕ → Bool → VersionDefinition → Verdef
@@ -31,7 +31,7 @@ verdef_of soname i last d = record {
   flags = if i == 0 then ver_flg_base else 0;
   index = i + 1;
   count = names_of d.parent;
-  hash = sysv_hash (known_as soname i d.name);
+  hash = sysv_hash (version_name soname i d.name);
   aux = verdef_size;
   next = next_of last (definition_size d);
 }

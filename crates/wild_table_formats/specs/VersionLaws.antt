@@ -6,7 +6,7 @@
 --   NeedsAreRead               a reader finds exactly the libraries, and the versions that are needed of each
 use Rattle.std.specs.Prelude.{◌≡◌, ℕ, ◌+◌, ◌*◌, ◌^◌, ◌<◌, ◌≤◌, ◌==◌, true, false, if◌then◌else◌, List, [], ◌∷◌, length, map, Option, Some, None, All, slice_index_or}
 use Rattle.std.specs.List.{flat_map}
-use Rattle.wild_words.specs.Words.{Stands}
+use Rattle.wild_words.specs.Words.{HasBytesAt}
 use Rattle.wild_records.specs.Abi.Version.{ver_flg_base}
 use Rattle.wild_records.specs.Hashes.{sysv_hash}
 use Rattle.wild_records.specs.Versyms.{versym_size, versym_at}
@@ -20,11 +20,11 @@ use Rattle.wild_types.specs.Lists.{total}
 use Rattle.wild_needs.specs.Needs.{version_count}
 use Rattle.wild_table_formats.specs.VersionChain.{name_at}
 use Rattle.wild_table_formats.specs.SymbolVersions.{version_bytes}
-use Rattle.wild_table_formats.specs.VersionDefinitions.{known_as, definition_table}
+use Rattle.wild_table_formats.specs.VersionDefinitions.{version_name, definition_table}
 use Rattle.wild_needs.specs.Versions.{definitions_size, definitions_room, need_size, needs_room}
 use Rattle.wild_table_formats.specs.VersionNeeds.{need_bytes}
 use Rattle.wild_table_formats.specs.VersionNames.{symbol_versions, file_definitions, group_needs}
-use Rattle.wild_table_formats.specs.VersionReading.{Defined, Needed, Library, definitions_from, needs_from}
+use Rattle.wild_table_formats.specs.VersionReading.{FoundDefinition, FoundNeed, Library, definitions_from, needs_from}
 
 -- ---- lengths
 
@@ -55,7 +55,7 @@ LengthsOfGroupNeeds = (l : Layout) (g : Group) → length (group_needs l g) ≡ 
 
 -- the version of symbol k is read 2 k bytes after the start of the table
 abbrev pub VersionsAreRead : Type 0
-VersionsAreRead = (whole vs : List ℕ) (at k d : ℕ) → All (λ v. v < 2 ^ 16) vs → Stands whole at (version_bytes vs) → k < length vs → (versym_at whole (at + versym_size * k)).version ≡ slice_index_or vs k d
+VersionsAreRead = (whole vs : List ℕ) (at k d : ℕ) → All (λ v. v < 2 ^ 16) vs → HasBytesAt whole at (version_bytes vs) → k < length vs → (versym_at whole (at + versym_size * k)).version ≡ slice_index_or vs k d
 
 -- ---- definitions
 
@@ -65,23 +65,23 @@ name_offsets names i None = name_at names i ∷ []
 name_offsets names i (Some p) = name_at names i ∷ name_at names p ∷ []
 
 -- version i, as a reader must find it
-abbrev pub defined_as : List ℕ → Option (List ℕ) → ℕ → VersionDefinition → Defined
-defined_as names soname i d = record {
+abbrev pub expected_definition : List ℕ → Option (List ℕ) → ℕ → VersionDefinition → FoundDefinition
+expected_definition names soname i d = record {
   flags = if i == 0 then ver_flg_base else 0;
   index = i + 1;
-  hash = sysv_hash (known_as soname i d.name);
+  hash = sysv_hash (version_name soname i d.name);
   names = name_offsets names i d.parent;
 }
 
 -- versions, the first of which has index i in the list
-abbrev pub all_defined : List ℕ → Option (List ℕ) → ℕ → List VersionDefinition → List Defined
-all_defined names soname i [] = []
-all_defined names soname i (d ∷ ds) = defined_as names soname i d ∷ all_defined names soname (i + 1) ds
+abbrev pub expected_definitions : List ℕ → Option (List ℕ) → ℕ → List VersionDefinition → List FoundDefinition
+expected_definitions names soname i [] = []
+expected_definitions names soname i (d ∷ ds) = expected_definition names soname i d ∷ expected_definitions names soname (i + 1) ds
 
 -- a reader with a limit of n versions finds exactly those that are defined; the last record ends the walk, not the limit
 abbrev pub DefinitionsAreRead : Type 0
 DefinitionsAreRead = (whole names : List ℕ) (soname : Option (List ℕ)) (ds : List VersionDefinition) (at n : ℕ) → All (λ x. x < 2 ^ 32) names → length ds < 2 ^ 16 → 1 ≤ length ds → length ds ≤ n
-    → Stands whole at (definition_table names soname ds) → definitions_from whole n at ≡ all_defined names soname 0 ds
+    → HasBytesAt whole at (definition_table names soname ds) → definitions_from whole n at ≡ expected_definitions names soname 0 ds
 
 -- ---- needs
 
@@ -103,24 +103,24 @@ abbrev pub needs_bytes : List Need → List ℕ
 needs_bytes ns = flat_map (λ (n : Need). need_bytes n.file n.names n.needs) ns
 
 -- the last library is marked as the last, and no other is
-abbrev pub EndsOnce : List Need → Type 0
-EndsOnce [] = Unit {0}
-EndsOnce (n ∷ []) = n.needs.last ≡ true
-EndsOnce (n ∷ m ∷ ns) = (n.needs.last ≡ false) × EndsOnce (m ∷ ns)
+abbrev pub OnlyLastIsMarked : List Need → Type 0
+OnlyLastIsMarked [] = Unit {0}
+OnlyLastIsMarked (n ∷ []) = n.needs.last ≡ true
+OnlyLastIsMarked (n ∷ m ∷ ns) = (n.needs.last ≡ false) × OnlyLastIsMarked (m ∷ ns)
 
 -- version i of a library, as a reader must find it
-abbrev pub needed_as : List ℕ → ℕ → NeededVersion → Needed
-needed_as names i v = record { hash = sysv_hash v.name; flags = 0; index = v.index; name = name_at names i }
+abbrev pub expected_need : List ℕ → ℕ → NeededVersion → FoundNeed
+expected_need names i v = record { hash = sysv_hash v.name; flags = 0; index = v.index; name = name_at names i }
 
 -- versions of a library, the first of which has index i in the list
-abbrev pub all_needed : List ℕ → ℕ → List NeededVersion → List Needed
+abbrev pub all_needed : List ℕ → ℕ → List NeededVersion → List FoundNeed
 all_needed names i [] = []
-all_needed names i (v ∷ vs) = needed_as names i v ∷ all_needed names (i + 1) vs
+all_needed names i (v ∷ vs) = expected_need names i v ∷ all_needed names (i + 1) vs
 
 abbrev pub library_of : Need → Library
 library_of n = record { file = n.file; versions = all_needed n.names 0 n.needs.versions }
 
 -- a reader with a limit of n libraries finds exactly these, each with its versions; the last record ends the walk, not the limit
 abbrev pub NeedsAreRead : Type 0
-NeedsAreRead = (whole : List ℕ) (ns : List Need) (at n : ℕ) → All NeedFits ns → EndsOnce ns → 1 ≤ length ns → length ns ≤ n
-    → Stands whole at (needs_bytes ns) → needs_from whole n at ≡ map library_of ns
+NeedsAreRead = (whole : List ℕ) (ns : List Need) (at n : ℕ) → All NeedFits ns → OnlyLastIsMarked ns → 1 ≤ length ns → length ns ≤ n
+    → HasBytesAt whole at (needs_bytes ns) → needs_from whole n at ≡ map library_of ns

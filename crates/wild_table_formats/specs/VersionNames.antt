@@ -1,6 +1,6 @@
 -- The offsets of version names in .dynstr, and the tables that contain these offsets.
 --   offsets_from at ts          the offsets of consecutive strings, the first of which is at offset at
---   behind_entries l at f       the offset after the names of a file's entries, where the names of its versions begin
+--   offset_after_entry_names l at f       the offset after the names of a file's entries, where the names of its versions begin
 --   symbol_versions l f         the versions of a file's entries; none if the option for versions is not set
 --   definition_offsets l f      the offsets of the names of the versions that the output defines
 --   file_definitions l f        the table of these versions, which belongs to the last file
@@ -11,7 +11,7 @@ use Rattle.wild_types.specs.declared.file.VersionNeeds.{VersionNeeds}
 use Rattle.wild_types.specs.declared.file.File.{File}
 use Rattle.wild_types.specs.declared.file.Group.{Group}
 use Rattle.wild_types.specs.declared.layout.Layout.{Layout}
-use Rattle.wild_needs.specs.DynamicStrings.{text_room, behind_text, lead_strings, entry_names, behind_file, string_start}
+use Rattle.wild_needs.specs.DynamicStrings.{text_room, offset_after_string, dynstr_prefix_strings, entry_names, next_dynstr, string_start}
 use Rattle.wild_types.specs.FileRoles.{is_epilogue}
 use Rattle.wild_types.specs.Kinds.{needs_dynsym}
 use Rattle.wild_types.specs.Lists.{total}
@@ -23,17 +23,17 @@ use Rattle.wild_table_formats.specs.VersionNeeds.{need_bytes}
 -- ---- offsets
 
 -- an offset as a record has it, in 32 bits
-abbrev pub told : ℕ → ℕ
-told at = at % 2 ^ 32
+abbrev pub offset_u32 : ℕ → ℕ
+offset_u32 at = at % 2 ^ 32
 
 -- the offsets of consecutive strings, each with a zero at its end
 unfoldable pub offsets_from : ℕ → List (List ℕ) → List ℕ
 offsets_from at [] = []
-offsets_from at (t ∷ ts) = told at ∷ offsets_from (behind_text at t) ts
+offsets_from at (t ∷ ts) = offset_u32 at ∷ offsets_from (offset_after_string at t) ts
 
 -- the offset after the names of a file's entries, at most 2^64 - 1
-abbrev pub behind_entries : Layout → ℕ → File → ℕ
-behind_entries l at f = min (2 ^ 64 - 1) (at + (total text_room (lead_strings l f) + total text_room (entry_names l f)))
+abbrev pub offset_after_entry_names : Layout → ℕ → File → ℕ
+offset_after_entry_names l at f = min (2 ^ 64 - 1) (at + (total text_room (dynstr_prefix_strings l f) + total text_room (entry_names l f)))
 
 -- ---- versions of symbols
 
@@ -44,19 +44,19 @@ symbol_versions l f = if l.options.versions && needs_dynsym l.kind then file_ver
 -- ---- versions that the output defines
 
 -- the offset after the search path, where the soname is; at itself without a search path
-abbrev pub behind_path : ℕ → Option (List ℕ) → ℕ
-behind_path at None = at
-behind_path at (Some path) = behind_text at path
+abbrev pub offset_after_search_path : ℕ → Option (List ℕ) → ℕ
+offset_after_search_path at None = at
+offset_after_search_path at (Some path) = offset_after_string at path
 
 -- with a soname, the first version's name is the soname's string
-abbrev pub with_own : ℕ → Option (List ℕ) → List ℕ → List ℕ
-with_own at None offsets = offsets
-with_own at (Some soname) offsets = told at ∷ offsets
+abbrev pub with_soname_offset : ℕ → Option (List ℕ) → List ℕ → List ℕ
+with_soname_offset at None offsets = offsets
+with_soname_offset at (Some soname) offsets = offset_u32 at ∷ offsets
 
 -- the offsets of their names, which come after the names of the last file's entries
 unfoldable pub definition_offsets : Layout → File → List ℕ
 definition_offsets l f =
-    with_own (behind_path (string_start l) l.options.rpath) l.options.soname (offsets_from (behind_entries l (string_start l) f) (version_names l f))
+    with_soname_offset (offset_after_search_path (string_start l) l.options.rpath) l.options.soname (offsets_from (offset_after_entry_names l (string_start l) f) (version_names l f))
 
 -- the table, which belongs to the last file
 unfoldable pub file_definitions : Layout → File → List ℕ
@@ -68,21 +68,21 @@ file_definitions l f =
 -- the needs of a library, whose name is at offset at, once more after the names of its entries; its versions' names come after it
 abbrev pub need_at : ℕ → List ℕ → Option VersionNeeds → List ℕ
 need_at at library None = []
-need_at at library (Some n) = need_bytes (told at) (offsets_from (behind_text at library) (needed_names n.versions)) n
+need_at at library (Some n) = need_bytes (offset_u32 at) (offsets_from (offset_after_string at library) (needed_names n.versions)) n
 
 -- the offset of the library's name in its record, and those of the names of the versions that are needed of it
 abbrev pub library_offset : Layout → ℕ → File → ℕ
-library_offset l at f = told (behind_entries l at f)
+library_offset l at f = offset_u32 (offset_after_entry_names l at f)
 
 abbrev pub need_offsets : Layout → ℕ → File → VersionNeeds → List ℕ
-need_offsets l at f n = offsets_from (behind_text (behind_entries l at f) f.lib_name) (needed_names n.versions)
+need_offsets l at f n = offsets_from (offset_after_string (offset_after_entry_names l at f) f.lib_name) (needed_names n.versions)
 
 abbrev pub need_of : Layout → ℕ → File → List ℕ
-need_of l at f = need_at (behind_entries l at f) f.lib_name (needs_of f)
+need_of l at f = need_at (offset_after_entry_names l at f) f.lib_name (needs_of f)
 
 abbrev pub needs_from : Layout → ℕ → List File → List ℕ
 needs_from l at [] = []
-needs_from l at (f ∷ fs) = need_of l at f ++ needs_from l (behind_file l at f) fs
+needs_from l at (f ∷ fs) = need_of l at f ++ needs_from l (next_dynstr l at f) fs
 
 -- the table of a group's libraries; the group's strings begin at the layout's offset
 unfoldable pub group_needs : Layout → Group → List ℕ

@@ -13,7 +13,7 @@ use Rattle.wild_records.specs.declared.verneeds.Vernaux.{Vernaux}
 -- ---- definitions
 
 -- a version that is defined: its flags, its index, the hash of its name, and the offsets of its names in the string table
-pub record Defined : Type 0 where
+pub record FoundDefinition : Type 0 where
   pub flags : ℕ
   pub index : ℕ
   pub hash : ℕ
@@ -25,14 +25,14 @@ names_from whole zero at = []
 names_from whole (suc n) at =
     (verdaux_at whole at).name ∷ (if (verdaux_at whole at).next == 0 then [] else names_from whole n (at + (verdaux_at whole at).next))
 
-abbrev pub defined : Verdef → List ℕ → Defined
+abbrev pub defined : Verdef → List ℕ → FoundDefinition
 defined d names = record { flags = d.flags; index = d.index; hash = d.hash; names = names }
 
-abbrev pub defined_at : List ℕ → ℕ → Defined
+abbrev pub defined_at : List ℕ → ℕ → FoundDefinition
 defined_at whole at = defined (verdef_at whole at) (names_from whole (verdef_at whole at).count (at + (verdef_at whole at).aux))
 
 -- a version and the following ones
-unfoldable pub definitions_from : List ℕ → ℕ → ℕ → List Defined
+unfoldable pub definitions_from : List ℕ → ℕ → ℕ → List FoundDefinition
 definitions_from whole zero at = []
 definitions_from whole (suc n) at =
     defined_at whole at ∷ (if (verdef_at whole at).next == 0 then [] else definitions_from whole n (at + (verdef_at whole at).next))
@@ -40,7 +40,7 @@ definitions_from whole (suc n) at =
 -- ---- needs
 
 -- a version that is needed: the hash of its name, its flags, its index, and the offset of its name in the string table
-pub record Needed : Type 0 where
+pub record FoundNeed : Type 0 where
   pub hash : ℕ
   pub flags : ℕ
   pub index : ℕ
@@ -49,13 +49,13 @@ pub record Needed : Type 0 where
 -- a library: the offset of its name, and the versions that are needed of it
 pub record Library : Type 0 where
   pub file : ℕ
-  pub versions : List Needed
+  pub versions : List FoundNeed
 
-abbrev pub needed : Vernaux → Needed
+abbrev pub needed : Vernaux → FoundNeed
 needed v = record { hash = v.hash; flags = v.flags; index = v.index; name = v.name }
 
 -- a version and the following ones
-unfoldable pub needed_from : List ℕ → ℕ → ℕ → List Needed
+unfoldable pub needed_from : List ℕ → ℕ → ℕ → List FoundNeed
 needed_from whole zero at = []
 needed_from whole (suc n) at =
     needed (vernaux_at whole at) ∷ (if (vernaux_at whole at).next == 0 then [] else needed_from whole n (at + (vernaux_at whole at).next))

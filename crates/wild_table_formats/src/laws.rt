@@ -1,6 +1,6 @@
 //! What a reader and a loader find in these tables.
 ghost use Rattle.wild_table_formats.specs.EntryLaws.{LengthsOfEntries, EntriesAreRead, LoadersAgree, PlacesAreLoaded};
-ghost use Rattle.wild_table_formats.specs.DynamicSection.{NeededAreOfLibraries, LengthsOfRecords, LengthsOfDynamic, RecordsStand, RecordsFit, BehindNullIsNotRead, EntriesAreFound, TablesAreNamed};
+ghost use Rattle.wild_table_formats.specs.DynamicSection.{NeededAreOfLibraries, LengthsOfRecords, LengthsOfDynamic, RecordsAreInOrder, RecordsFit, NothingAfterNullIsRead, EntriesAreFound, TablesAreNamed};
 
 use wild_records::rela_is_read;
 use wild_relr::pieces_are_recorded;
@@ -32,9 +32,9 @@ pub fn dynamic_sections_are_read()
     ensures needed { NeededAreOfLibraries }
     ensures records { LengthsOfRecords }
     ensures lengths { LengthsOfDynamic }
-    ensures stand { RecordsStand }
+    ensures stand { RecordsAreInOrder }
     ensures fit { RecordsFit }
-    ensures behind { BehindNullIsNotRead }
+    ensures behind { NothingAfterNullIsRead }
     ensures found { EntriesAreFound }
     ensures named { TablesAreNamed }
 {}

@@ -7,5 +7,5 @@ mod section_info;
 mod symbols;
 
 pub use laws::{dynamic_sections_are_read, entries_are_read, loaders_agree, places_are_loaded};
-pub use section_info::Told;
+pub use section_info::ComputedInfo;
 pub use symbols::{NamedSections, SymbolAttributes, SymbolFields, TableFields};

@@ -4,7 +4,7 @@ use wild_types::SectionIndex;
 
 /// A section, and the value of its `sh_info`.
 #[derive(Clone, Copy)]
-pub struct Told {
+pub struct ComputedInfo {
     pub section: SectionIndex,
     pub info: u32,
 }

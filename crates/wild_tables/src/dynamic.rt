@@ -2,8 +2,8 @@
 ghost use Rattle.std.specs.Prelude.{◌≡◌, ◌+◌, ◌*◌, ◌≤◌, ◌++◌, [], ◌∷◌, length, take, replicate};
 ghost use Rattle.wild_records.specs.Dynamic.{dynamic_entry_size};
 ghost use Rattle.wild_needs.specs.Dynamic.{entry_of, tag_entries, dynamic_count};
-ghost use Rattle.wild_needs.specs.DynamicStrings.{named, behind_text, string_entries, auxiliary_strings, named_strings, string_start};
-ghost use Rattle.wild_table_formats.specs.DynamicSection.{dynamic_bytes, entries_bytes, behind_strings};
+ghost use Rattle.wild_needs.specs.DynamicStrings.{named, offset_after_string, string_entries, auxiliary_strings, named_strings, string_start};
+ghost use Rattle.wild_table_formats.specs.DynamicSection.{dynamic_bytes, entries_bytes, offset_after_strings};
 
 use wild_needs::{DynamicTag, dynamic_entry, string_start};
 use wild_records::DynamicEntry;
@@ -80,7 +80,7 @@ struct Cursor {
 fn write_string(out: &mut [u8], cursor: Cursor, number: u64, text: &[u8]) -> Cursor
     requires { cursor.at + dynamic_entry_size ≤ length out.old }
     ensures at { result.at ≡ cursor.at + dynamic_entry_size }
-    ensures offset { result.offset ≡ behind_text cursor.offset text.now }
+    ensures offset { result.offset ≡ offset_after_string cursor.offset text.now }
     ensures written { take result.at out.new ≡ take cursor.at out.old ++ entries_bytes (record { tag = number; value = cursor.offset } ∷ []) }
     ensures room { length out.new ≡ length out.old }
 {
@@ -99,7 +99,7 @@ fn write_string(out: &mut [u8], cursor: Cursor, number: u64, text: &[u8]) -> Cur
 fn write_option(out: &mut [u8], cursor: Cursor, number: u64, text: &Option<Bytes>) -> Cursor
     requires { cursor.at + dynamic_entry_size * length (named number text.now) ≤ length out.old }
     ensures at { result.at ≡ cursor.at + dynamic_entry_size * length (named number text.now) }
-    ensures offset { result.offset ≡ behind_strings cursor.offset (named number text.now) }
+    ensures offset { result.offset ≡ offset_after_strings cursor.offset (named number text.now) }
     ensures written { take result.at out.new ≡ take cursor.at out.old ++ entries_bytes (string_entries cursor.offset (named number text.now)) }
     ensures room { length out.new ≡ length out.old }
 {
@@ -114,7 +114,7 @@ fn write_option(out: &mut [u8], cursor: Cursor, number: u64, text: &Option<Bytes
 fn write_auxiliary(out: &mut [u8], cursor: Cursor, texts: &[Bytes]) -> Cursor
     requires { cursor.at + dynamic_entry_size * length texts.now ≤ length out.old }
     ensures at { result.at ≡ cursor.at + dynamic_entry_size * length texts.now }
-    ensures offset { result.offset ≡ behind_strings cursor.offset (auxiliary_strings texts.now) }
+    ensures offset { result.offset ≡ offset_after_strings cursor.offset (auxiliary_strings texts.now) }
     ensures written { take result.at out.new ≡ take cursor.at out.old ++ entries_bytes (string_entries cursor.offset (auxiliary_strings texts.now)) }
     ensures room { length out.new ≡ length out.old }
 {

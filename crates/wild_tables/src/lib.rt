@@ -3,11 +3,11 @@
 
 mod dynamic;
 mod laws;
-mod refused;
 mod rela;
 mod relr;
 mod room;
 mod slot_words;
+mod slot_write_error;
 mod stub;
 mod verify;
 mod word;
@@ -15,10 +15,10 @@ mod writer;
 
 pub use dynamic::{write_dynamic, write_unused};
 pub use laws::slots_are_filled;
-pub use refused::Refused;
 pub use rela::RelaTable;
 pub use relr::RelrTable;
 pub use room::Room;
+pub use slot_write_error::SlotWriteError;
 pub use stub::StubTable;
 pub use verify::{ROLES, verify_resolution_allocation};
 pub use word::WordTable;

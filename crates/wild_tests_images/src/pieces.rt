@@ -11,8 +11,8 @@ use wild_crew::Gate;
 use wild_image::{
     ElfX86_64, GroupPiece, SizedOutput, check_shares, write, write_gated, write_group,
 };
-use wild_made::make_plan;
 use wild_plan::{Error, Layout, Part, well_formed};
+use wild_sample_layouts::make_plan;
 use wild_tests_plans::{LINKED, MOVED, PACKED, SLOTTED, SMALLEST, THREE, VERSIONED};
 
 /// The piece of each group.

@@ -9,7 +9,7 @@ use wild_frames::{
     BadFrame, Fde, FrameError, FrameSource, TableError, Target, count_frames, write_eh_frame_data,
     write_search_table,
 };
-use wild_types::{InputRelocation, SymbolIndex, Why};
+use wild_types::{FrameFault, InputRelocation, SymbolIndex};
 
 /// A section whose fields have 4 bytes. Symbol 0 is in a discarded section, and every other symbol in a loaded one.
 #[derive(Clone, Copy)]
@@ -49,7 +49,7 @@ const DISCARDED: u8 = 0;
 
 const LOADED: u8 = 1;
 
-const NOWHERE: u8 = 2;
+const NO_PLACE: u8 = 2;
 
 const MALFORMED: u8 = 3;
 
@@ -117,22 +117,42 @@ const TAILS: [(&[u8], usize); 4] = [
 ];
 
 /// Sections and fields that are refused.
-const REFUSED: [(&[u8], &[(u64, u8)], Why, u64); 10] = [
-    (&[16, 0, 0, 0, 0, 0, 0, 0], &[], Why::Cut, 0),
-    (&[3, 0, 0, 0, 0, 0, 0, 0], &[], Why::Short, 0),
-    (&[0; 24], &[(16, LOADED), (8, LOADED)], Why::Unsorted, 8),
-    (&[0; 24], &[(16, LOADED), (8, MALFORMED)], Why::Malformed, 8),
-    (&THREE_FDES, &[(24, NOWHERE)], Why::PcBegin, 16),
-    (&THREE_FDES, &[(14, LOADED)], Why::Field, 0),
-    (&THREE_FDES, &[(24, LOADED), (30, LOADED)], Why::Field, 16),
-    (&[4, 0, 0, 0, 4, 0, 0, 0], &[], Why::Cie, 0),
+const REFUSED: [(&[u8], &[(u64, u8)], FrameFault, u64); 10] = [
+    (&[16, 0, 0, 0, 0, 0, 0, 0], &[], FrameFault::Cut, 0),
+    (&[3, 0, 0, 0, 0, 0, 0, 0], &[], FrameFault::Short, 0),
+    (
+        &[0; 24],
+        &[(16, LOADED), (8, LOADED)],
+        FrameFault::Unsorted,
+        8,
+    ),
+    (
+        &[0; 24],
+        &[(16, LOADED), (8, MALFORMED)],
+        FrameFault::Malformed,
+        8,
+    ),
+    (&THREE_FDES, &[(24, NO_PLACE)], FrameFault::PcBegin, 16),
+    (&THREE_FDES, &[(14, LOADED)], FrameFault::Field, 0),
+    (
+        &THREE_FDES,
+        &[(24, LOADED), (30, LOADED)],
+        FrameFault::Field,
+        16,
+    ),
+    (&[4, 0, 0, 0, 4, 0, 0, 0], &[], FrameFault::Cie, 0),
     (
         &[4, 0, 0, 0, 0, 0, 0, 0, 4, 0, 0, 0, 8, 0, 0, 0],
         &[],
-        Why::Cie,
+        FrameFault::Cie,
         8,
     ),
-    (&[5, 0, 0, 0, 1, 0, 0, 0, 0], &[(8, LOADED)], Why::Short, 0),
+    (
+        &[5, 0, 0, 0, 1, 0, 0, 0, 0],
+        &[(8, LOADED)],
+        FrameFault::Short,
+        0,
+    ),
 ];
 
 #[test]

@@ -3,8 +3,8 @@
 use std::alloc::Global;
 use std::io::{self, ErrorKind, Read, Write};
 use std::test::Fail;
-use wild_outside::{
-    MemSink, MemSource, ReadFault, Reading, Sink, Source, SureSink, SureSource, Writing,
+use wild_io::{
+    MemSink, MemSource, ReadFault, ReaderSource, Sink, Source, SureSink, SureSource, WriterSink,
     read_whole, write_whole,
 };
 
@@ -14,9 +14,9 @@ const SOURCES: &[(&[u64], usize, usize, Option<ReadFault>)] = &[
     (&[], 1, 5, None),
     (&[], 99, 4, Some(ReadFault::TooLong)),
     (&[], 2, 4, Some(ReadFault::TooLong)),
-    (&[0], 99, 5, Some(ReadFault::Failed)),
-    (&[1], 99, 5, Some(ReadFault::Failed)),
-    (&[5], 1, 5, Some(ReadFault::Failed)),
+    (&[0], 99, 5, Some(ReadFault::IoFailure)),
+    (&[1], 99, 5, Some(ReadFault::IoFailure)),
+    (&[5], 1, 5, Some(ReadFault::IoFailure)),
     (&[6], 1, 5, None),
 ];
 
@@ -147,7 +147,7 @@ const READS: &[(&[Result<usize, ErrorKind>], Option<&[u8]>)] = &[
 
 // Whether a read fails, and the next one gives the rest, where there is one.
 fn goes_on<S: Source>(alloc: Global, source: &mut S, rest: &Option<&[u8]>) -> bool {
-    if !matches!(read_whole(alloc, source, 9), Err(ReadFault::Failed)) {
+    if !matches!(read_whole(alloc, source, 9), Err(ReadFault::IoFailure)) {
         return false;
     }
     match (read_whole(alloc, source, 9), rest) {
@@ -159,7 +159,7 @@ fn goes_on<S: Source>(alloc: Global, source: &mut S, rest: &Option<&[u8]>) -> bo
 #[test]
 fn reads_that_fail(rt: HostRuntime) {
     for (calls, rest) in READS {
-        let mut source = Reading::new(ListedCalls {
+        let mut source = ReaderSource::new(ListedCalls {
             calls,
             left: b"image",
             taken: Vec::new(rt.alloc()),
@@ -204,17 +204,17 @@ fn writes_that_fail(rt: HostRuntime) {
             left: b"",
             taken: Vec::new(rt.alloc()),
         };
-        let is_so = fails_then_writes(&mut Writing::new(&mut writer), *goes_on);
+        let is_so = fails_then_writes(&mut WriterSink::new(&mut writer), *goes_on);
         assert!(rt; is_so && writer.taken.as_slice() == *taken, "{calls:?}");
     }
 }
 
 #[test]
 fn readers_and_writers_of_std(rt: HostRuntime) {
-    let mut source = Reading::new(b"image".as_slice());
+    let mut source = ReaderSource::new(b"image".as_slice());
     assert!(rt; is_read(rt.alloc(), &mut source, 5, &None));
     let mut out = Vec::new(rt.alloc());
-    let mut sink = Writing::new(&mut out);
+    let mut sink = WriterSink::new(&mut out);
     assert!(rt; write_whole(&mut sink, b"image").is_ok());
     assert!(rt; out.as_slice() == b"image".as_slice());
 }

@@ -14,13 +14,13 @@ use crate::layouts::{layout_of, symbol_of};
 use std::alloc::{AllocError, Global};
 use std::test::*;
 use wild_plan::{
-    Error, File, FileRole, Layout, Named, Place, Role, SectionIndex, Symbol, SymbolIndex, is_local,
-    share_of,
+    Error, File, FileRole, Layout, Place, Role, SectionIndex, Symbol, SymbolIndex, SymtabName,
+    is_local, share_of,
 };
 use wild_records::SymbolSection;
 use wild_symbols::{
-    SymbolAttributes, SymbolTableWriter, dynstr_start, entry_at, listed_fields, named_sections,
-    null_table_fields, strtab_start, table_fields,
+    SymbolAttributes, SymbolTableWriter, dynstr_start, entry_at, exported_symbol_fields,
+    named_sections, null_table_fields, strtab_start, table_fields,
 };
 
 /// A call of the writer.
@@ -283,7 +283,7 @@ fn put_entry(writer: &mut SymbolTableWriter, layout: &Layout, index: usize) -> R
     let fields = table_fields(
         layout,
         file,
-        Named::Itself,
+        SymtabName::Itself,
         index,
         symbol,
         section,
@@ -293,7 +293,7 @@ fn put_entry(writer: &mut SymbolTableWriter, layout: &Layout, index: usize) -> R
     )
     .ok()
     .ok_or("no fields")?;
-    let is_local = is_local(Named::Itself, symbol);
+    let is_local = is_local(SymtabName::Itself, symbol);
     Ok(
         writer
             .write_entry(is_local, symbol.name.as_slice(), fields)
@@ -323,7 +323,7 @@ fn put_copy(
 fn entry_of(layout: &Layout, index: usize, name: u64) -> Result<[u8; 24], Fail> {
     let symbol = symbol_of(layout, index)?;
     let sections = named_sections(layout);
-    let fields = listed_fields(layout, sections, 0, FileRole::Dynamic, 0, symbol)?;
+    let fields = exported_symbol_fields(layout, sections, 0, FileRole::Dynamic, 0, symbol)?;
     let mut bytes = [0; 24];
     entry_at(name, fields).put(&mut bytes);
     Ok(bytes)

@@ -7,7 +7,7 @@ use wild_records::Rela;
 use wild_reloc::DynamicRelocationKind;
 use wild_relr::{block_words, count_words};
 use wild_tables::{
-    ROLES, Refused, TableWriter, relative_entry, verify_resolution_allocation, write_dynamic,
+    ROLES, SlotWriteError, TableWriter, relative_entry, verify_resolution_allocation, write_dynamic,
 };
 use wild_tests_plans::{MOVED, PACKED, SLOTTED};
 use wild_words::read_u64;
@@ -165,7 +165,9 @@ fn put_offset(tables: &mut TableWriter, layout: &Layout, address: u64) -> Result
     own.raw_value = address;
     match tables.process_resolution(layout, &own, Err(0)) {
         Ok(()) => Ok(true),
-        Err(Refused::Fault(SlotFault::TlsOutOfSegment { value })) if value == address => Ok(false),
+        Err(SlotWriteError::Fault(SlotFault::TlsOutOfSegment { value })) if value == address => Ok(
+            false,
+        ),
         Err(_) => Err("another fault".into()),
     }
 }

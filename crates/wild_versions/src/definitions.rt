@@ -5,7 +5,7 @@ ghost use Rattle.wild_records.specs.Hashes.{sysv_hash};
 ghost use Rattle.wild_records.specs.Verdefs.{verdef_size, verdaux_size, verdef_fields, verdaux_fields};
 ghost use Rattle.wild_table_formats.specs.VersionRoom.{with_bytes};
 ghost use Rattle.wild_table_formats.specs.VersionChain.{next_of, name_at};
-ghost use Rattle.wild_table_formats.specs.VersionDefinitions.{names_of, known_as, verdef_of, verdauxes_of, verdaux_bytes, definition_bytes, definition_table};
+ghost use Rattle.wild_table_formats.specs.VersionDefinitions.{names_of, version_name, verdef_of, verdauxes_of, verdaux_bytes, definition_bytes, definition_table};
 ghost use Rattle.wild_needs.specs.Versions.{definition_size, definitions_size};
 
 use crate::room::FilledRoom;
@@ -41,7 +41,7 @@ fn names_of(parent: Option<usize>) -> u16
 
 /// `vd_hash` of version i: the hash of its name. Version 0 has the soname as its name, if there is one.
 fn hash_of(soname: &Option<Bytes>, i: usize, name: &Bytes) -> u32
-    ensures { result ≡ sysv_hash (known_as soname.now i name.now) }
+    ensures { result ≡ sysv_hash (version_name soname.now i name.now) }
 {
     match soname {
         Some(own) if i == 0 => sysv_hash(own.as_slice()),

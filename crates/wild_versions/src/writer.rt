@@ -4,7 +4,7 @@ ghost use Rattle.wild_records.specs.Versyms.{versym_size};
 ghost use Rattle.wild_versions.specs.Table.{room_for};
 ghost use Rattle.wild_table_formats.specs.SymbolVersions.{version_of};
 ghost use Rattle.wild_needs.specs.Versions.{definitions_size, need_size};
-ghost use Rattle.wild_versions.specs.Writer.{no_versions, with_versions, with_definitions, with_need, left_over};
+ghost use Rattle.wild_versions.specs.Writer.{no_versions, with_versions, with_definitions, with_need, tables_full_or_fault};
 
 use crate::definitions::push_definitions;
 use crate::needs::push_need;
@@ -120,7 +120,7 @@ impl VersionWriter {
     ///
     /// `ExcessiveAllocation` for the first table with unwritten bytes, in the order of the roles of parts.
     pub fn check_exhausted(&self) -> Result<(), Error>
-        ensures { result ≡ left_over self.now }
+        ensures { result ≡ tables_full_or_fault self.now }
     {
         self.symbols.check_exhausted()?;
         self.definitions.check_exhausted()?;

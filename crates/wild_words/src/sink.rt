@@ -3,9 +3,9 @@
 /// Takes the items of type `X` of a walk, one after another: a counter, a writer, a search for a fault.
 pub trait Sink<X> {
     ghost use Rattle.std.specs.Prelude.{[], ◌∷◌};
-    ghost use Rattle.wild_words.specs.Runs.{Ran};
+    ghost use Rattle.wild_words.specs.Runs.{SinkRun};
 
-    /// Why an item is refused.
+    /// FrameFault an item is refused.
     type Error: Drop;
 
     /// The relation of the state before and after an item that is taken.
@@ -16,5 +16,5 @@ pub trait Sink<X> {
 
     /// Takes an item, or refuses it.
     fn take(&mut self, item: X) -> Result<(), Self::Error>
-        ensures { Ran goes refuses self.old (item ∷ []) result self.new };
+        ensures { SinkRun goes refuses self.old (item ∷ []) result self.new };
 }

@@ -18,14 +18,14 @@ use Rattle.wild_types.specs.declared.layout.Entry.TheVariants as entry
 use Rattle.wild_types.specs.declared.layout.Layout.{Layout}
 use Rattle.wild_loader.specs.declared.world.World.{World}
 use Rattle.wild_types.specs.Item.{Item, item_with}
-use Rattle.wild_meaning.specs.Worked.Builders.{given, reference, input, one_file, loaded}
+use Rattle.wild_meaning.specs.Worked.Builders.{resolved_symbol, reference, input, one_file, loaded_segment}
 
 -- a function with a slot (NON_INTERPOSABLE, GOT), and thread-local data (NON_INTERPOSABLE)
 abbrev pub near_function : Symbol
-near_function = given 0x28 0x11200 8 None (Some 0x11080) None
+near_function = resolved_symbol 0x28 0x11200 8 None (Some 0x11080) None
 
 abbrev pub local_data : Symbol
-local_data = given 8 0x30008 8 None None None
+local_data = resolved_symbol 8 0x30008 8 None None None
 
 -- `adrp x0; add x0, x0`
 abbrev pub page_reference : InputRelocation
@@ -106,7 +106,7 @@ words_static = record empty_layout {
   kind = output.StaticExecutable model.NonRelocatable;
   options = record no_options { relax = true };
   page_size = 0x1000;
-  segments = record (loaded 0x11000 0x88 0x88) { offset = 0x1000 } ∷ [];
+  segments = record (loaded_segment 0x11000 0x88 0x88) { offset = 0x1000 } ∷ [];
   tls = record { start = 0x30000; end = 0x30010; align = 16 };
   got_base = 0x11080;
   symbols = near_function ∷ local_data ∷ [];

@@ -1,9 +1,9 @@
 -- The building blocks of the worked layouts.
---   given flags raw size index got plt   a symbol with these flags and this resolution
+--   resolved_symbol flags raw size index got plt   a symbol with these flags and this resolution
 --   reference offset number symbol add   a relocation
 --   input address flags bytes rs         an input section with data
---   blank address size                   an input section without data
---   loaded address file_size mem_size    a segment that is loaded
+--   section_without_data address size                   an input section without data
+--   loaded_segment address file_size mem_size    a segment that is loaded
 --   dynamic_at address size              the segment of a dynamic section
 --   one_file file                        the groups of a single file
 --   Refuses l w Wrong                    no image of a layout is linked in a world if memory is wrong in that way
@@ -22,11 +22,11 @@ use Rattle.wild_types.specs.declared.file.Group.{Group}
 use Rattle.wild_types.specs.declared.layout.Layout.{Layout}
 use Rattle.wild_loader.specs.declared.memory.Memory.{Memory}
 use Rattle.wild_loader.specs.declared.world.World.{World}
-use Rattle.wild_meaning.specs.Linked.{IsLinked}
+use Rattle.wild_meaning.specs.LinkedImage.{IsLinked}
 
 -- a symbol with these flags and this resolution
-abbrev pub given : ℕ → ℕ → ℕ → Option ℕ → Option ℕ → Option ℕ → Symbol
-given flags raw size index got plt = record {
+abbrev pub resolved_symbol : ℕ → ℕ → ℕ → Option ℕ → Option ℕ → Option ℕ → Symbol
+resolved_symbol flags raw size index got plt = record {
   name = [];
   definition = None;
   info = 0;
@@ -89,8 +89,8 @@ group_of files = record {
 }
 
 -- an input section without data
-abbrev pub blank : ℕ → ℕ → InputSection
-blank address size = record {
+abbrev pub section_without_data : ℕ → ℕ → InputSection
+section_without_data address size = record {
   slot = slot.Loaded;
   name = [];
   part = 0;
@@ -112,8 +112,8 @@ abbrev pub one_file : List InputSection → List Group
 one_file sections = group_of (file_of file_role.Object sections [] ∷ []) ∷ []
 
 -- a segment that is loaded
-abbrev pub loaded : ℕ → ℕ → ℕ → Segment
-loaded address file_size mem_size = record {
+abbrev pub loaded_segment : ℕ → ℕ → ℕ → Segment
+loaded_segment address file_size mem_size = record {
   kind = pt_load;
   flags = 7;
   offset = address;
@@ -126,7 +126,7 @@ loaded address file_size mem_size = record {
 
 -- a segment with the dynamic section
 abbrev pub dynamic_at : ℕ → ℕ → Segment
-dynamic_at address size = record (loaded address size size) { kind = pt_dynamic; flags = 6; align = 8 }
+dynamic_at address size = record (loaded_segment address size size) { kind = pt_dynamic; flags = 6; align = 8 }
 
 -- no image of the layout is linked in the world if memory is wrong in that way
 abbrev pub Refuses : Layout → World → (Memory → Type 0) → Type 0

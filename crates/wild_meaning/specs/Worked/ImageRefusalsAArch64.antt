@@ -6,11 +6,11 @@ use Rattle.std.specs.Prelude.{ℕ, List, [], ◌∷◌}
 use Rattle.wild_loader.specs.declared.memory.Memory.{Memory}
 use Rattle.wild_loader.specs.Memory.{Holds}
 use Rattle.wild_meaning.specs.World.{IsLegal}
-use Rattle.wild_meaning.specs.Linked.{IsLinked}
+use Rattle.wild_meaning.specs.LinkedImage.{IsLinked}
 use Rattle.wild_meaning.specs.Worked.Builders.{Refuses}
 use Rattle.wild_meaning.specs.Worked.AArch64.{words_static, words_world}
 use Rattle.wild_meaning.specs.Worked.AArch64Image.{words_image}
-use Rattle.wild_meaning.specs.Worked.StaticRefusals.{Has}
+use Rattle.wild_meaning.specs.Worked.StaticRefusals.{MemoryHas}
 
 abbrev pub WordsWorldIsLegal : Type 0
 WordsWorldIsLegal = IsLegal words_static words_world
@@ -59,12 +59,12 @@ pub record HasBoth (a : ℕ) (bs : List ℕ) (b : ℕ) (cs : List ℕ) (m : Memo
 -- - one with the low half of the offset where `movz` has the high one;
 -- - one that loads the offset from a word which is no slot of the symbol.
 pub record WrongCodeOfWordsIsRefused : Type 0 where
-  pub slot : Refuses words_static words_world (Has 0x11010 slot_behind)
+  pub slot : Refuses words_static words_world (MemoryHas 0x11010 slot_behind)
   pub thunk : Refuses words_static words_world (HasBoth 0x11020 call_of_thunk 0x11060 far_thunk)
   pub addend : Refuses words_static words_world (HasBoth 0x11024 next_call_of_thunk 0x11060 right_thunk)
-  pub half : Refuses words_static words_world (Has 0x11030 half_call)
-  pub low : Refuses words_static words_world (Has 0x11030 low_half)
-  pub word : Refuses words_static words_world (Has 0x11030 load_of_word)
+  pub half : Refuses words_static words_world (MemoryHas 0x11030 half_call)
+  pub low : Refuses words_static words_world (MemoryHas 0x11030 low_half)
+  pub word : Refuses words_static words_world (MemoryHas 0x11030 load_of_word)
 
 -- an image is linked in the world, so the refusals are not vacuous
 abbrev pub WordsImageIsLinked : Type 0

@@ -29,8 +29,8 @@ use Rattle.wild_meaning.specs.World.{IsMovable}
 use Rattle.wild_meaning.specs.Value.{IsAbsolute}
 use Rattle.wild_meaning.specs.Item.{place_at}
 use Rattle.wild_meaning.specs.Sequence.{FieldBits, Instruction, of_word, descriptor_call_words, offset_pair_words, address_pair_words}
-use Rattle.wild_meaning.specs.Template.{IsTemplate, reads, reads_alone, DoesWith}
-use Rattle.wild_meaning.specs.Reference.{ReferenceHolds, IsExcepted}
+use Rattle.wild_meaning.specs.Template.{IsTemplate, reads, reads_without_calls, DoesWith}
+use Rattle.wild_meaning.specs.Reference.{ReferenceHolds, IsCheckedAtZeroOnly}
 
 -- code of these words, without relocations
 abbrev pub code_of : ℕ → List ℕ → Item
@@ -38,10 +38,10 @@ code_of address ws = record { address = address; flags = shf_execinstr; bytes = 
 
 -- the words in memory, in place of the item's, have the effect that its instruction requires for an operand with the value v
 abbrev pub Does : Item → Instruction → ℕ → List ℕ → Type 0
-Does item o v ws = (l : Layout) (w : World) (m : Memory) → l.machine ≡ machine.AArch64 → w.base ≡ 0 → Holds m item.address (flat_map (word 4) ws) → DoesWith (reads_alone w m) l w m item 0 o v
+Does item o v ws = (l : Layout) (w : World) (m : Memory) → l.machine ≡ machine.AArch64 → w.base ≡ 0 → Holds m item.address (flat_map (word 4) ws) → DoesWith (reads_without_calls w m) l w m item 0 o v
 
 abbrev pub DoesNot : Item → Instruction → ℕ → List ℕ → Type 0
-DoesNot item o v ws = (l : Layout) (w : World) (m : Memory) → l.machine ≡ machine.AArch64 → w.base ≡ 0 → Holds m item.address (flat_map (word 4) ws) → DoesWith (reads_alone w m) l w m item 0 o v → ⊥
+DoesNot item o v ws = (l : Layout) (w : World) (m : Memory) → l.machine ≡ machine.AArch64 → w.base ≡ 0 → Holds m item.address (flat_map (word 4) ws) → DoesWith (reads_without_calls w m) l w m item 0 o v → ⊥
 
 -- `adrp x0; ldr x1, [x0]; add x0, x0; blr x1`, `adrp x0; ldr x0, [x0]` and `adrp x0; add x0, x0`
 abbrev pub call_item : Item
@@ -98,7 +98,7 @@ pub record SlotAddendsAreRefused : Type 0 where
 
 -- for an absolute symbol in an output that can be loaded at any base, both relocations of a page pair are only checked at base 0
 abbrev pub PairsAreExcepted : Type 0
-PairsAreExcepted = (l : Layout) (item : Item) (r first : InputRelocation) (start i : ℕ) → IsTemplate l item r start address_pair_words first → IsMovable l.kind → r.symbol ≡ Some i → IsAbsolute l i → IsExcepted l item r
+PairsAreExcepted = (l : Layout) (item : Item) (r first : InputRelocation) (start i : ℕ) → IsTemplate l item r start address_pair_words first → IsMovable l.kind → r.symbol ≡ Some i → IsAbsolute l i → IsCheckedAtZeroOnly l item r
 
 -- `movn` has no meaning here, so it is not an instruction that a relocation type fills
 abbrev pub NegatedMovesAreUnknown : Type 0

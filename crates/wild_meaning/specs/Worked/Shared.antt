@@ -2,7 +2,7 @@
 -- of each sort. In its world other modules have definitions of the interposable symbols.
 --   shared_data, shared_item   its data, and their required content
 --   shared_code, code_item     its code
---   shared                     the layout
+--   shared_layout                     the layout
 --   shared_world               a world with base 0x10000, where it is module 2
 use Rattle.std.specs.Prelude.{ℕ, List, [], ◌∷◌, Some, None}
 use lib.IntN.{pos, negsuc}
@@ -16,24 +16,24 @@ use Rattle.wild_types.specs.declared.layout.Layout.{Layout}
 use Rattle.wild_loader.specs.declared.world.Answer.{Answer}
 use Rattle.wild_loader.specs.declared.world.World.{World}
 use Rattle.wild_types.specs.Item.{Item, item_with}
-use Rattle.wild_meaning.specs.Worked.Builders.{given, reference, input, one_file, loaded, dynamic_at}
+use Rattle.wild_meaning.specs.Worked.Builders.{resolved_symbol, reference, input, one_file, loaded_segment, dynamic_at}
 
 -- its own symbol, with a slot (NON_INTERPOSABLE, GOT)
 abbrev pub own_symbol : Symbol
-own_symbol = given 0x28 0x1100 8 None (Some 0x2000) None
+own_symbol = resolved_symbol 0x28 0x1100 8 None (Some 0x2000) None
 
 -- an own symbol that is interposable, with a slot (EXPORT_DYNAMIC, GOT)
 abbrev pub open_symbol : Symbol
-open_symbol = given 0x820 0x1110 16 (Some 1) (Some 0x2008) None
+open_symbol = resolved_symbol 0x820 0x1110 16 (Some 1) (Some 0x2008) None
 
 -- its own thread-local data, with an offset, a pair and a descriptor (NON_INTERPOSABLE, GOT_TLS_OFFSET, GOT_TLS_MODULE,
 -- GOT_TLS_DESCRIPTOR)
 abbrev pub own_thread : Symbol
-own_thread = given 0x388 0x3008 8 None (Some 0x2010) None
+own_thread = resolved_symbol 0x388 0x3008 8 None (Some 0x2010) None
 
 -- thread-local data of another module, with an offset and a pair (DYNAMIC, GOT_TLS_OFFSET, GOT_TLS_MODULE)
 abbrev pub other_thread : Symbol
-other_thread = given 0x182 0 8 (Some 2) (Some 0x2038) None
+other_thread = resolved_symbol 0x182 0 8 (Some 2) (Some 0x2038) None
 
 -- a reference of each sort, in data
 abbrev pub shared_references : List InputRelocation
@@ -78,11 +78,11 @@ abbrev pub code_item : Item
 code_item = item_with 0 shared_code
 
 -- the layout: data and code from 0x1000 on, slots at 0x2000, then the dynamic section, thread-local data from 0x3000 to 0x3010
-abbrev pub shared : Layout
-shared = record empty_layout {
+abbrev pub shared_layout : Layout
+shared_layout = record empty_layout {
   kind = output.SharedObject;
   page_size = 0x1000;
-  segments = loaded 0x1000 0x2010 0x2010 ∷ dynamic_at 0x2060 0x40 ∷ [];
+  segments = loaded_segment 0x1000 0x2010 0x2010 ∷ dynamic_at 0x2060 0x40 ∷ [];
   tls = record { start = 0x3000; end = 0x3010; align = 8 };
   got_base = 0x2000;
   tlsld = Some 0x2048;
@@ -91,15 +91,15 @@ shared = record empty_layout {
 }
 
 -- definitions in other modules: data in module 3, and thread-local data in module 4
-abbrev pub answered : ℕ → ℕ → ℕ → ℕ → Answer
-answered address owner offset size = record { address = address; «module» = owner; offset = offset; size = size; bytes = [] }
+abbrev pub answer_of_module : ℕ → ℕ → ℕ → ℕ → Answer
+answer_of_module address owner offset size = record { address = address; «module» = owner; offset = offset; size = size; bytes = [] }
 
 -- a world with base 0x10000: the output is module 2, module 3 has the interposable symbol, with another size, and module 4 has
 -- the thread-local data
 abbrev pub shared_world : World
 shared_world = record {
   base = 0x10000;
-  symbols = answered 0 3 0 0 ∷ answered 0x700010 3 0 24 ∷ answered 0 4 0x20 8 ∷ [];
+  symbols = answer_of_module 0 3 0 0 ∷ answer_of_module 0x700010 3 0 24 ∷ answer_of_module 0 4 0x20 8 ∷ [];
   resolvers = [];
   modules = (2, negsuc 0x5f) ∷ (3, negsuc 0xfff) ∷ (4, negsuc 0x1fff) ∷ [];
   own_module = 2;

@@ -8,16 +8,16 @@ use Rattle.wild_loader.specs.Memory.{number_in, Holds}
 use Rattle.wild_meaning.specs.World.{IsLegal}
 use Rattle.wild_meaning.specs.Slot.{HasWord}
 use Rattle.wild_meaning.specs.Worked.Builders.{Refuses}
-use Rattle.wild_meaning.specs.Worked.Shared.{shared, shared_world}
+use Rattle.wild_meaning.specs.Worked.Shared.{shared_layout, shared_world}
 use Rattle.wild_meaning.specs.Worked.Refusals.{HasWrongNumber, NamesWrongWord, NamesWrongModule, NamesWrongDescriptor, HasWrongByte}
 
 -- the world is legal: the output is its module 2; other symbols' modules are 3 and 4, at different distances
 abbrev pub SharedWorldIsLegal : Type 0
-SharedWorldIsLegal = IsLegal shared shared_world
+SharedWorldIsLegal = IsLegal shared_layout shared_world
 
 -- no image of the shared object is linked in its world if memory is wrong in that way
 abbrev pub Refused : (Memory → Type 0) → Type 0
-Refused Wrong = Refuses shared shared_world Wrong
+Refused Wrong = Refuses shared_layout shared_world Wrong
 
 -- the thread-pointer offsets of its own thread-local data, and of those of module 4
 abbrev pub own_offset : ℕ

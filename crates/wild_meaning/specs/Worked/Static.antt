@@ -18,22 +18,22 @@ use Rattle.wild_types.specs.declared.layout.Layout.{Layout}
 use Rattle.wild_loader.specs.declared.world.World.{World}
 use Rattle.wild_types.specs.Item.{Item, item_with}
 use Rattle.wild_meaning.specs.Partners.{tls_get_addr}
-use Rattle.wild_meaning.specs.Worked.Builders.{given, reference, input, one_file, loaded}
+use Rattle.wild_meaning.specs.Worked.Builders.{resolved_symbol, reference, input, one_file, loaded_segment}
 
 -- functions: one with a slot (NON_INTERPOSABLE, GOT), and one without
 abbrev pub first_function : Symbol
-first_function = given 0x28 0x1200 8 None (Some 0x2000) None
+first_function = resolved_symbol 0x28 0x1200 8 None (Some 0x2000) None
 
 abbrev pub second_function : Symbol
-second_function = given 8 0x1210 8 None None None
+second_function = resolved_symbol 8 0x1210 8 None None None
 
 -- thread-local data, with a pair and a descriptor (NON_INTERPOSABLE, GOT_TLS_MODULE, GOT_TLS_DESCRIPTOR)
 abbrev pub thread_symbol : Symbol
-thread_symbol = given 0x308 0x3008 8 None (Some 0x2008) None
+thread_symbol = resolved_symbol 0x308 0x3008 8 None (Some 0x2008) None
 
 -- the function that returns thread-local addresses
 abbrev pub getter_symbol : Symbol
-getter_symbol = record (given 8 0x1220 8 None None None) { name = tls_get_addr }
+getter_symbol = record (resolved_symbol 8 0x1220 8 None None None) { name = tls_get_addr }
 
 -- `call`
 abbrev pub branch_reference : InputRelocation
@@ -91,7 +91,7 @@ static_pie = record empty_layout {
   kind = output.StaticExecutable model.Relocatable;
   options = record no_options { relax = true };
   page_size = 0x1000;
-  segments = loaded 0x1000 0x110 0x110 ∷ [];
+  segments = loaded_segment 0x1000 0x110 0x110 ∷ [];
   tls = record { start = 0x3000; end = 0x3010; align = 16 };
   got_base = 0x2000;
   symbols = first_function ∷ second_function ∷ thread_symbol ∷ getter_symbol ∷ [];

@@ -14,8 +14,8 @@ use Rattle.wild_types.specs.declared.layout.Layout.{Layout}
 use Rattle.wild_loader.specs.declared.memory.Memory.{Memory}
 use Rattle.wild_loader.specs.Memory.{Holds}
 use Rattle.wild_meaning.specs.World.{IsLegal}
-use Rattle.wild_meaning.specs.Linked.{IsLinked}
-use Rattle.wild_meaning.specs.Worked.Builders.{Refuses, blank, one_file}
+use Rattle.wild_meaning.specs.LinkedImage.{IsLinked}
+use Rattle.wild_meaning.specs.Worked.Builders.{Refuses, section_without_data, one_file}
 use Rattle.wild_meaning.specs.Worked.Static.{static_pie, static_pie_world}
 use Rattle.wild_meaning.specs.Worked.StaticImage.{static_image}
 use Rattle.wild_meaning.specs.Worked.Refusals.{HasWrongNumber, HasWrongByte}
@@ -24,8 +24,8 @@ abbrev pub StaticPieWorldIsLegal : Type 0
 StaticPieWorldIsLegal = IsLegal static_pie static_pie_world
 
 -- memory has these bytes at an address
-abbrev pub Has : ℕ → List ℕ → Memory → Type 0
-Has a bs m = Holds m a bs
+abbrev pub MemoryHas : ℕ → List ℕ → Memory → Type 0
+MemoryHas a bs m = Holds m a bs
 
 -- an address that does not move with the base, an offset from the thread pointer that does, and an entry that does
 pub record WrongDataAreRefused : Type 0 where
@@ -38,8 +38,8 @@ abbrev pub another_branch : List ℕ
 another_branch = 0xe8 ∷ 0x0b ∷ 0x02 ∷ 0 ∷ 0 ∷ []
 
 -- `lea rax, [rip + first + 1]`, where the input loads the first function's address
-abbrev pub load_past : List ℕ
-load_past = 0x48 ∷ 0x8d ∷ 0x05 ∷ 0xea ∷ 0x01 ∷ 0 ∷ 0 ∷ []
+abbrev pub load_one_byte_off : List ℕ
+load_one_byte_off = 0x48 ∷ 0x8d ∷ 0x05 ∷ 0xea ∷ 0x01 ∷ 0 ∷ 0 ∷ []
 
 -- `mov rax, -8`, a nop, and the original call
 abbrev pub half_sequence : List ℕ
@@ -52,27 +52,27 @@ descriptor_load = 0x48 ∷ 0x8d ∷ 0x05 ∷ 0xd1 ∷ 0x0f ∷ 0 ∷ 0 ∷ []
 -- Refused are a branch to another symbol; a load rewritten to one byte past the symbol; a sequence whose first instruction is
 -- rewritten but whose call remains; and a descriptor's address where its offset is required.
 pub record WrongCodeIsRefused : Type 0 where
-  pub branch : Refuses static_pie static_pie_world (Has 0x41000 another_branch)
-  pub load : Refuses static_pie static_pie_world (Has 0x41010 load_past)
-  pub sequence : Refuses static_pie static_pie_world (Has 0x41020 half_sequence)
-  pub descriptor : Refuses static_pie static_pie_world (Has 0x41040 descriptor_load)
+  pub branch : Refuses static_pie static_pie_world (MemoryHas 0x41000 another_branch)
+  pub load : Refuses static_pie static_pie_world (MemoryHas 0x41010 load_one_byte_off)
+  pub sequence : Refuses static_pie static_pie_world (MemoryHas 0x41020 half_sequence)
+  pub descriptor : Refuses static_pie static_pie_world (MemoryHas 0x41040 descriptor_load)
 
 -- the same program with one input section, without data, in a section that has bytes in the file
 abbrev pub padded_section : Section
 padded_section = record { name = []; kind = sht_progbits; flags = 3; address = 0x1000; offset = 0x1000; size = 0x110; link = 0; info = 0; align = 16; entsize = 0; fill = None; section_symbol = false }
 
 abbrev pub padded_blank : InputSection
-padded_blank = blank 0x1100 16
+padded_blank = section_without_data 0x1100 16
 
-abbrev pub padded : Layout
-padded = record static_pie {
+abbrev pub padded_layout : Layout
+padded_layout = record static_pie {
   sections = padded_section ∷ padded_section ∷ [];
   parts = record { role = role.Raw; section = 1; offset = 0x1000; address = 0x1000; size = 0x110; align = 16 } ∷ [];
   groups = one_file (padded_blank ∷ []);
 }
 
 abbrev pub WrongBlankIsRefused : Type 0
-WrongBlankIsRefused = Refuses padded static_pie_world (HasWrongByte 0x41104 0)
+WrongBlankIsRefused = Refuses padded_layout static_pie_world (HasWrongByte 0x41104 0)
 
 -- an image is linked in the world, so the refusals are not vacuous
 abbrev pub StaticImageIsLinked : Type 0

@@ -1,8 +1,8 @@
 -- A worked program with merged strings, and with words that are written in reverse order.
 --   pointer_item   an address of a byte in the middle of a string
---   turned_item    two words; in the input the address is first
---   strung         the layout
---   strung_memory  the memory into which a loader turns it in the world of the program without a dynamic linker
+--   reversed_item    two words; in the input the address is first
+--   strings_layout         the layout
+--   strings_memory  the memory into which a loader turns it in the world of the program without a dynamic linker
 use Rattle.std.specs.Prelude.{[], ◌∷◌, None, true}
 use lib.IntN.{pos}
 use Rattle.wild_records.specs.Abi.Relocation.{r_x86_64_64}
@@ -19,7 +19,7 @@ use Rattle.wild_types.specs.declared.layout.Layout.{Layout}
 use Rattle.wild_loader.specs.declared.memory.Machine.TheVariants as processors
 use Rattle.wild_loader.specs.declared.memory.Memory.{Memory}
 use Rattle.wild_types.specs.Item.{Item}
-use Rattle.wild_meaning.specs.Item.{stood_item}
+use Rattle.wild_meaning.specs.Item.{placed_item}
 use Rattle.wild_meaning.specs.Worked.Builders.{reference, input, file_of, group_of}
 use Rattle.wild_meaning.specs.Worked.Static.{static_pie, second_function}
 
@@ -45,21 +45,21 @@ abbrev pub pointer_data : InputSection
 pointer_data = input 0x1100 3 (0 ∷ 0 ∷ 0 ∷ 0 ∷ 0 ∷ 0 ∷ 0 ∷ 0 ∷ []) (string_reference ∷ [])
 
 -- an address, and a word without a relocation; in the output the word is first
-abbrev pub turned_data : InputSection
-turned_data = record (input 0x1110 3 (0 ∷ 0 ∷ 0 ∷ 0 ∷ 0 ∷ 0 ∷ 0 ∷ 0 ∷ 7 ∷ 0 ∷ 0 ∷ 0 ∷ 0 ∷ 0 ∷ 0 ∷ 0 ∷ []) (reference 0 r_x86_64_64 1 (pos 0) ∷ [])) { reversed = true }
+abbrev pub reversed_data : InputSection
+reversed_data = record (input 0x1110 3 (0 ∷ 0 ∷ 0 ∷ 0 ∷ 0 ∷ 0 ∷ 0 ∷ 0 ∷ 7 ∷ 0 ∷ 0 ∷ 0 ∷ 0 ∷ 0 ∷ 0 ∷ 0 ∷ []) (reference 0 r_x86_64_64 1 (pos 0) ∷ [])) { reversed = true }
 
-abbrev pub strung_file : File
-strung_file = record (file_of file_role.Object (pointer_data ∷ turned_data ∷ string_section ∷ []) []) { symbol_count = 2 }
+abbrev pub strings_file : File
+strings_file = record (file_of file_role.Object (pointer_data ∷ reversed_data ∷ string_section ∷ []) []) { symbol_count = 2 }
 
-abbrev pub strung : Layout
-strung = record static_pie { symbols = string_symbol ∷ second_function ∷ []; groups = group_of (strung_file ∷ []) ∷ [] }
+abbrev pub strings_layout : Layout
+strings_layout = record static_pie { symbols = string_symbol ∷ second_function ∷ []; groups = group_of (strings_file ∷ []) ∷ [] }
 
 abbrev pub pointer_item : Item
-pointer_item = stood_item strung strung_file pointer_data
+pointer_item = placed_item strings_layout strings_file pointer_data
 
-abbrev pub turned_item : Item
-turned_item = stood_item strung strung_file turned_data
+abbrev pub reversed_item : Item
+reversed_item = placed_item strings_layout strings_file reversed_data
 
 -- at base 0x40000
-abbrev pub strung_memory : Memory
-strung_memory = record { machine = processors.X86_64; runs = record { start = 0x41100; bytes = 0x0a ∷ 0x12 ∷ 0x04 ∷ 0 ∷ 0 ∷ 0 ∷ 0 ∷ 0 ∷ [] } ∷ []; descriptors = [] }
+abbrev pub strings_memory : Memory
+strings_memory = record { machine = processors.X86_64; runs = record { start = 0x41100; bytes = 0x0a ∷ 0x12 ∷ 0x04 ∷ 0 ∷ 0 ∷ 0 ∷ 0 ∷ 0 ∷ [] } ∷ []; descriptors = [] }
