@@ -92,8 +92,8 @@ impl PartBytes {
         write_data(alloc, resolved, origin, item, &mut self.entries[from..])
     }
 
-    /// Appends the bytes of a debug section of a final output with its relocations applied, or returns its first fault, with its place in
-    /// the input. `workers` threads share a large section.
+    /// Appends the bytes of a placed debug section with its relocations applied, or returns its first fault, with its place in the input.
+    /// The threads of `by` share a large section.
     pub fn add_debug<A: ShardedArch, R: Threads + Sync>(
         &mut self,
         by: &Workers<R>,

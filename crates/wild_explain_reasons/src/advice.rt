@@ -1,4 +1,4 @@
-//! What a loader, or a program at work, would stumble over in a layout without faults.
+//! Advice for a layout without faults: mistakes that would show only when its image is loaded or run.
 
 use crate::items::Item;
 use crate::linking::{push_library, push_listed, push_local, push_path};
@@ -23,33 +23,26 @@ fn segment_of(layout: &Layout, kind: u32) -> Option<(usize, Segment)> {
     None
 }
 
-/// Whether a kernel that maps the second segment puts other file bytes over the end of the first (gABI, "Program Loading").
-fn shares_page(layout: &Layout, first: &Segment, second: &Segment) -> bool {
-    let last = first
-        .address
-        .saturating_add(first.mem_size.saturating_sub(1));
-    let is_even = first.address.saturating_add(second.offset)
-        == second.address.saturating_add(first.offset);
-    let page = if layout.page_size == 0 {
-        1
-    } else {
-        layout.page_size
-    };
-    first.mem_size != 0 && second.mem_size != 0 && !is_even && second.address / page <= last / page
-}
-
-/// Adds the loaded segments that share a page with the one before them.
+/// Adds the loaded segments that share a page with the one before them, where a kernel puts other file bytes over the end of the first
+/// (gABI, "Program Loading").
 fn push_pages(out: &mut String, layout: &Layout) -> Result<(), AllocError> {
+    let page = layout.page_size.max(1);
     let mut before: Option<(usize, Segment)> = None;
     for (i, segment) in layout.segments.as_slice().iter().enumerate() {
         if segment.kind == PT_LOAD {
-            if let Some((first, found)) = before
-                && shares_page(layout, &found, segment)
-            {
-                writeln!(
-                    out,
-                    "advice: /segments/{i} begins in the last memory page of /segments/{first}, at another distance from the file: a kernel maps its page over the other's bytes"
-                )?;
+            if let Some((first, found)) = before {
+                let last = found
+                    .address
+                    .saturating_add(found.mem_size.saturating_sub(1));
+                let is_even = found.address.saturating_add(segment.offset)
+                    == segment.address.saturating_add(found.offset);
+                let has_both = found.mem_size != 0 && segment.mem_size != 0;
+                if has_both && !is_even && segment.address / page <= last / page {
+                    writeln!(
+                        out,
+                        "advice: /segments/{i} begins in the last memory page of /segments/{first}, at another distance from the file: a kernel maps its page over the other's bytes"
+                    )?;
+                }
             }
             before = Some((i, *segment));
         }
@@ -57,8 +50,8 @@ fn push_pages(out: &mut String, layout: &Layout) -> Result<(), AllocError> {
     Ok(())
 }
 
-/// Adds what is wrong with the segment of thread-local data.
-fn push_thread_data(out: &mut String, layout: &Layout) -> Result<(), AllocError> {
+/// Adds what is wrong with the segment of thread-local data, and the segments that a dynamic executable lacks.
+fn push_segments(out: &mut String, layout: &Layout) -> Result<(), AllocError> {
     let (start, end, align) = (layout.tls.start, layout.tls.end, layout.tls.align);
     let size = end.saturating_sub(start);
     match segment_of(layout, PT_TLS) {
@@ -76,11 +69,6 @@ fn push_thread_data(out: &mut String, layout: &Layout) -> Result<(), AllocError>
         }
         _ => {}
     }
-    Ok(())
-}
-
-/// Adds the segments that a dynamic executable lacks.
-fn push_interpreter(out: &mut String, layout: &Layout) -> Result<(), AllocError> {
     if !matches!(layout.kind, OutputKind::DynamicExecutable(_)) {
         return Ok(());
     }
@@ -131,25 +119,22 @@ fn push_overlaps(out: &mut String, layout: &Layout) -> Result<(), AllocError> {
     Ok(())
 }
 
-/// The first loaded segment whose file bytes have that address.
-fn filled_by(layout: &Layout, address: u64) -> Option<usize> {
-    for (i, segment) in layout.segments.as_slice().iter().enumerate() {
-        let end = segment.address.saturating_add(segment.file_size);
-        if segment.kind == PT_LOAD && segment.address <= address && address < end {
-            return Some(i);
-        }
-    }
-    None
-}
-
 /// Adds zeroed sections that a segment fills with file bytes.
 fn push_zeros(out: &mut String, layout: &Layout) -> Result<(), AllocError> {
     for (i, section) in layout.sections.as_slice().iter().enumerate() {
+        let address = section.address;
+        let mut filled_by = None;
+        for (j, segment) in layout.segments.as_slice().iter().enumerate() {
+            let end = segment.address.saturating_add(segment.file_size);
+            let is_in = segment.address <= address && address < end;
+            if filled_by.is_none() && segment.kind == PT_LOAD && is_in {
+                filled_by = Some(j);
+            }
+        }
         if section.is_without_data()
             && has_addresses(section)
-            && let Some(segment) = filled_by(layout, section.address)
+            && let Some(segment) = filled_by
         {
-            let address = section.address;
             write!(
                 out,
                 "advice: /segments/{segment}/file_size reaches address {address} of "
@@ -161,10 +146,11 @@ fn push_zeros(out: &mut String, layout: &Layout) -> Result<(), AllocError> {
     Ok(())
 }
 
-/// Adds a base of the GOT that is not in it.
-fn push_base(out: &mut String, layout: &Layout) -> Result<(), AllocError> {
+/// Adds a base of the GOT that is not in it, and parts of hash tables without a shape.
+fn push_tables(out: &mut String, layout: &Layout) -> Result<(), AllocError> {
     let base = layout.got_base;
-    if let Some(part) = part_with(Role::Got, layout.parts.as_slice()) {
+    let parts = layout.parts.as_slice();
+    if let Some(part) = part_with(Role::Got, parts) {
         let (start, end) = (part.address, part.address.saturating_add(part.size));
         if base < start || end < base {
             writeln!(
@@ -173,12 +159,6 @@ fn push_base(out: &mut String, layout: &Layout) -> Result<(), AllocError> {
             )?;
         }
     }
-    Ok(())
-}
-
-/// Adds parts of hash tables without a shape.
-fn push_shapes(out: &mut String, layout: &Layout) -> Result<(), AllocError> {
-    let parts = layout.parts.as_slice();
     if is_there(Role::SysvHash, parts) && layout.sysv_hash.is_none() {
         writeln!(
             out,
@@ -194,22 +174,7 @@ fn push_shapes(out: &mut String, layout: &Layout) -> Result<(), AllocError> {
     Ok(())
 }
 
-/// Whether a writable section has all these addresses.
-fn has_room(layout: &Layout, address: u64, size: u64) -> bool {
-    for section in layout.sections.as_slice() {
-        let end = section.address.saturating_add(section.size);
-        if is_allocated(section.flags)
-            && is_writable(section.flags)
-            && section.address <= address
-            && address.saturating_add(size) <= end
-        {
-            return true;
-        }
-    }
-    false
-}
-
-/// Adds the copies of a library that have no room in writable data.
+/// Adds the copies of a library's symbols that have no room in writable data.
 fn push_copies(out: &mut String, layout: &Layout, file: &File) -> Result<(), AllocError> {
     for copy in file.copied() {
         let definition: SymbolIndex = layout.canonical(*copy);
@@ -221,7 +186,14 @@ fn push_copies(out: &mut String, layout: &Layout, file: &File) -> Result<(), All
             None => 0,
         };
         let size = symbol.size;
-        if !has_room(layout, address, size) {
+        let mut has_room = false;
+        for section in layout.sections.as_slice() {
+            let end = section.address.saturating_add(section.size);
+            let is_in = section.address <= address && address.saturating_add(size) <= end;
+            has_room = has_room
+                || is_allocated(section.flags) && is_writable(section.flags) && is_in;
+        }
+        if !has_room {
             write!(out, "advice: the copy of ")?;
             push_symbol(out, layout, definition.0)?;
             writeln!(
@@ -233,7 +205,7 @@ fn push_copies(out: &mut String, layout: &Layout, file: &File) -> Result<(), All
     Ok(())
 }
 
-/// Adds an entry that no executable segment has.
+/// Adds an entry address that is in no executable segment.
 fn push_entry(out: &mut String, layout: &Layout) -> Result<(), AllocError> {
     let (entry, _) = elf_entry_address(layout);
     let mut is_executable = false;
@@ -252,41 +224,27 @@ fn push_entry(out: &mut String, layout: &Layout) -> Result<(), AllocError> {
     Ok(())
 }
 
-/// Adds what a loader would stumble over in a file and in what is written for it.
-fn push_file(
-    out: &mut String,
-    layout: &Layout,
-    barriers: &Barriers,
-    at: (usize, usize),
-    file: &File,
-) -> Result<(), AllocError> {
-    let (group, number) = at;
-    push_copies(out, layout, file)?;
-    push_library(out, layout, "advice", Item::File(group, number), file)?;
-    push_local(out, layout, file)?;
-    push_slots(out, layout, barriers, file)?;
-    push_stores(out, layout, barriers, at, file)
-}
-
-/// Adds what a loader, or a program at work, would stumble over; nothing loads a relocatable object.
+/// Adds what would go wrong when the image is loaded or run. A relocatable object is not loaded.
 pub fn push_advice(out: &mut String, alloc: Global, layout: &Layout) -> Result<(), AllocError> {
     if layout.kind.is_partial_link() {
         return Ok(());
     }
     push_pages(out, layout)?;
-    push_thread_data(out, layout)?;
-    push_interpreter(out, layout)?;
+    push_segments(out, layout)?;
     push_overlaps(out, layout)?;
     push_zeros(out, layout)?;
-    push_base(out, layout)?;
-    push_shapes(out, layout)?;
+    push_tables(out, layout)?;
     push_entry(out, layout)?;
     push_path(out, layout, "advice")?;
     push_listed(out, layout)?;
     let barriers = Barriers::of(alloc, layout)?;
     for (i, group) in layout.groups.as_slice().iter().enumerate() {
         for (j, file) in group.files.as_slice().iter().enumerate() {
-            push_file(out, layout, &barriers, (i, j), file)?;
+            push_copies(out, layout, file)?;
+            push_library(out, layout, "advice", Item::File(i, j), file)?;
+            push_local(out, layout, file)?;
+            push_slots(out, layout, &barriers, file)?;
+            push_stores(out, layout, &barriers, (i, j), file)?;
         }
     }
     Ok(())

@@ -1,4 +1,4 @@
-//! What each clause asks, which members are likely wrong where it fails, and which of its tests an item fails.
+//! For each clause: its name, the members that are likely wrong if it fails, and the first of its tests that an item fails.
 
 use crate::fronts::{is_named_once, test_merged, test_sorted, types_before};
 use crate::headers::{first_of, test_part, test_section, test_segment};
@@ -20,7 +20,7 @@ use std::alloc::AllocError;
 use std::fmt::Write;
 use wild_types::{Layout, Role, has_role};
 
-/// Of each clause its number, its name, and what is likely wrong in a plan that fails it.
+/// The number of each clause, its name, and what is likely wrong in a plan that fails it.
 const CLAUSES: [(u32, &str, &str); 22] = [
     (
         1,
@@ -134,7 +134,7 @@ const CLAUSES: [(u32, &str, &str); 22] = [
     ),
 ];
 
-/// The item, where it fails.
+/// The item, if it fails.
 fn finding(item: Item, verdict: Verdict) -> Option<Finding> {
     if verdict.fails {
         Some(Finding { item, verdict })
@@ -144,7 +144,7 @@ fn finding(item: Item, verdict: Verdict) -> Option<Finding> {
 }
 
 /// The first file of a group that fails a test.
-fn find_file(layout: &Layout, group: usize, test: FileTest) -> Option<Finding> {
+fn find_file(layout: &Layout, group: usize, test: &FileTest) -> Option<Finding> {
     let found = layout.groups.as_slice().get(group)?;
     for (i, file) in found.files.as_slice().iter().enumerate() {
         let verdict = test_file(layout, group, i, file, test);
@@ -156,7 +156,7 @@ fn find_file(layout: &Layout, group: usize, test: FileTest) -> Option<Finding> {
 }
 
 /// The first input section of a group that fails a test.
-fn find_input(layout: &Layout, group: usize, test: InputTest) -> Option<Finding> {
+fn find_input(layout: &Layout, group: usize, test: &InputTest) -> Option<Finding> {
     let is_of_range = match test {
         InputTest::Before | InputTest::Behind => true,
         _ => false,
@@ -204,8 +204,8 @@ fn placed(layout: &Layout, index: usize) -> Option<Finding> {
     finding(Item::Symbol(symbol), verdict)
 }
 
-/// The item that fails a test, where the clause fails at an index.
-fn find(layout: &Layout, index: usize, test: Test) -> Option<Finding> {
+/// The item that fails a test of a clause that fails at an index.
+fn find(layout: &Layout, index: usize, test: &Test) -> Option<Finding> {
     match test {
         Test::Plan(test) => finding(Item::Plan, test_plan(layout, index, test)),
         Test::Part(test) => {
@@ -213,7 +213,7 @@ fn find(layout: &Layout, index: usize, test: Test) -> Option<Finding> {
             finding(Item::Part(index), test_part(layout, index, part, test))
         }
         Test::Of(role, test) => {
-            let (place, part) = first_of(layout, role)?;
+            let (place, part) = first_of(layout, *role)?;
             finding(Item::Part(place), test_part(layout, place, &part, test))
         }
         Test::Section(test) => {
@@ -277,17 +277,19 @@ fn find(layout: &Layout, index: usize, test: Test) -> Option<Finding> {
     }
 }
 
-/// Adds the member of an item, with the role of a part, or the relocation that fails.
-fn push_member(
+/// Adds what fails, its path, what the plan has there, and what was expected.
+fn push_row(
     out: &mut String,
     layout: &Layout,
-    item: Item,
-    test: Test,
-    member: &str,
+    index: usize,
+    row: &Row,
+    found: Finding,
 ) -> Result<(), AllocError> {
-    push_item(out, item)?;
+    let (_, test, what, member) = row;
+    write!(out, "what: {what}\nwhere: ")?;
+    push_item(out, found.item)?;
     write!(out, "{member}")?;
-    match (item, test) {
+    match (found.item, test) {
         (Item::Part(part), _) => {
             let word = part_word(layout, part);
             write!(out, " ({word})")?;
@@ -301,20 +303,6 @@ fn push_member(
         }
         _ => {}
     }
-    Ok(())
-}
-
-/// Adds what fails, where, what stands there, and what was expected.
-fn push_row(
-    out: &mut String,
-    layout: &Layout,
-    index: usize,
-    row: Row,
-    found: Finding,
-) -> Result<(), AllocError> {
-    let (_, test, what, member) = row;
-    write!(out, "what: {what}\nwhere: ")?;
-    push_member(out, layout, found.item, test, member)?;
     write!(out, "\nfound: ")?;
     match test {
         Test::Plan(test) => push_plan(out, layout, index, test)?,
@@ -338,7 +326,7 @@ fn push_row(
     Ok(())
 }
 
-/// Adds the first test of some that an item fails; says whether one does.
+/// Adds the first of some tests that an item fails. Returns whether there is one.
 fn push_first(
     out: &mut String,
     layout: &Layout,
@@ -348,9 +336,9 @@ fn push_first(
 ) -> Result<bool, AllocError> {
     for row in rows {
         if row.0 == clause
-            && let Some(found) = find(layout, index, row.1)
+            && let Some(found) = find(layout, index, &row.1)
         {
-            push_row(out, layout, index, *row, found)?;
+            push_row(out, layout, index, row, found)?;
             return Ok(true);
         }
     }

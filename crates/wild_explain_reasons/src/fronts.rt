@@ -1,26 +1,24 @@
 //! Tests of the order of sections, of merged strings, of the linker's name of itself and of properties.
 
-use crate::items::SectionPlace;
+use crate::items::{SectionPlace, section_at};
 use crate::tests::{MergedTest, PlanTest, SortedTest};
 use crate::verdict::{Verdict, due, plain};
 use wild_types::{InputSection, Layout, Merged, Role, Slot, SortedSection, has_role};
 
-/// The input section that an entry of the order names.
-fn named(layout: &Layout, entry: SortedSection) -> Option<&InputSection> {
-    let group = layout.groups.as_slice().get(entry.group)?;
-    let file = group.files.as_slice().get(entry.file)?;
-    file.sections.as_slice().get(entry.section)
-}
-
 /// Whether an entry of the order fails a test.
-pub(crate) fn test_sorted(layout: &Layout, entry: SortedSection, test: SortedTest) -> bool {
-    match (named(layout, entry), test) {
+pub(crate) fn test_sorted(layout: &Layout, entry: SortedSection, test: &SortedTest) -> bool {
+    let at = SectionPlace {
+        group: entry.group,
+        file: entry.file,
+        section: entry.section,
+    };
+    match (section_at(layout, at), test) {
         (Some(section), SortedTest::Other) => !matches!(section.slot, Slot::Sorted),
         (found, _) => found.is_none(),
     }
 }
 
-/// Whether a sorted section is named once; others need not be.
+/// Whether a sorted section is named exactly once; other sections need not be.
 pub(crate) fn is_named_once(layout: &Layout, at: SectionPlace, section: &InputSection) -> bool {
     let mut times: usize = 0;
     for entry in layout.sorted.as_slice() {
@@ -39,7 +37,7 @@ fn is_raw(layout: &Layout, part: usize) -> bool {
     }
 }
 
-/// The room of a part in the first group.
+/// The first group's share of a part.
 fn room(layout: &Layout, part: usize) -> u64 {
     match layout.groups.as_slice().get(0) {
         Some(group) => group.given(part),
@@ -81,7 +79,7 @@ pub(crate) fn test_merged(
     layout: &Layout,
     index: usize,
     merged: &Merged,
-    test: MergedTest,
+    test: &MergedTest,
 ) -> Verdict {
     let size = size_of(merged);
     match test {
@@ -98,7 +96,7 @@ pub(crate) fn test_merged(
 }
 
 /// Whether the linker's name of itself fails a test.
-pub(crate) fn test_identity(layout: &Layout, test: PlanTest) -> Verdict {
+pub(crate) fn test_identity(layout: &Layout, test: &PlanTest) -> Verdict {
     let (part, size) = (layout.identity.part, layout.identity.bytes.len() as u64);
     match test {
         PlanTest::IdentityPart => plain(part >= layout.parts.len()),
@@ -121,7 +119,7 @@ pub(crate) fn types_before(layout: &Layout, ptype: u32, index: usize) -> bool {
     false
 }
 
-/// Whether the path of the interpreter does not end with its only zero byte, where there is one.
+/// Whether a path is not empty and does not end with its only zero byte.
 pub(crate) fn ends_without_zero(path: &[u8]) -> bool {
     for (i, byte) in path.iter().enumerate() {
         if *byte == 0 {

@@ -13,7 +13,7 @@ pub(crate) fn ends_high(start: u64, size: u64) -> bool {
     start.saturating_add(size) > 1 << 62
 }
 
-/// Whether bytes lie in others.
+/// Whether a range lies in another.
 fn lies_within(start: u64, size: u64, inner: u64, inner_size: u64) -> bool {
     start <= inner && inner.saturating_add(inner_size) <= start.saturating_add(size)
 }
@@ -29,7 +29,7 @@ pub(crate) fn first_of(layout: &Layout, role: Role) -> Option<(usize, Part)> {
 }
 
 /// The sum of the shares of a part of so many groups, at most 2^64 - 1.
-pub(crate) fn given_before(layout: &Layout, part: usize, group: usize) -> u64 {
+pub(crate) fn shares_before(layout: &Layout, part: usize, group: usize) -> u64 {
     let mut sum: u64 = 0;
     for (i, found) in layout.groups.as_slice().iter().enumerate() {
         if i < group {
@@ -39,7 +39,7 @@ pub(crate) fn given_before(layout: &Layout, part: usize, group: usize) -> u64 {
     sum
 }
 
-/// The end in the file of the parts ahead.
+/// The file offset after the parts before one.
 fn end_before(layout: &Layout, index: usize) -> u64 {
     let mut end = 0;
     for (i, part) in layout.parts.as_slice().iter().enumerate() {
@@ -62,38 +62,25 @@ fn lies_in(layout: &Layout, section: &Section, part: &Part) -> bool {
         && (!is_allocated(section.flags) || is_even)
 }
 
-/// Whether a segment has the file bytes of a part, or where nothing of its section is written its addresses.
-fn holds_part(layout: &Layout, part: &Part, segment: &Segment) -> bool {
-    if layout.is_hollow_at(part.section) {
-        return lies_within(segment.address, segment.mem_size, part.address, part.size);
-    }
-    lies_within(segment.offset, segment.file_size, part.offset, part.size)
-        && part.offset.saturating_add(segment.address)
-            == part.address.saturating_add(segment.offset)
-}
-
-/// Whether a loaded segment has a part.
+/// Whether a loaded segment has the file bytes of a part, or its addresses if its section is not written.
 fn is_carried(layout: &Layout, part: &Part) -> bool {
     for segment in layout.segments.as_slice() {
-        if segment.kind == PT_LOAD && holds_part(layout, part, segment) {
+        let holds = if layout.is_header_only_at(part.section) {
+            lies_within(segment.address, segment.mem_size, part.address, part.size)
+        } else {
+            lies_within(segment.offset, segment.file_size, part.offset, part.size)
+                && part.offset.saturating_add(segment.address)
+                    == part.address.saturating_add(segment.offset)
+        };
+        if segment.kind == PT_LOAD && holds {
             return true;
         }
     }
     false
 }
 
-/// Whether addresses are those of an executable without a dynamic linker.
-fn is_fixed(layout: &Layout) -> bool {
-    layout.kind.is_static_executable() && layout.kind.has_fixed_load_address()
-}
-
-/// Whether the role is that of program headers, which a relocatable object has none of.
-pub(crate) fn has_no_headers(layout: &Layout, role: Role) -> bool {
-    layout.kind.is_partial_link() && matches!(role, Role::ProgramHeaders)
-}
-
 /// Whether a part fails a test.
-pub(crate) fn test_part(layout: &Layout, index: usize, part: &Part, test: PartTest) -> Verdict {
+pub(crate) fn test_part(layout: &Layout, index: usize, part: &Part, test: &PartTest) -> Verdict {
     match test {
         PartTest::Ends => plain(
             !part.align.is_power_of_two()
@@ -109,8 +96,9 @@ pub(crate) fn test_part(layout: &Layout, index: usize, part: &Part, test: PartTe
             None => false,
         }),
         PartTest::At(offset) => {
-            let is_asked = !has_no_headers(layout, part.role);
-            due(is_asked && part.offset != offset, offset)
+            let has_none = layout.kind.is_partial_link() && has_role(Role::ProgramHeaders, part);
+            let is_asked = !has_none;
+            due(is_asked && part.offset != *offset, *offset)
         }
         PartTest::Follows => match first_of(layout, Role::RelaDynRelative) {
             Some((_, before)) => {
@@ -130,10 +118,12 @@ pub(crate) fn test_part(layout: &Layout, index: usize, part: &Part, test: PartTe
             let is_asked = is_read && !layout.kind.is_partial_link();
             plain(is_asked && !layout.is_allocated_section(part.section))
         }
-        PartTest::Entries => plain(is_fixed(layout)),
+        PartTest::Entries => {
+            plain(layout.kind.is_static_executable() && layout.kind.has_fixed_load_address())
+        }
         PartTest::Split => plain(is_carried(layout, part)),
         PartTest::Shares => {
-            let sum = given_before(layout, index, layout.groups.len());
+            let sum = shares_before(layout, index, layout.groups.len());
             due(sum != part.size, sum)
         }
         PartTest::Section => plain(part.section.0 >= layout.sections.len()),
@@ -147,7 +137,7 @@ pub(crate) fn test_part(layout: &Layout, index: usize, part: &Part, test: PartTe
                 part.role,
                 Role::FileHeader | Role::ProgramHeaders | Role::SectionHeaders | Role::Shstrtab
             );
-            plain(is_header && layout.is_hollow_at(part.section))
+            plain(is_header && layout.is_header_only_at(part.section))
         }
         PartTest::Last => plain(true),
     }
@@ -191,7 +181,7 @@ pub(crate) fn test_section(
     layout: &Layout,
     index: usize,
     section: &Section,
-    test: SectionTest,
+    test: &SectionTest,
 ) -> Verdict {
     let zeros = section.is_without_data();
     let is_loaded = index != 0 && is_allocated(section.flags) && !layout.kind.is_partial_link();
@@ -216,40 +206,35 @@ pub(crate) fn test_section(
         }
         SectionTest::Entries => {
             let bytes = entry_bytes(layout, index);
-            let is_asked = is_loaded && is_fixed(layout) && section.kind == SHT_RELA;
+            let is_fixed = layout.kind.is_static_executable()
+                && layout.kind.has_fixed_load_address();
+            let is_asked = is_loaded && is_fixed && section.kind == SHT_RELA;
             due(is_asked && section.size != bytes, bytes)
         }
         SectionTest::Name => plain(section.name.as_slice().contains(&0)),
     }
 }
 
-/// The end in memory of the loaded segments ahead.
-fn memory_before(layout: &Layout, index: usize) -> u64 {
+/// The end in memory of the loaded segments before one, and how many `PT_DYNAMIC` segments are before it.
+pub(crate) fn segments_before(layout: &Layout, index: usize) -> (u64, usize) {
     let mut end = 0;
+    let mut count: usize = 0;
     for (i, segment) in layout.segments.as_slice().iter().enumerate() {
         if i < index && segment.kind == PT_LOAD {
             end = segment.address.saturating_add(segment.mem_size);
         }
-    }
-    end
-}
-
-/// How many `PT_DYNAMIC` segments stand ahead of that one.
-pub(crate) fn dynamic_before(layout: &Layout, index: usize) -> usize {
-    let mut count: usize = 0;
-    for (i, segment) in layout.segments.as_slice().iter().enumerate() {
         if i < index && segment.kind == PT_DYNAMIC {
             count = count.saturating_add(1);
         }
     }
-    count
+    (end, count)
 }
 
 /// Whether a segment has the place and the size of the dynamic section.
 fn is_dynamic(layout: &Layout, segment: &Segment) -> bool {
     match first_of(layout, Role::Dynamic) {
         Some((_, part)) => {
-            let in_file = if layout.is_hollow_at(part.section) {
+            let in_file = if layout.is_header_only_at(part.section) {
                 0
             } else {
                 part.size
@@ -268,19 +253,17 @@ pub(crate) fn test_segment(
     layout: &Layout,
     index: usize,
     segment: &Segment,
-    test: SegmentTest,
+    test: &SegmentTest,
 ) -> Verdict {
     let is_loaded = segment.kind == PT_LOAD;
+    let (end, count) = segments_before(layout, index);
     match test {
         SegmentTest::Ends => plain(
             !(segment.align == 0 || segment.align.is_power_of_two())
                 || ends_high(segment.address, segment.mem_size)
                 || ends_high(segment.offset, segment.file_size),
         ),
-        SegmentTest::Order => {
-            let end = memory_before(layout, index);
-            due(is_loaded && segment.address < end, end)
-        }
+        SegmentTest::Order => due(is_loaded && segment.address < end, end),
         SegmentTest::Larger => plain(is_loaded && segment.mem_size < segment.file_size),
         SegmentTest::Remainder => {
             let page = layout.page_size;
@@ -298,8 +281,7 @@ pub(crate) fn test_segment(
             )
         }
         SegmentTest::Dynamic => plain(
-            segment.kind == PT_DYNAMIC
-                && (!is_dynamic(layout, segment) || dynamic_before(layout, index) != 0),
+            segment.kind == PT_DYNAMIC && (!is_dynamic(layout, segment) || count != 0),
         ),
     }
 }

@@ -1,4 +1,4 @@
-//! The items of a plan that a fault names: their paths, and what stands there.
+//! The items of a plan that a fault names: their paths, and their members.
 
 use crate::fronts::size_of;
 use crate::names::{push_name, push_resolution, push_section, push_symbol, role_word};
@@ -7,7 +7,7 @@ use std::fmt::Write;
 use wild_records::gnu_hash;
 use wild_types::{InputSection, Layout, Slot, SymbolIndex};
 
-/// Where an input section stands.
+/// Where an input section is in the lists of a plan.
 #[derive(Clone, Copy)]
 pub struct SectionPlace {
     pub group: usize,
@@ -26,7 +26,7 @@ pub enum Item {
     Listed(usize),
     Version(usize),
     Auxiliary(usize),
-    /// The place of its block, and its own in that.
+    /// The number of its block, and its own in the block.
     Thunk(usize, usize),
     Sorted(usize),
     Merged(usize),
@@ -68,7 +68,7 @@ pub(crate) fn section_at(layout: &Layout, at: SectionPlace) -> Option<&InputSect
     file.sections.as_slice().get(at.section)
 }
 
-/// Adds what stands at a part, a section or a segment.
+/// Adds the members of a part, a section or a segment.
 fn push_header(out: &mut String, layout: &Layout, item: Item) -> Result<(), AllocError> {
     match item {
         Item::Part(i) => {
@@ -109,7 +109,7 @@ fn push_header(out: &mut String, layout: &Layout, item: Item) -> Result<(), Allo
     Ok(())
 }
 
-/// Adds a symbol, the addresses that were decided of it, and its definition, where that is another symbol.
+/// Adds a symbol, its resolution, and its definition if that is another symbol.
 pub(crate) fn push_decided(
     out: &mut String,
     layout: &Layout,
@@ -128,9 +128,12 @@ pub(crate) fn push_decided(
     Ok(())
 }
 
-/// The word of a slot.
-fn slot_word(slot: Slot) -> &'static str {
-    match slot {
+/// Adds the members of an input section.
+fn push_input(out: &mut String, layout: &Layout, at: SectionPlace) -> Result<(), AllocError> {
+    let Some(section) = section_at(layout, at) else {
+        return Ok(());
+    };
+    let slot = match section.slot {
         Slot::Discard => "discard",
         Slot::Loaded => "loaded",
         Slot::Sorted => "sorted",
@@ -139,15 +142,7 @@ fn slot_word(slot: Slot) -> &'static str {
         Slot::Merge => "merge",
         Slot::Rela => "rela",
         Slot::Group => "group",
-    }
-}
-
-/// Adds what stands at an input section.
-fn push_input(out: &mut String, layout: &Layout, at: SectionPlace) -> Result<(), AllocError> {
-    let Some(section) = section_at(layout, at) else {
-        return Ok(());
     };
-    let slot = slot_word(section.slot);
     let bytes = section.bytes.len();
     let (address, size, flags) = (section.address, section.size, section.flags);
     let (nobits, part) = (section.nobits, section.part);
@@ -164,7 +159,7 @@ fn push_input(out: &mut String, layout: &Layout, at: SectionPlace) -> Result<(),
     Ok(())
 }
 
-/// Adds what stands at a file.
+/// Adds the members of a file.
 fn push_file(
     out: &mut String,
     layout: &Layout,
@@ -189,7 +184,7 @@ fn push_file(
     Ok(())
 }
 
-/// Adds what stands at a group.
+/// Adds the members of a group.
 fn push_group(out: &mut String, layout: &Layout, group: usize) -> Result<(), AllocError> {
     if let Some(found) = layout.groups.as_slice().get(group) {
         let (shares, parts) = (found.part_sizes.len(), layout.parts.len());
@@ -204,7 +199,7 @@ fn push_group(out: &mut String, layout: &Layout, group: usize) -> Result<(), All
     Ok(())
 }
 
-/// Adds what stands at an item of a list of the plan.
+/// Adds the members of an item of one of the short lists of the plan.
 fn push_entry(out: &mut String, layout: &Layout, item: Item) -> Result<(), AllocError> {
     match item {
         Item::Listed(i) => {
@@ -247,14 +242,6 @@ fn push_entry(out: &mut String, layout: &Layout, item: Item) -> Result<(), Alloc
                 push_name(out, name.as_slice())?;
             }
         }
-        _ => {}
-    }
-    Ok(())
-}
-
-/// Adds what stands at an entry of the order, at merged strings or at a property.
-fn push_once(out: &mut String, layout: &Layout, item: Item) -> Result<(), AllocError> {
-    match item {
         Item::Sorted(i) => {
             if let Some(found) = layout.sorted.as_slice().get(i) {
                 let (group, file, section) = (found.group, found.file, found.section);
@@ -278,7 +265,7 @@ fn push_once(out: &mut String, layout: &Layout, item: Item) -> Result<(), AllocE
     Ok(())
 }
 
-/// Adds what stands at an item.
+/// Adds the members of an item.
 pub(crate) fn push_found(out: &mut String, layout: &Layout, item: Item) -> Result<(), AllocError> {
     match item {
         Item::Plan => Ok(()),
@@ -286,10 +273,7 @@ pub(crate) fn push_found(out: &mut String, layout: &Layout, item: Item) -> Resul
         Item::Group(i) => push_group(out, layout, i),
         Item::File(i, j) => push_file(out, layout, i, j),
         Item::Input(at) => push_input(out, layout, at),
-        Item::Listed(_) | Item::Version(_) | Item::Auxiliary(_) | Item::Thunk(_, _) => {
-            push_entry(out, layout, item)
-        }
-        Item::Sorted(_) | Item::Merged(_) | Item::Property(_) => push_once(out, layout, item),
-        _ => push_header(out, layout, item),
+        Item::Part(_) | Item::Section(_) | Item::Segment(_) => push_header(out, layout, item),
+        _ => push_entry(out, layout, item),
     }
 }

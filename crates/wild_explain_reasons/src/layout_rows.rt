@@ -1,5 +1,5 @@
-//! The tests of clauses 1 to 8 and 10, each with the clause, what is wrong where an item fails it, and the member that is looked at. Those of a clause
-//! stand in its order: the first that an item fails is the one that failed, since no item fails an earlier one.
+//! The tests of clauses 1 to 8 and 10. Each has its clause, what is wrong if an item fails it, and the member that is looked at. The tests of
+//! a clause are in its order: the first that an item fails is the one that failed, since no item fails an earlier one.
 
 use crate::tests::{
     FileTest, GroupTest, InputTest, MergedTest, PartTest, PlanTest, SectionTest, SegmentTest,
@@ -7,7 +7,7 @@ use crate::tests::{
 };
 use wild_types::Role;
 
-/// A test of a clause: the clause, the test, what is wrong where it fails, and the member.
+/// A test of a clause: the clause, the test, what is wrong if it fails, and the member.
 pub(crate) type Row = (u32, Test, &'static str, &'static str);
 
 const ENDS: &str =

@@ -1,4 +1,4 @@
-//! Layouts in words: why one was refused and where, what each part needs, and what a loader would make of it.
+//! Diagnoses of layouts: why one was refused and where, what each part needs, and what would go wrong when it is loaded.
 #![tactic(auto)]
 
 mod advice;

@@ -5,14 +5,12 @@ use crate::names::push_symbol;
 use std::alloc::AllocError;
 use std::fmt::Write;
 use wild_needs::is_undefined_entry;
-use wild_types::{File, Layout, Role, Symbol, is_there};
+use wild_types::{File, Layout, Role, is_there};
 
-/// Whether a symbol has local binding (gABI, "Symbol Table", `STB_LOCAL`).
-fn is_local(symbol: &Symbol) -> bool {
-    symbol.info / 16 == 0
-}
+/// Local binding, the high bits of `st_info` (gABI, "Symbol Table").
+const STB_LOCAL: u8 = 0;
 
-/// Adds a library that nothing names, or a name of one that no library has.
+/// Adds a library without a name, or the name of a library at a file that is none.
 pub(crate) fn push_library(
     out: &mut String,
     layout: &Layout,
@@ -40,7 +38,7 @@ pub(crate) fn push_library(
     Ok(())
 }
 
-/// Adds the path of the dynamic linker without its part, or the part without the path.
+/// Adds a path of the dynamic linker without its part, or the part without a path.
 pub(crate) fn push_path(out: &mut String, layout: &Layout, word: &str) -> Result<(), AllocError> {
     let is_given = !layout.interp.as_slice().is_empty();
     let is_held = is_there(Role::Interp, layout.parts.as_slice());
@@ -59,14 +57,14 @@ pub(crate) fn push_path(out: &mut String, layout: &Layout, word: &str) -> Result
     Ok(())
 }
 
-/// Adds the first local symbol of those that other modules see, and how many there are.
+/// Adds the first local symbol in `dynsyms`, and how many of them there are.
 pub(crate) fn push_listed(out: &mut String, layout: &Layout) -> Result<(), AllocError> {
     let mut first: Option<(usize, usize)> = None;
     let mut count: usize = 0;
     for (i, listed) in layout.dynsyms.as_slice().iter().enumerate() {
         let number = listed.symbol.0;
         if let Some(symbol) = layout.symbols.as_slice().get(number)
-            && is_local(symbol)
+            && symbol.info / 16 == STB_LOCAL
         {
             first = Some(first.unwrap_or((i, number)));
             count = count.saturating_add(1);
@@ -89,7 +87,7 @@ pub(crate) fn push_listed(out: &mut String, layout: &Layout) -> Result<(), Alloc
 /// Adds the first local symbol of a file that the dynamic symbol table has as an undefined one.
 pub(crate) fn push_local(out: &mut String, layout: &Layout, file: &File) -> Result<(), AllocError> {
     for (i, symbol) in layout.symbols_of(file).iter().enumerate() {
-        if is_local(symbol) && is_undefined_entry(file.role, symbol) {
+        if symbol.info / 16 == STB_LOCAL && is_undefined_entry(file.role, symbol) {
             let number = file.first_symbol.0.saturating_add(i);
             write!(
                 out,

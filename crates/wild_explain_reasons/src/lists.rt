@@ -1,18 +1,23 @@
 //! Tests of groups, files, input sections, and the lists of names.
 
 use crate::fronts::has_front;
-use crate::headers::{ends_high, first_of, given_before};
+use crate::headers::{ends_high, first_of, shares_before};
 use crate::items::{Item, SectionPlace, section_at};
 use crate::partial::{is_of_other, names_no_section};
 use crate::tests::{EntryTest, FileTest, GroupTest, InputTest};
 use crate::verdict::{Finding, Verdict, due, plain};
 use wild_types::{
-    DynamicSymbol, File, Group, InputRelocation, InputSection, Layout, Role, Slot,
-    VersionDefinition, field_bytes, is_allocated,
+    DynamicSymbol, File, Group, InputSection, Layout, Role, Slot, VersionDefinition, field_bytes,
+    is_allocated,
 };
 
 /// Whether a group fails a test.
-pub(crate) fn test_group(layout: &Layout, index: usize, group: &Group, test: GroupTest) -> Verdict {
+pub(crate) fn test_group(
+    layout: &Layout,
+    index: usize,
+    group: &Group,
+    test: &GroupTest,
+) -> Verdict {
     match test {
         GroupTest::Count => {
             let parts = layout.parts.len();
@@ -20,11 +25,11 @@ pub(crate) fn test_group(layout: &Layout, index: usize, group: &Group, test: Gro
         }
         GroupTest::NoFile => plain(true),
         GroupTest::Start(role) => {
-            let before = match first_of(layout, role) {
-                Some((part, _)) => given_before(layout, part, index),
+            let before = match first_of(layout, *role) {
+                Some((part, _)) => shares_before(layout, part, index),
                 None => 0,
             };
-            let found = match role {
+            let found = match *role {
                 Role::Dynstr => group.dynstr_start,
                 Role::Strtab => group.strtab_start,
                 Role::EhFrame => group.eh_frame_start,
@@ -36,9 +41,15 @@ pub(crate) fn test_group(layout: &Layout, index: usize, group: &Group, test: Gro
     }
 }
 
-/// Whether two copies of all files have the definition of one of a file's.
-fn is_copied_twice(layout: &Layout, copied: &File) -> bool {
+/// Whether a file's copy is no symbol; or for the other test, whether two copies of all files have the definition of one of its own.
+fn is_wrong_copy(layout: &Layout, copied: &File, test: &FileTest) -> bool {
     for copy in copied.copies.as_slice() {
+        if let FileTest::Copies = test {
+            if copy.0 >= layout.symbols.len() {
+                return true;
+            }
+            continue;
+        }
         let mut count: usize = 0;
         for group in layout.groups.as_slice() {
             for file in group.files.as_slice() {
@@ -50,16 +61,6 @@ fn is_copied_twice(layout: &Layout, copied: &File) -> bool {
             }
         }
         if count > 1 {
-            return true;
-        }
-    }
-    false
-}
-
-/// Whether a file's copy is no symbol.
-fn has_no_copy(layout: &Layout, file: &File) -> bool {
-    for copy in file.copies.as_slice() {
-        if copy.0 >= layout.symbols.len() {
             return true;
         }
     }
@@ -78,7 +79,7 @@ fn has_zero_version(file: &File) -> bool {
     false
 }
 
-/// The end of the ranges of symbols of the files ahead, and whether no library behind has `verneed`.
+/// The end of the symbol ranges of the files before one, and whether no library after it has `verneed`.
 fn around(layout: &Layout, group: usize, file: usize) -> (usize, bool) {
     let mut end: usize = 0;
     let mut is_last = true;
@@ -101,7 +102,7 @@ pub(crate) fn test_file(
     group: usize,
     index: usize,
     file: &File,
-    test: FileTest,
+    test: &FileTest,
 ) -> Verdict {
     match test {
         FileTest::Role => {
@@ -118,12 +119,11 @@ pub(crate) fn test_file(
             let end = file.first_symbol.0.saturating_add(file.symbol_count);
             plain(file.symbol_count != 0 && end > layout.symbols.len())
         }
-        FileTest::Copies => plain(has_no_copy(layout, file)),
+        FileTest::Copies | FileTest::Twice => plain(is_wrong_copy(layout, file, test)),
         FileTest::Block => {
             let blocks = layout.thunk_blocks.len();
             plain(file.thunk_block != 0 && file.thunk_block >= blocks)
         }
-        FileTest::Twice => plain(is_copied_twice(layout, file)),
         FileTest::Order => {
             let (end, _) = around(layout, group, index);
             due(
@@ -143,55 +143,46 @@ pub(crate) fn test_file(
     }
 }
 
-/// Whether a relocation fails the test on its field, or on its symbol.
-fn is_wrong(
-    layout: &Layout,
-    section: &InputSection,
-    relocation: &InputRelocation,
-    test: InputTest,
-) -> bool {
-    let width = field_bytes(layout.machine, relocation.number) as u64;
-    match (test, relocation.symbol) {
-        (InputTest::Fields, _) => {
-            width != 0 && relocation.offset.saturating_add(width) > section.size
-        }
-        (InputTest::Malformed, _) => relocation.malformed && !section.slot.is_frame(),
-        (InputTest::Reversed, _) => {
-            section.reversed && (relocation.offset % 8 != 0 || width != 8)
-        }
-        (InputTest::Symbols, Some(symbol)) => symbol.0 >= layout.symbols.len(),
-        _ => false,
-    }
-}
-
-/// The first relocation of a section that fails the test.
+/// The first relocation of a section that fails the test on its field, or on its symbol.
 pub(crate) fn wrong_relocation(
     layout: &Layout,
     section: &InputSection,
-    test: InputTest,
+    test: &InputTest,
 ) -> Option<usize> {
     for (i, relocation) in section.relocations.as_slice().iter().enumerate() {
-        if is_wrong(layout, section, relocation, test) {
+        let width = field_bytes(layout.machine, relocation.number) as u64;
+        let is_wrong = match (test, relocation.symbol) {
+            (InputTest::Fields, _) => {
+                width != 0 && relocation.offset.saturating_add(width) > section.size
+            }
+            (InputTest::Malformed, _) => relocation.malformed && !section.slot.is_frame(),
+            (InputTest::Reversed, _) => {
+                section.reversed && (relocation.offset % 8 != 0 || width != 8)
+            }
+            (InputTest::Symbols, Some(symbol)) => symbol.0 >= layout.symbols.len(),
+            _ => false,
+        };
+        if is_wrong {
             return Some(i);
         }
     }
     None
 }
 
-/// The first input section of a group that begins or ends where the group's range of a part does not go.
+/// The first input section of a group that begins before the end of the one before it, or ends past the group's range of the part.
 pub(crate) fn first_astray(
     layout: &Layout,
     group: usize,
     part: usize,
-    test: InputTest,
+    test: &InputTest,
 ) -> Option<Finding> {
     let found = layout.groups.as_slice().get(group)?;
     let start = layout.parts.as_slice().get(part)?.address;
-    let mut from = start.saturating_add(given_before(layout, part, group));
-    let to = start.saturating_add(given_before(layout, part, group.saturating_add(1)));
+    let mut from = start.saturating_add(shares_before(layout, part, group));
+    let to = start.saturating_add(shares_before(layout, part, group.saturating_add(1)));
     for (file, held) in found.files.as_slice().iter().enumerate() {
         for (section, input) in held.sections.as_slice().iter().enumerate() {
-            if input.part == part && input.is_given(layout) {
+            if input.part == part && input.has_range_bytes(layout) {
                 let at = SectionPlace {
                     group,
                     file,
@@ -210,12 +201,12 @@ pub(crate) fn first_astray(
     None
 }
 
-/// An input section that begins or ends where a range does not go.
+/// An input section that begins before a range, or for the other test ends past it.
 fn astray(
     input: &InputSection,
     at: SectionPlace,
     range: (u64, u64),
-    test: InputTest,
+    test: &InputTest,
 ) -> Option<Finding> {
     let (from, to) = range;
     let end = input.address.saturating_add(input.size);
@@ -231,12 +222,12 @@ fn astray(
     }
 }
 
-/// The same of the sections in a given order, which stand behind those of the last file.
+/// The same for the sections in a given order, which are placed after those of the last file.
 fn first_sorted_astray(
     layout: &Layout,
     part: usize,
     range: (u64, u64),
-    test: InputTest,
+    test: &InputTest,
 ) -> Option<Finding> {
     let (mut from, to) = range;
     for entry in layout.sorted.as_slice() {
@@ -261,7 +252,7 @@ fn first_sorted_astray(
 }
 
 /// Whether an input section fails a test.
-pub(crate) fn test_input(layout: &Layout, section: &InputSection, test: InputTest) -> bool {
+pub(crate) fn test_input(layout: &Layout, section: &InputSection, test: &InputTest) -> bool {
     let length = section.bytes.len() as u64;
     let discarded = section.slot.is_discarded();
     let role = match layout.parts.as_slice().get(section.part) {
@@ -310,7 +301,7 @@ pub(crate) fn test_input(layout: &Layout, section: &InputSection, test: InputTes
 }
 
 /// Whether an item of `dynsyms` fails a test.
-pub(crate) fn test_listed(layout: &Layout, listed: &DynamicSymbol, test: EntryTest) -> bool {
+pub(crate) fn test_listed(layout: &Layout, listed: &DynamicSymbol, test: &EntryTest) -> bool {
     match test {
         EntryTest::Index => listed.symbol.0 >= layout.symbols.len(),
         EntryTest::Order => true,
@@ -323,7 +314,7 @@ pub(crate) fn test_version(
     layout: &Layout,
     index: usize,
     version: &VersionDefinition,
-    test: EntryTest,
+    test: &EntryTest,
 ) -> bool {
     match (test, version.parent) {
         (EntryTest::Index, Some(parent)) => parent >= layout.verdefs.len(),

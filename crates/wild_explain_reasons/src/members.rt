@@ -1,9 +1,9 @@
-//! Which members the objects of a plan have.
+//! The members of each object of a plan.
 
 use std::alloc::AllocError;
 use std::fmt::Write;
 
-/// Of each sort of object its path, with `*` for a place in a list, and its members.
+/// For each kind of object its path, with `*` for an index in a list, and its members.
 const MEMBERS: [(&str, &str); 26] = [
     (
         "",
@@ -75,34 +75,24 @@ fn is_shaped(path: &str, shape: &str) -> bool {
     steps.next().is_none()
 }
 
-/// The members of the object at a path, where there is one.
-fn members_of(path: &str) -> Option<&'static str> {
-    for (shape, members) in &MEMBERS {
-        if is_shaped(path, *shape) {
-            return Some(*members);
-        }
-    }
-    None
-}
-
-/// Whether a name is one of those members.
-fn is_among(members: &str, name: &str) -> bool {
-    for known in members.split(", ") {
-        if known == name {
-            return true;
-        }
-    }
-    false
-}
-
-/// Adds why a text is no plan, by the path of its first wrong member: what is wrong, where, and of a member that is unknown those that are known there.
+/// Adds why a text is no plan, from the path of its first wrong member: what is wrong, the path, and for an unknown member the known ones.
 pub fn push_no_plan(out: &mut String, path: &str) -> Result<(), AllocError> {
     let (outer, name) = match path.rsplit_once("/") {
         Some(steps) => steps,
         None => ("?", path),
     };
-    match members_of(outer) {
-        Some(members) if !is_among(members, name) => writeln!(
+    let mut found = None;
+    for (shape, members) in &MEMBERS {
+        if found.is_none() && is_shaped(outer, *shape) {
+            found = Some(*members);
+        }
+    }
+    let mut is_known = false;
+    for known in found.unwrap_or("").split(", ") {
+        is_known = is_known || known == name;
+    }
+    match found {
+        Some(members) if !is_known => writeln!(
             out,
             "what: the member is unknown\nwhere: {path}\nknown: {members}"
         )?,

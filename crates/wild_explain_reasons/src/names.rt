@@ -5,7 +5,7 @@ use std::fmt::Write;
 use wild_reloc::{aarch64, x86_64};
 use wild_types::{Layout, Machine, Resolution, Role, place_of};
 
-/// The roles by the words of plans, each at its place in the list of roles.
+/// The roles with their words in plans, in the order of `Role`.
 const ROLES: [(&str, Role); 30] = [
     ("raw", Role::Raw),
     ("file_header", Role::FileHeader),
@@ -39,7 +39,7 @@ const ROLES: [(&str, Role); 30] = [
     ("property", Role::Property),
 ];
 
-/// The role at that place of the list of roles, with its word.
+/// The role of that number, with its word.
 pub(crate) fn role_at(place: usize) -> Option<(&'static str, Role)> {
     ROLES.get(place).copied()
 }
@@ -60,7 +60,7 @@ pub fn part_word(layout: &Layout, part: usize) -> &'static str {
     }
 }
 
-/// Adds a name: itself where it is text without control characters of ASCII, else in hex.
+/// Adds a name: as it is if it is UTF-8 without ASCII control characters, else in hex.
 pub(crate) fn push_name(out: &mut String, name: &[u8]) -> Result<(), AllocError> {
     if name.is_empty() {
         write!(out, "(no name)")?;
@@ -122,7 +122,7 @@ pub fn push_type(out: &mut String, machine: Machine, number: u32) -> Result<(), 
     Ok(())
 }
 
-/// Adds the addresses that were decided of a symbol.
+/// Adds the resolution of a symbol.
 pub fn push_resolution(out: &mut String, resolution: Resolution) -> Result<(), AllocError> {
     let value = resolution.raw_value;
     write!(out, "; symbol at {value}")?;

@@ -1,4 +1,4 @@
-//! What each part needs, and what an image has.
+//! How many bytes each part needs, and how many it has in an image.
 
 use crate::names::role_word;
 use std::alloc::AllocError;
@@ -6,35 +6,15 @@ use std::fmt::Write;
 use wild_needs::needs;
 use wild_types::{Group, Layout, Part, Role, has_role};
 
-/// Adds a list of one number for each part.
-fn push_shares(out: &mut String, layout: &Layout, group: usize) -> Result<(), AllocError> {
-    write!(out, "/groups/{group}/part_sizes [")?;
-    for (i, part) in layout.parts.as_slice().iter().enumerate() {
-        if i != 0 {
-            write!(out, ",")?;
-        }
-        let needed = needs(layout, i, group);
-        write!(out, "{needed}")?;
-    }
-    writeln!(out, "]")?;
-    Ok(())
-}
-
-/// What all groups need of a part, at most 2^64 - 1.
-fn needed_of(layout: &Layout, part: usize) -> u64 {
-    let mut sum: u64 = 0;
-    for (i, group) in layout.groups.as_slice().iter().enumerate() {
-        sum = sum.saturating_add(needs(layout, part, i));
-    }
-    sum
-}
-
-/// Adds what each part needs in all, and what each group needs of each part: a raw part is given what `part_sizes` says.
+/// Adds how many bytes each part needs, and how many each group needs of it. For a raw part these are those of `part_sizes`.
 pub fn push_needs(out: &mut String, layout: &Layout) -> Result<(), AllocError> {
     for (i, part) in layout.parts.as_slice().iter().enumerate() {
         let word = role_word(part.role);
         let size = part.size;
-        let needed = needed_of(layout, i);
+        let mut needed: u64 = 0;
+        for group in 0..layout.groups.len() {
+            needed = needed.saturating_add(needs(layout, i, group));
+        }
         let whose = if has_role(Role::Raw, part) {
             ", as it is given"
         } else {
@@ -45,13 +25,21 @@ pub fn push_needs(out: &mut String, layout: &Layout) -> Result<(), AllocError> {
             "/parts/{i}/size {needed} ({word}; it has {size}{whose})"
         )?;
     }
-    for i in 0..layout.groups.len() {
-        push_shares(out, layout, i)?;
+    for group in 0..layout.groups.len() {
+        write!(out, "/groups/{group}/part_sizes [")?;
+        for i in 0..layout.parts.len() {
+            if i != 0 {
+                write!(out, ",")?;
+            }
+            let needed = needs(layout, i, group);
+            write!(out, "{needed}")?;
+        }
+        writeln!(out, "]")?;
     }
     Ok(())
 }
 
-/// Where the last input section of a group ends that stands in a raw part in the order of the files.
+/// The end of the last input section of a group in a raw part, in the order of the files.
 fn end_in(group: &Group, part: usize) -> Option<u64> {
     let mut last: Option<u64> = None;
     for file in group.files.as_slice() {
@@ -91,7 +79,7 @@ pub(crate) fn push_room(
     Ok(())
 }
 
-/// Adds how many bytes each part has, and whose they are.
+/// Adds how many bytes each part has, and how many each group has of it.
 pub fn push_image(out: &mut String, layout: &Layout) -> Result<(), AllocError> {
     for (i, part) in layout.parts.as_slice().iter().enumerate() {
         let word = role_word(part.role);

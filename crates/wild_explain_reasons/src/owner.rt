@@ -1,13 +1,13 @@
-//! Who owns a byte of the image.
+//! Which part, group, input section and relocation a byte of the image belongs to.
 
 use crate::faults::push_relocation;
-use crate::headers::given_before;
+use crate::headers::shares_before;
 use crate::items::{Item, SectionPlace, push_item, section_at};
 use crate::names::{push_section, role_word};
 use crate::thunks::thunk_with;
 use std::alloc::AllocError;
 use std::fmt::Write;
-use wild_types::{InputSection, Layout, Part, Role, field_bytes, has_role};
+use wild_types::{Layout, Part, Role, field_bytes, has_role};
 
 /// The input section of a group that has the address, in a part.
 fn section_with(layout: &Layout, group: usize, part: usize, address: u64) -> Option<SectionPlace> {
@@ -28,18 +28,6 @@ fn section_with(layout: &Layout, group: usize, part: usize, address: u64) -> Opt
     None
 }
 
-/// The first relocation whose field has that byte of the section.
-fn relocation_with(layout: &Layout, section: &InputSection, byte: u64) -> Option<usize> {
-    for (i, relocation) in section.relocations.as_slice().iter().enumerate() {
-        let width = field_bytes(layout.machine, relocation.number) as u64;
-        let end = relocation.offset.saturating_add(width);
-        if relocation.offset <= byte && byte < end {
-            return Some(i);
-        }
-    }
-    None
-}
-
 /// Adds the input section that has an address, and the relocation that writes there.
 fn push_input(
     out: &mut String,
@@ -53,32 +41,19 @@ fn push_input(
     let byte = address.saturating_sub(section.address);
     write!(out, "owner: byte {byte} of ")?;
     push_item(out, Item::Input(at))?;
-    if let Some(index) = relocation_with(layout, section, byte) {
+    let mut index = None;
+    for (i, relocation) in section.relocations.as_slice().iter().enumerate() {
+        let width = field_bytes(layout.machine, relocation.number) as u64;
+        let end = relocation.offset.saturating_add(width);
+        if index.is_none() && relocation.offset <= byte && byte < end {
+            index = Some(i);
+        }
+    }
+    if let Some(index) = index {
         write!(out, ", in the field of /relocations/{index}: ")?;
         push_relocation(out, layout, section, index)?;
     }
     writeln!(out)?;
-    Ok(())
-}
-
-/// Adds which input section of a group has an address in a part, or which thunk.
-fn push_owned(
-    out: &mut String,
-    layout: &Layout,
-    group: usize,
-    part: usize,
-    address: u64,
-) -> Result<(), AllocError> {
-    if let Some(at) = section_with(layout, group, part, address) {
-        return push_input(out, layout, at, address);
-    }
-    if part == layout.primary_part
-        && let Some((thunk, byte)) = thunk_with(layout, group, address)
-    {
-        write!(out, "owner: byte {byte} of ")?;
-        push_item(out, thunk)?;
-        writeln!(out)?;
-    }
     Ok(())
 }
 
@@ -97,21 +72,38 @@ fn push_in_part(
         "part: byte {byte} of /parts/{index} ({word}), address {address}"
     )?;
     for group in 0..layout.groups.len() {
-        let before = given_before(layout, index, group);
-        let through = given_before(layout, index, group.saturating_add(1));
+        let before = shares_before(layout, index, group);
+        let through = shares_before(layout, index, group.saturating_add(1));
         if before <= byte && byte < through {
             let own = byte - before;
             writeln!(out, "group: byte {own} of the share of /groups/{group}")?;
-            if has_role(Role::Raw, part) {
-                push_owned(out, layout, group, index, address)?;
+            let owner = section_with(layout, group, index, address);
+            if has_role(Role::Raw, part)
+                && let Some(at) = owner
+            {
+                push_input(out, layout, at, address)?;
+            } else if has_role(Role::Raw, part)
+                && index == layout.primary_part
+                && let Some((thunk, byte)) = thunk_with(layout, group, address)
+            {
+                write!(out, "owner: byte {byte} of ")?;
+                push_item(out, thunk)?;
+                writeln!(out)?;
             }
         }
     }
     Ok(())
 }
 
-/// Adds which section has a byte that no part has.
-fn push_padding(out: &mut String, layout: &Layout, offset: u64) -> Result<(), AllocError> {
+/// Adds what the byte of the image at an offset belongs to.
+pub fn push_owner(out: &mut String, layout: &Layout, offset: u64) -> Result<(), AllocError> {
+    for (i, part) in layout.parts.as_slice().iter().enumerate() {
+        let end = part.offset.saturating_add(part.size);
+        let is_in = layout.takes_file_bytes(part.section) && part.offset <= offset && offset < end;
+        if is_in {
+            return push_in_part(out, layout, i, part, offset - part.offset);
+        }
+    }
     for (i, section) in layout.sections.as_slice().iter().enumerate() {
         let end = section.offset.saturating_add(section.size);
         if i != 0 && layout.fills_file(section) && section.offset <= offset && offset < end {
@@ -123,16 +115,4 @@ fn push_padding(out: &mut String, layout: &Layout, offset: u64) -> Result<(), Al
     }
     writeln!(out, "padding: in no part and no section")?;
     Ok(())
-}
-
-/// Adds who owns the byte of the image at an offset.
-pub fn push_owner(out: &mut String, layout: &Layout, offset: u64) -> Result<(), AllocError> {
-    for (i, part) in layout.parts.as_slice().iter().enumerate() {
-        let end = part.offset.saturating_add(part.size);
-        let is_in = layout.takes_file_bytes(part.section) && part.offset <= offset && offset < end;
-        if is_in {
-            return push_in_part(out, layout, i, part, offset - part.offset);
-        }
-    }
-    push_padding(out, layout, offset)
 }

@@ -1,32 +1,18 @@
-//! Tests of what only relocatable objects have, and of what they have not.
+//! Tests of what only relocatable objects have.
 
-use crate::tests::{InputTest, PlanTest};
+use crate::tests::InputTest;
 use crate::verdict::{Verdict, due, plain};
 use wild_records::Rela;
-use wild_types::{File, InputSection, Layout, SectionIndex, Slot};
+use wild_types::{File, InputSection, Layout, Slot};
 
-/// Whether a relocatable object has what a test asks for.
-pub(crate) fn test_object(layout: &Layout, test: PlanTest) -> bool {
-    match test {
-        PlanTest::Segmented => layout.segments.len() != 0,
-        PlanTest::Paired => layout.tlsld.is_some(),
-        _ => layout.dynsyms.len() != 0,
-    }
-}
-
-/// Whether a header index names no output section.
-fn is_no_section(layout: &Layout, index: SectionIndex) -> bool {
-    index.0 >= layout.sections.len()
-}
-
-/// Whether the output section of its own, or a member, is not there.
-pub(crate) fn names_no_section(layout: &Layout, section: &InputSection, test: InputTest) -> bool {
+/// Whether the `singleton` or one of the `members` of an input section is no output section.
+pub(crate) fn names_no_section(layout: &Layout, section: &InputSection, test: &InputTest) -> bool {
     if let (InputTest::Singleton, Some(index)) = (test, section.singleton) {
-        return is_no_section(layout, index);
+        return index.0 >= layout.sections.len();
     }
     if let InputTest::Members = test {
         for member in section.members.as_slice() {
-            if is_no_section(layout, *member) {
+            if member.0 >= layout.sections.len() {
                 return true;
             }
         }
@@ -34,8 +20,8 @@ pub(crate) fn names_no_section(layout: &Layout, section: &InputSection, test: In
     false
 }
 
-/// Whether an input section has what the other kind of output has, or lacks its data.
-pub(crate) fn is_of_other(layout: &Layout, section: &InputSection, test: InputTest) -> bool {
+/// Whether an input section has a member that this kind of output does not take, or lacks its data.
+pub(crate) fn is_of_other(layout: &Layout, section: &InputSection, test: &InputTest) -> bool {
     let is_partial = layout.kind.is_partial_link();
     let is_made = matches!(section.slot, Slot::Rela | Slot::Group);
     match test {
@@ -45,8 +31,8 @@ pub(crate) fn is_of_other(layout: &Layout, section: &InputSection, test: InputTe
     }
 }
 
-/// Whether a table of relocations or a group has another size than what is made of it.
-pub(crate) fn test_made(file: &File, section: &InputSection, test: InputTest) -> Verdict {
+/// Whether the size of a relocation table or a group differs from the size of its content.
+pub(crate) fn test_made(file: &File, section: &InputSection, test: &InputTest) -> Verdict {
     match (section.slot, test) {
         (Slot::Rela, InputTest::Target) => {
             let Some(target) = file.sections.as_slice().get(section.target) else {

@@ -1,9 +1,8 @@
-//! Tests of the plan as a whole, and what stands there.
+//! Tests of the plan as a whole, and the members that they look at.
 
 use crate::fronts::{ends_without_zero, test_identity};
-use crate::headers::{dynamic_before, has_no_headers};
+use crate::headers::segments_before;
 use crate::names::{role_at, role_word};
-use crate::partial::test_object;
 use crate::symbols::{behind_reserved, undefined_entries};
 use crate::tests::PlanTest;
 use crate::thunks::has_thunks;
@@ -14,15 +13,7 @@ use wild_needs::total_share;
 use wild_types::{Entry, GnuHash, Layout, Role, has_role, is_there};
 use wild_words::Bytes;
 
-/// Whether the role with a number has a part.
-fn is_role_there(layout: &Layout, index: usize) -> bool {
-    match role_at(index) {
-        Some((_, role)) => is_there(role, layout.parts.as_slice()),
-        None => false,
-    }
-}
-
-/// Whether a name that may be there has a zero byte.
+/// Whether there is a name, and it has a zero byte.
 fn has_zero(name: &Option<Bytes>) -> bool {
     match name {
         Some(name) => name.as_slice().contains(&0),
@@ -30,20 +21,8 @@ fn has_zero(name: &Option<Bytes>) -> bool {
     }
 }
 
-/// Whether the part of thunks is a raw one in an allocated section with data.
-fn holds_thunks(layout: &Layout) -> bool {
-    match layout.parts.as_slice().get(layout.primary_part) {
-        Some(part) => {
-            has_role(Role::Raw, part)
-                && layout.has_data(part.section)
-                && layout.is_allocated_section(part.section)
-        }
-        None => false,
-    }
-}
-
 /// Whether the shape of the GNU hash table fails a test.
-fn test_shape(layout: &Layout, shape: GnuHash, test: PlanTest) -> Verdict {
+fn test_shape(layout: &Layout, shape: GnuHash, test: &PlanTest) -> Verdict {
     match test {
         PlanTest::GnuBuckets => plain(shape.buckets == 0),
         PlanTest::GnuBloom => plain(shape.bloom_count == 0),
@@ -58,7 +37,7 @@ fn test_shape(layout: &Layout, shape: GnuHash, test: PlanTest) -> Verdict {
 }
 
 /// Whether the plan fails a test; `index` is that of the clause.
-pub(crate) fn test_plan(layout: &Layout, index: usize, test: PlanTest) -> Verdict {
+pub(crate) fn test_plan(layout: &Layout, index: usize, test: &PlanTest) -> Verdict {
     let parts = layout.parts.as_slice();
     let page = layout.page_size;
     match test {
@@ -72,15 +51,19 @@ pub(crate) fn test_plan(layout: &Layout, index: usize, test: PlanTest) -> Verdic
         PlanTest::NoSection => plain(layout.sections.len() == 0),
         PlanTest::NoGroup => plain(layout.groups.len() == 0),
         PlanTest::Missing(role) => {
-            plain(!is_there(role, parts) && !has_no_headers(layout, role))
+            let has_none = layout.kind.is_partial_link() && matches!(*role, Role::ProgramHeaders);
+            plain(!is_there(*role, parts) && !has_none)
         }
-        PlanTest::StaticDynamic => plain(is_role_there(layout, index)),
+        PlanTest::StaticDynamic => plain(match role_at(index) {
+            Some((_, role)) => is_there(role, parts),
+            None => false,
+        }),
         PlanTest::FirstSection => plain(match layout.sections.as_slice().get(0) {
             Some(first) => first.kind != 0 || first.name.len() != 0,
             None => false,
         }),
         PlanTest::NoDynamicSegment => {
-            let count = dynamic_before(layout, layout.segments.len());
+            let (_, count) = segments_before(layout, layout.segments.len());
             plain(is_there(Role::Dynamic, parts) && count == 0)
         }
         PlanTest::Entry => plain(match layout.entry {
@@ -88,7 +71,17 @@ pub(crate) fn test_plan(layout: &Layout, index: usize, test: PlanTest) -> Verdic
             _ => false,
         }),
         PlanTest::PrimaryPart => plain(layout.primary_part >= parts.len()),
-        PlanTest::Primary => plain(has_thunks(layout) && !holds_thunks(layout)),
+        PlanTest::Primary => {
+            let holds_thunks = match parts.get(layout.primary_part) {
+                Some(part) => {
+                    has_role(Role::Raw, part)
+                        && layout.has_data(part.section)
+                        && layout.is_allocated_section(part.section)
+                }
+                None => false,
+            };
+            plain(has_thunks(layout) && !holds_thunks)
+        }
         PlanTest::Pair => {
             let behind = behind_reserved(layout);
             due(layout.tlsld.unwrap_or(behind) != behind, behind)
@@ -106,9 +99,11 @@ pub(crate) fn test_plan(layout: &Layout, index: usize, test: PlanTest) -> Verdic
         | PlanTest::IdentityRaw
         | PlanTest::IdentitySize
         | PlanTest::IdentityAlone => test_identity(layout, test),
-        PlanTest::Segmented | PlanTest::Paired | PlanTest::Listed => {
-            plain(layout.kind.is_partial_link() && test_object(layout, test))
+        PlanTest::Segmented => {
+            plain(layout.kind.is_partial_link() && layout.segments.len() != 0)
         }
+        PlanTest::Paired => plain(layout.kind.is_partial_link() && layout.tlsld.is_some()),
+        PlanTest::Listed => plain(layout.kind.is_partial_link() && layout.dynsyms.len() != 0),
         PlanTest::KeepsAll => {
             plain(layout.options.only_keep_debug && layout.kind.is_partial_link())
         }
@@ -123,21 +118,12 @@ pub(crate) fn test_plan(layout: &Layout, index: usize, test: PlanTest) -> Verdic
     }
 }
 
-/// Adds how much is to be written of the table of the role with a number.
-fn push_table(out: &mut String, layout: &Layout, index: usize) -> Result<(), AllocError> {
-    if let Some((word, role)) = role_at(index) {
-        let needed = total_share(layout, role);
-        write!(out, "role {word}, needed {needed} bytes")?;
-    }
-    Ok(())
-}
-
 /// Adds what a test of the plan looked at.
 pub(crate) fn push_plan(
     out: &mut String,
     layout: &Layout,
     index: usize,
-    test: PlanTest,
+    test: &PlanTest,
 ) -> Result<(), AllocError> {
     match test {
         PlanTest::PageSize => {
@@ -149,7 +135,7 @@ pub(crate) fn push_plan(
             write!(out, "start {start}, end {end}, align {align}")?;
         }
         PlanTest::Missing(role) => {
-            let word = role_word(role);
+            let word = role_word(*role);
             write!(out, "no part of role {word}")?;
         }
         PlanTest::PrimaryPart | PlanTest::Primary => {
@@ -167,7 +153,12 @@ pub(crate) fn push_plan(
             let length = layout.interp.len();
             write!(out, "{length} bytes")?;
         }
-        PlanTest::StaticDynamic | PlanTest::NoTable => push_table(out, layout, index)?,
+        PlanTest::StaticDynamic | PlanTest::NoTable => {
+            if let Some((word, role)) = role_at(index) {
+                let needed = total_share(layout, role);
+                write!(out, "role {word}, needed {needed} bytes")?;
+            }
+        }
         PlanTest::Pair | PlanTest::NoPair | PlanTest::Paired => {
             let pair = layout.tlsld.unwrap_or(0);
             write!(out, "{pair}")?;

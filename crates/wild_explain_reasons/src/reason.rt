@@ -1,4 +1,4 @@
-//! Why a layout was refused, in words.
+//! FrameFault a layout was refused.
 
 use crate::clauses::push_clause;
 use crate::faults::push_fault;
@@ -9,7 +9,7 @@ use std::alloc::{AllocError, Global};
 use std::fmt::Write;
 use wild_types::{Error, Fault, Layout};
 
-/// Adds the reason for a share that is not what is needed.
+/// Adds the reason for a share that is smaller or larger than needed.
 fn push_share(
     out: &mut String,
     layout: &Layout,
@@ -37,18 +37,7 @@ fn push_share(
     Ok(())
 }
 
-/// Adds members that are likely left out: names of libraries, and the path of the dynamic linker.
-fn push_likely(out: &mut String, layout: &Layout) -> Result<(), AllocError> {
-    push_path(out, layout, "likely")?;
-    for (i, group) in layout.groups.as_slice().iter().enumerate() {
-        for (j, file) in group.files.as_slice().iter().enumerate() {
-            push_library(out, layout, "likely", Item::File(i, j), file)?;
-        }
-    }
-    Ok(())
-}
-
-/// Adds why a layout was refused: what is wrong, where, what stands there, and what can be done.
+/// Adds why a layout was refused: what is wrong, its path, what the plan has there, and the remedy.
 pub fn push_reason(
     out: &mut String,
     _alloc: Global,
@@ -58,7 +47,6 @@ pub fn push_reason(
     match error.fault {
         Fault::MalformedLayout { clause, index } => {
             push_clause(out, layout, clause, index)?;
-            push_likely(out, layout)
         }
         Fault::InsufficientAllocation {
             part,
@@ -73,8 +61,15 @@ pub fn push_reason(
             needed,
         } => {
             push_share(out, layout, part, group, given, needed)?;
-            push_likely(out, layout)
         }
-        fault => push_fault(out, layout, fault, error.at),
+        fault => return push_fault(out, layout, fault, error.at),
     }
+    // Members that are likely missing: the path of the dynamic linker, and names of libraries.
+    push_path(out, layout, "likely")?;
+    for (i, group) in layout.groups.as_slice().iter().enumerate() {
+        for (j, file) in group.files.as_slice().iter().enumerate() {
+            push_library(out, layout, "likely", Item::File(i, j), file)?;
+        }
+    }
+    Ok(())
 }

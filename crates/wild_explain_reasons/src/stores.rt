@@ -1,14 +1,14 @@
-//! Places that a loader stores at, and that nothing may write to.
+//! Places that a loader stores at, in memory that is not writable.
 
 use crate::headers::first_of;
 use crate::items::{Item, SectionPlace, push_item};
 use std::alloc::{AllocError, Global};
 use std::fmt::Write;
 use wild_records::abi::segment::{PF_W, PT_LOAD};
-use wild_slot::{SlotWord, SymbolSlots, Treatment, begins_block, treatment_of};
+use wild_slot::{SlotWord, SymbolSlots, Treatment, begins_relr_got, treatment_of};
 use wild_types::{File, InputSection, Layout, Role, SectionIndex, Segment, Slot, is_writable};
 
-/// Where a loader may not store: the loaded segments in their order, and what keeps it from the parts of slots.
+/// The loaded segments in their order, and what keeps a loader from storing in the parts `got` and `got_relr`.
 #[derive(Drop)]
 pub(crate) struct Barriers {
     loaded: Vec<(usize, Segment)>,
@@ -16,24 +16,27 @@ pub(crate) struct Barriers {
     block: Option<Item>,
 }
 
-/// The loaded segments with their places.
-fn loaded_segments(alloc: Global, layout: &Layout) -> Result<Vec<(usize, Segment)>, AllocError> {
-    let mut loaded = Vec::new(alloc);
-    for (i, segment) in layout.segments.as_slice().iter().enumerate() {
-        if segment.kind == PT_LOAD {
-            loaded.push((i, *segment))?;
+/// The last segment that begins at an address or before it. Segments ascend, so this is a binary search.
+fn segment_at(loaded: &[(usize, Segment)], address: u64) -> Option<(usize, Segment)> {
+    let mut found = None;
+    let (mut low, mut high) = (0usize, loaded.len());
+    for _ in 0..64 {
+        if low >= high {
+            break;
+        }
+        let middle = low.saturating_add(high.saturating_sub(low) / 2);
+        match loaded.get(middle) {
+            Some(segment) if segment.1.address <= address => {
+                found = Some(*segment);
+                low = middle.saturating_add(1);
+            }
+            _ => high = middle,
         }
     }
-    Ok(loaded)
+    found
 }
 
-/// The last of some segments that begins at an address or ahead of it.
-fn segment_at(loaded: &[(usize, Segment)], address: u64) -> Option<(usize, Segment)> {
-    let count = loaded.partition_point(|s| s.1.address <= address);
-    loaded.get(count.checked_sub(1)?).copied()
-}
-
-/// The segment at an address of a section, or the section, where that cannot be written.
+/// The segment at an address of a section, or else the section, if it is not writable.
 fn barrier_at(
     layout: &Layout,
     loaded: &[(usize, Segment)],
@@ -58,16 +61,21 @@ fn barrier_of(layout: &Layout, loaded: &[(usize, Segment)], role: Role) -> Optio
 }
 
 impl Barriers {
-    /// Those of a layout.
+    /// The barriers of a layout.
     pub(crate) fn of(alloc: Global, layout: &Layout) -> Result<Barriers, AllocError> {
-        let loaded = loaded_segments(alloc, layout)?;
+        let mut loaded = Vec::new(alloc);
+        for (i, segment) in layout.segments.as_slice().iter().enumerate() {
+            if segment.kind == PT_LOAD {
+                loaded.push((i, *segment))?;
+            }
+        }
         let got = barrier_of(layout, loaded.as_slice(), Role::Got);
         let block = barrier_of(layout, loaded.as_slice(), Role::GotRelr);
         Ok(Barriers { loaded, got, block })
     }
 }
 
-/// Adds what a loader stores at, and what keeps it from that.
+/// Adds what a loader stores, and what keeps it from that.
 fn push_barrier(
     out: &mut String,
     stored: Item,
@@ -90,17 +98,7 @@ fn push_barrier(
     Ok(())
 }
 
-/// Whether a loader stores one of some words.
-fn has_stored(words: &[SlotWord]) -> bool {
-    for word in words {
-        if !matches!(word, SlotWord::Number(_)) {
-            return true;
-        }
-    }
-    false
-}
-
-/// Adds the first symbol of a file with a slot that a loader stores where it may not.
+/// Adds the first symbol of a file with a slot that a loader stores in memory that is not writable.
 pub(crate) fn push_slots(
     out: &mut String,
     layout: &Layout,
@@ -112,13 +110,17 @@ pub(crate) fn push_slots(
     }
     for (i, symbol) in layout.own_symbols(file).iter().enumerate() {
         let slots = SymbolSlots::of(layout, symbol);
-        let barrier = if begins_block(slots.words()) {
+        let barrier = if begins_relr_got(slots.words()) {
             barriers.block
         } else {
             barriers.got
         };
+        let mut is_stored = false;
+        for word in slots.words() {
+            is_stored = is_stored || !matches!(word, SlotWord::Number(_));
+        }
         if let Some(barrier) = barrier
-            && has_stored(slots.words())
+            && is_stored
         {
             let stored = Item::Symbol(file.first_symbol.0.saturating_add(i));
             return push_barrier(out, stored, None, barrier);
@@ -143,7 +145,7 @@ fn first_stored(layout: &Layout, section: &InputSection) -> Option<usize> {
     None
 }
 
-/// Adds of each section of a file, frames left out, the first relocation whose field a loader stores where it may not.
+/// Adds, for each section of a file except frames, the first relocation whose field a loader stores in memory that is not writable.
 pub(crate) fn push_stores(
     out: &mut String,
     layout: &Layout,

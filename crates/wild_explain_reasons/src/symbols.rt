@@ -4,18 +4,10 @@ use crate::headers::first_of;
 use crate::tests::SymbolTest;
 use crate::verdict::{Verdict, due, plain};
 use wild_needs::{dynsym_of, is_undefined_entry};
-use wild_slot::{STUB_SIZE, SymbolSlots, WORD_SIZE, WordPart, begins_block, count_words};
+use wild_slot::{STUB_SIZE, SymbolSlots, WORD_SIZE, WordPart, begins_relr_got, count_words};
 use wild_types::{Layout, Place, Role, Symbol, SymbolIndex, got_of, has_thread_slot, plt_of};
 
-/// The next free word of `got` and of `got_relr`, and the next free stub of `plt_got`.
-#[derive(Clone, Copy)]
-struct Free {
-    got: u64,
-    block: u64,
-    stub: u64,
-}
-
-/// Where the part of a role begins; 0 where there is none.
+/// The address of the part of a role; 0 if there is none.
 fn start_of(layout: &Layout, role: Role) -> u64 {
     match first_of(layout, role) {
         Some((_, part)) => part.address,
@@ -23,43 +15,35 @@ fn start_of(layout: &Layout, role: Role) -> u64 {
     }
 }
 
-/// The place behind the reserved words.
+/// The address after the reserved words of `got`.
 pub(crate) fn behind_reserved(layout: &Layout) -> u64 {
     start_of(layout, Role::Got).saturating_add(layout.got_header.saturating_mul(8))
 }
 
-/// The places behind those of a symbol.
-fn behind(layout: &Layout, free: Free, symbol: &Symbol) -> Free {
-    let slots = SymbolSlots::of(layout, symbol);
-    let relr = layout.options.relr;
-    let place = symbol.slots_at();
-    let got = count_words(WordPart::Got, relr, place, slots.words());
-    let block = count_words(WordPart::Block, relr, place, slots.words());
-    let stub = if slots.has_stub() { STUB_SIZE } else { 0 };
-    Free {
-        got: free.got.saturating_add((WORD_SIZE * got) as u64),
-        block: free.block.saturating_add((WORD_SIZE * block) as u64),
-        stub: free.stub.saturating_add(stub as u64),
-    }
-}
-
-/// What is free when a symbol has its turn, where a file writes its slots.
-fn free_at(layout: &Layout, index: usize) -> Option<Free> {
+/// The next free word of `got` and of `got_relr`, and the next free stub of `plt_got`, before a symbol's slots are assigned; none if no
+/// file writes them.
+fn free_at(layout: &Layout, index: usize) -> Option<(u64, u64, u64)> {
     let pair = if layout.tlsld.is_some() { 16 } else { 0 };
-    let mut free = Free {
-        got: behind_reserved(layout).saturating_add(pair),
-        block: start_of(layout, Role::GotRelr),
-        stub: start_of(layout, Role::PltGot),
-    };
+    let relr = layout.options.relr;
+    let mut got = behind_reserved(layout).saturating_add(pair);
+    let mut block = start_of(layout, Role::GotRelr);
+    let mut stub = start_of(layout, Role::PltGot);
     for group in layout.groups.as_slice() {
         for file in group.files.as_slice() {
             let first = file.first_symbol.0;
             for (i, symbol) in layout.own_symbols(file).iter().enumerate() {
                 if first.saturating_add(i) == index {
-                    return Some(free);
+                    return Some((got, block, stub));
                 }
                 if got_of(symbol).is_some() {
-                    free = behind(layout, free, symbol);
+                    let slots = SymbolSlots::of(layout, symbol);
+                    let place = symbol.slots_address();
+                    let words = count_words(WordPart::Got, relr, place, slots.words());
+                    let packed = count_words(WordPart::RelrGot, relr, place, slots.words());
+                    let size = if slots.has_stub() { STUB_SIZE } else { 0 };
+                    got = got.saturating_add((WORD_SIZE * words) as u64);
+                    block = block.saturating_add((WORD_SIZE * packed) as u64);
+                    stub = stub.saturating_add(size as u64);
                 }
             }
         }
@@ -76,18 +60,18 @@ fn astray(found: Option<u64>, expected: u64) -> Verdict {
 }
 
 /// Whether the slots and the stub of a symbol fail a test.
-fn test_slots(layout: &Layout, index: usize, symbol: &Symbol, test: SymbolTest) -> Verdict {
+fn test_slots(layout: &Layout, index: usize, symbol: &Symbol, test: &SymbolTest) -> Verdict {
     let got = got_of(symbol);
-    let Some(free) = free_at(layout, index) else {
+    let Some((free_got, free_block, free_stub)) = free_at(layout, index) else {
         let unwritten = matches!(test, SymbolTest::Unwritten);
         return plain(unwritten && got.is_some());
     };
     match test {
-        SymbolTest::Slot if begins_block(SymbolSlots::of(layout, symbol).words()) => {
-            astray(got, free.block)
+        SymbolTest::Slot if begins_relr_got(SymbolSlots::of(layout, symbol).words()) => {
+            astray(got, free_block)
         }
-        SymbolTest::Slot => astray(got, free.got),
-        SymbolTest::Stub => astray(plt_of(symbol), free.stub),
+        SymbolTest::Slot => astray(got, free_got),
+        SymbolTest::Stub => astray(plt_of(symbol), free_stub),
         _ => plain(false),
     }
 }
@@ -123,14 +107,6 @@ pub(crate) fn position_of(layout: &Layout, symbol: usize) -> Option<usize> {
     position
 }
 
-/// Whether the index of a symbol in the dynamic symbol table is not its position.
-fn test_position(layout: &Layout, index: usize, symbol: &Symbol) -> Verdict {
-    match (dynsym_of(symbol), position_of(layout, index)) {
-        (Some(found), Some(position)) => due(found != position as u64, position as u64),
-        (found, _) => plain(found.is_some()),
-    }
-}
-
 /// Whether a symbol's input section is not there, or the symbol in no file's range.
 fn is_homeless(layout: &Layout, index: usize, section: usize) -> bool {
     for group in layout.groups.as_slice() {
@@ -145,7 +121,7 @@ fn is_homeless(layout: &Layout, index: usize, section: usize) -> bool {
 }
 
 /// Whether the flags of a symbol fail a test.
-fn test_flags(layout: &Layout, symbol: &Symbol, test: SymbolTest) -> bool {
+fn test_flags(layout: &Layout, symbol: &Symbol, test: &SymbolTest) -> bool {
     let flags = symbol.flags;
     let stub = plt_of(symbol);
     let thread = has_thread_slot(flags);
@@ -180,7 +156,7 @@ pub(crate) fn test_symbol(
     layout: &Layout,
     index: usize,
     symbol: &Symbol,
-    test: SymbolTest,
+    test: &SymbolTest,
 ) -> Verdict {
     match test {
         SymbolTest::Definition => plain(match symbol.definition {
@@ -207,7 +183,10 @@ pub(crate) fn test_symbol(
             Some(got) => got % 8 != 0,
             None => false,
         }),
-        SymbolTest::Position => test_position(layout, index, symbol),
+        SymbolTest::Position => match (dynsym_of(symbol), position_of(layout, index)) {
+            (Some(found), Some(position)) => due(found != position as u64, position as u64),
+            (found, _) => plain(found.is_some()),
+        },
         SymbolTest::Slotted => {
             let is_slotted = got_of(symbol).is_some() || plt_of(symbol).is_some();
             plain(layout.kind.is_partial_link() && is_slotted)

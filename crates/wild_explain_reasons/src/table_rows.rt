@@ -1,5 +1,6 @@
-//! The tests of the clauses on indexes, slots, tables and names, each with the clause, what is wrong where an item fails it, and the member that is looked at. Those of a clause
-//! stand in its order: the first that an item fails is the one that failed, since no item fails an earlier one.
+//! The tests of the clauses on indexes, slots, tables and names. Each has its clause, what is wrong if an item fails it, and the member that
+//! is looked at. The tests of a clause are in its order: the first that an item fails is the one that failed, since no item fails an earlier
+//! one.
 
 use crate::layout_rows::Row;
 use crate::tests::{

@@ -1,9 +1,8 @@
-//! What the tests of the clauses ask of which item.
+//! The tests of the clauses, by the kind of item that they look at.
 
 use wild_types::Role;
 
-/// What is asked of the plan as a whole.
-#[derive(Clone, Copy)]
+/// Tests of the plan as a whole.
 pub(crate) enum PlanTest {
     PageSize,
     ThreadAlign,
@@ -49,8 +48,7 @@ pub(crate) enum PlanTest {
     KeepsAll,
 }
 
-/// What is asked of a part.
-#[derive(Clone, Copy)]
+/// Tests of a part.
 pub(crate) enum PartTest {
     Ends,
     Order,
@@ -71,8 +69,7 @@ pub(crate) enum PartTest {
     Last,
 }
 
-/// What is asked of an output section.
-#[derive(Clone, Copy)]
+/// Tests of an output section.
 pub(crate) enum SectionTest {
     Ends,
     Memory,
@@ -81,8 +78,7 @@ pub(crate) enum SectionTest {
     Name,
 }
 
-/// What is asked of a segment.
-#[derive(Clone, Copy)]
+/// Tests of a segment.
 pub(crate) enum SegmentTest {
     Ends,
     Order,
@@ -93,8 +89,7 @@ pub(crate) enum SegmentTest {
     Dynamic,
 }
 
-/// What is asked of a symbol.
-#[derive(Clone, Copy)]
+/// Tests of a symbol.
 pub(crate) enum SymbolTest {
     Definition,
     Output,
@@ -124,8 +119,7 @@ pub(crate) enum SymbolTest {
     Indexed,
 }
 
-/// What is asked of an input section.
-#[derive(Clone, Copy)]
+/// Tests of an input section.
 pub(crate) enum InputTest {
     Ends,
     Before,
@@ -156,8 +150,7 @@ pub(crate) enum InputTest {
     NoData,
 }
 
-/// What is asked of a file.
-#[derive(Clone, Copy)]
+/// Tests of a file.
 pub(crate) enum FileTest {
     Role,
     Range,
@@ -170,8 +163,7 @@ pub(crate) enum FileTest {
     Needed,
 }
 
-/// What is asked of a thunk.
-#[derive(Clone, Copy)]
+/// Tests of a thunk.
 pub(crate) enum ThunkTest {
     Symbol,
     Order,
@@ -182,15 +174,13 @@ pub(crate) enum ThunkTest {
     Any,
 }
 
-/// What is asked of an entry of `sorted`.
-#[derive(Clone, Copy)]
+/// Tests of an entry of `sorted`.
 pub(crate) enum SortedTest {
     Other,
     Index,
 }
 
-/// What is asked of merged strings.
-#[derive(Clone, Copy)]
+/// Tests of merged strings.
 pub(crate) enum MergedTest {
     Raw,
     Part,
@@ -198,24 +188,21 @@ pub(crate) enum MergedTest {
     Shared,
 }
 
-/// What is asked of a group.
-#[derive(Clone, Copy)]
+/// Tests of a group.
 pub(crate) enum GroupTest {
     Count,
     NoFile,
     Start(Role),
 }
 
-/// What is asked of an item of `dynsyms` or `verdefs`.
-#[derive(Clone, Copy)]
+/// Tests of an item of `dynsyms` or `verdefs`.
 pub(crate) enum EntryTest {
     Index,
     Order,
     Name,
 }
 
-/// What is asked of which item.
-#[derive(Clone, Copy)]
+/// A test, by the kind of item that it looks at.
 pub(crate) enum Test {
     Plan(PlanTest),
     Part(PartTest),

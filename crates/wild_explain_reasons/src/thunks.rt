@@ -1,15 +1,15 @@
-//! Tests of thunks, and where they stand.
+//! Tests of thunks and of their addresses.
 
 use crate::items::{Item, SectionPlace};
 use crate::tests::ThunkTest;
 use crate::verdict::{Finding, due, plain};
 use wild_slot::page_of;
-use wild_types::{File, Group, Layout, Thunk};
+use wild_types::{At, Group, Layout, Thunk};
 
 /// The bytes of a thunk.
 const THUNK_SIZE: u64 = 12;
 
-/// Whether there are thunks.
+/// Whether a layout has thunks.
 pub(crate) fn has_thunks(layout: &Layout) -> bool {
     for block in layout.thunk_blocks.as_slice() {
         if block.len() != 0 {
@@ -19,21 +19,15 @@ pub(crate) fn has_thunks(layout: &Layout) -> bool {
     false
 }
 
-/// The first thunk whose symbol is not there.
-fn first_absent(layout: &Layout, thunks: &[Thunk]) -> Option<usize> {
-    for (i, thunk) in thunks.iter().enumerate() {
-        if thunk.symbol.0 >= layout.symbols.len() {
-            return Some(i);
-        }
-    }
-    None
-}
-
-/// The first thunk whose symbol does not come behind that of the one ahead.
-fn first_descending(thunks: &[Thunk]) -> Option<usize> {
+/// The first thunk whose symbol is not there, or for the other test does not come after that of the one before.
+fn first_wrong(layout: &Layout, thunks: &[Thunk], test: &ThunkTest) -> Option<usize> {
     let mut low: usize = 0;
     for (i, thunk) in thunks.iter().enumerate() {
-        if thunk.symbol.0 < low {
+        let is_wrong = match test {
+            ThunkTest::Symbol => thunk.symbol.0 >= layout.symbols.len(),
+            _ => thunk.symbol.0 < low,
+        };
+        if is_wrong {
             return Some(i);
         }
         low = thunk.symbol.0.saturating_add(1);
@@ -65,7 +59,7 @@ fn misplaced_in(
     let mut next = start;
     for (file, held) in held.files.as_slice().iter().enumerate() {
         for (section, input) in held.sections.as_slice().iter().enumerate() {
-            if input.part == layout.primary_part && input.is_given(layout) {
+            if input.part == layout.primary_part && input.has_range_bytes(layout) {
                 if input.address < next {
                     let item = Item::Input(SectionPlace {
                         group,
@@ -91,7 +85,7 @@ fn misplaced_in(
     None
 }
 
-/// The same of all groups.
+/// The same for all groups.
 fn first_misplaced(layout: &Layout) -> Option<Finding> {
     let part = layout.primary_part;
     let mut start = layout.parts.as_slice().get(part)?.address;
@@ -106,15 +100,14 @@ fn first_misplaced(layout: &Layout) -> Option<Finding> {
     None
 }
 
-/// The thunk, or the input section, that fails a test, where the clause fails at an index.
-pub(crate) fn find_thunk(layout: &Layout, index: usize, test: ThunkTest) -> Option<Finding> {
+/// The thunk, or the input section, that fails a test of a clause that fails at an index.
+pub(crate) fn find_thunk(layout: &Layout, index: usize, test: &ThunkTest) -> Option<Finding> {
     if let ThunkTest::Place = test {
         return first_misplaced(layout);
     }
     let thunks = layout.thunk_blocks.as_slice().get(index)?.as_slice();
     let found = match test {
-        ThunkTest::Symbol => first_absent(layout, thunks)?,
-        ThunkTest::Order => first_descending(thunks)?,
+        ThunkTest::Symbol | ThunkTest::Order => first_wrong(layout, thunks, test)?,
         ThunkTest::Owner if is_owned(layout, index) => return None,
         ThunkTest::Any if !layout.kind.is_partial_link() || thunks.is_empty() => return None,
         _ => 0,
@@ -125,24 +118,22 @@ pub(crate) fn find_thunk(layout: &Layout, index: usize, test: ThunkTest) -> Opti
     })
 }
 
-/// Where a thunk goes on to: the stub of its symbol, or where that has none its address.
-fn target_of(layout: &Layout, thunk: &Thunk) -> Option<u64> {
+/// How far the page of a thunk's target is from its own, modulo 2^64. The target is the stub of its symbol, or without one its address.
+fn pages_apart(layout: &Layout, thunk: &Thunk) -> Option<u64> {
     let definition = layout.canonical(thunk.symbol);
     let found = layout.symbols.as_slice().get(definition.0)?;
-    match found.resolution {
-        Some(resolution) => resolution.plt_address.or(layout.raw_value(thunk.symbol)),
-        None => layout.raw_value(thunk.symbol),
-    }
-}
-
-/// How far the page of its target is from its own, modulo 2^64.
-fn pages_apart(layout: &Layout, thunk: &Thunk) -> Option<u64> {
-    let target = target_of(layout, thunk)?;
+    let address = layout.raw_value(thunk.symbol);
+    let target = match found.resolution {
+        Some(resolution) => resolution.plt_address.or(address)?,
+        None => address?,
+    };
     Some(page_of(target).wrapping_sub(page_of(thunk.address)))
 }
 
-/// The first thunk that a file writes whose target is so far away.
-pub(crate) fn refused_thunk(layout: &Layout, file: &File, value: u64) -> Option<Item> {
+/// The first thunk that the file at a place writes whose target is so far away.
+pub(crate) fn refused_thunk(layout: &Layout, at: At, value: u64) -> Option<Item> {
+    let group = layout.groups.as_slice().get(at.group?)?;
+    let file = group.files.as_slice().get(at.file?)?;
     for (i, thunk) in layout.thunks_of(file).iter().enumerate() {
         if pages_apart(layout, thunk) == Some(value) {
             return Some(Item::Thunk(file.thunk_block, i));
@@ -151,7 +142,7 @@ pub(crate) fn refused_thunk(layout: &Layout, file: &File, value: u64) -> Option<
     None
 }
 
-/// The thunk of a group that has the address, and how far behind its start that is.
+/// The thunk of a group that has the address, and the offset of the address in it.
 pub(crate) fn thunk_with(layout: &Layout, group: usize, address: u64) -> Option<(Item, u64)> {
     let found = layout.groups.as_slice().get(group)?;
     for file in found.files.as_slice() {

@@ -1,4 +1,4 @@
-//! Whether an item fails a test, with what is expected there.
+//! Whether an item fails a test, and the number that is expected there.
 
 use crate::items::Item;
 

@@ -10,8 +10,8 @@ pub fn hash_tables_have_their_lengths()
 {}
 
 /// In a GNU hash table of defined symbols, the look-up of any name gives the first symbol with that name, and none if no
-/// symbol has it. This holds with any readers of words and names, for a table anywhere in bytes, for the bytes that are
-/// written here, and in an image whose dynamic section refers to such tables.
+/// symbol has it. This holds for any readers of words and names, for a table anywhere in bytes, and for the bytes that are
+/// written here. It also holds in an image whose dynamic section refers to such tables.
 pub fn gnu_look_up_finds_the_first()
     ensures readers { GnuReadersFindTheFirst }
     ensures standing { GnuTablesInBytesFindTheFirst }

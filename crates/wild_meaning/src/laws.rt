@@ -1,12 +1,12 @@
 //! The images that the definitions refuse: worked layouts, legal worlds for them, and images that are not linked there.
-ghost use Rattle.wild_meaning.specs.CopyRefusals.{CopyingWorldIsLegal, WrongCopyIsRefused, WrongZeroIsRefused, WrongPlaceOfCopyIsRefused, WrongMachineIsRefused, WrongHeadersAreRefused, CopyingImageIsLinked};
-ghost use Rattle.wild_meaning.specs.ImageRefusalsAArch64.{WordsWorldIsLegal, WrongCodeOfWordsIsRefused, WordsImageIsLinked};
-ghost use Rattle.wild_meaning.specs.RefusalsAArch64.{RightWordsDo, WrongWordsAreRefused, CutBitsAreRefused, SlotAddendsAreRefused, PairsAreExcepted, NegatedMovesAreUnknown, ShiftedAddsAreUnknown, ThunksAreJudged};
-ghost use Rattle.wild_meaning.specs.Replaced.{DynamicIsReplaceable, ExportedIsReplaceable, AnswersAreTaken};
-ghost use Rattle.wild_meaning.specs.SegmentRefusals.{WrongSegmentsAreRefused, OtherPlacesAreRefused, WrongSizesAreRefused, NoDynamicIsRefused, WrongEntriesAreRefused};
-ghost use Rattle.wild_meaning.specs.SharedRefusals.{SharedWorldIsLegal, WrongSlotsAreRefused, WrongAddressesAreRefused, WrongOffsetsAreRefused, WrongModulesAreRefused, WrongDescriptorsAreRefused, WrongSizeIsRefused, WrongByteIsRefused, WrongCodeOfLibraryIsRefused};
-ghost use Rattle.wild_meaning.specs.StringRefusals.{StringsAreJudged, ReversedWordsAreJudged};
-ghost use Rattle.wild_meaning.specs.StaticRefusals.{StaticPieWorldIsLegal, WrongDataAreRefused, WrongCodeIsRefused, WrongBlankIsRefused, StaticImageIsLinked};
+ghost use Rattle.wild_meaning.specs.Worked.CopyRefusals.{CopyingWorldIsLegal, WrongCopyIsRefused, WrongZeroIsRefused, WrongPlaceOfCopyIsRefused, WrongMachineIsRefused, WrongHeadersAreRefused, CopyingImageIsLinked};
+ghost use Rattle.wild_meaning.specs.Worked.ImageRefusalsAArch64.{WordsWorldIsLegal, WrongCodeOfWordsIsRefused, WordsImageIsLinked};
+ghost use Rattle.wild_meaning.specs.Worked.RefusalsAArch64.{RightWordsDo, WrongWordsAreRefused, CutBitsAreRefused, SlotAddendsAreRefused, PairsAreExcepted, NegatedMovesAreUnknown, ShiftedAddsAreUnknown, ThunksAreJudged};
+ghost use Rattle.wild_meaning.specs.Worked.ReplaceableSymbols.{DynamicIsReplaceable, ExportedIsReplaceable, AnswersAreTaken};
+ghost use Rattle.wild_meaning.specs.Worked.SegmentRefusals.{WrongSegmentsAreRefused, OtherPlacesAreRefused, WrongSizesAreRefused, NoDynamicIsRefused, WrongEntriesAreRefused};
+ghost use Rattle.wild_meaning.specs.Worked.SharedRefusals.{SharedWorldIsLegal, WrongSlotsAreRefused, WrongAddressesAreRefused, WrongOffsetsAreRefused, WrongModulesAreRefused, WrongDescriptorsAreRefused, WrongSizeIsRefused, WrongByteIsRefused, WrongCodeOfLibraryIsRefused};
+ghost use Rattle.wild_meaning.specs.Worked.StringRefusals.{StringsAreJudged, ReversedWordsAreJudged};
+ghost use Rattle.wild_meaning.specs.Worked.StaticRefusals.{StaticPieWorldIsLegal, WrongDataAreRefused, WrongCodeIsRefused, WrongBlankIsRefused, StaticImageIsLinked};
 
 use wild_records::file_header_is_read;
 
@@ -25,9 +25,10 @@ pub fn symbols_are_replaced()
     ensures taken { AnswersAreTaken }
 {}
 
-/// No image of the worked shared object is linked in its world if memory is wrong in one of these places:
-/// a slot of an address or an offset, a word with an address, a thread-pointer offset, the module of a pair, the offset of a
-/// descriptor, a size, a byte in no field, or code that receives an offset where it requires a descriptor.
+/// No image of the worked shared object is linked in its world with one fault in memory:
+/// - a slot of an address or an offset, a word with an address, a thread-pointer offset;
+/// - the module of a pair, the offset of a descriptor, a size, a byte in no field;
+/// - code that receives an offset where it requires a descriptor.
 pub fn wrong_shared_objects_are_refused()
     ensures slots { WrongSlotsAreRefused }
     ensures addresses { WrongAddressesAreRefused }
@@ -39,9 +40,11 @@ pub fn wrong_shared_objects_are_refused()
     ensures code { WrongCodeOfLibraryIsRefused }
 {}
 
-/// No image of the worked program with a copied symbol is linked in its world with one of these faults:
-/// a copied byte, a zero byte of a section without data, the address of the copied symbol, or the machine, type or entry in the
-/// file header. One image is linked there.
+/// No image of the worked program with a copied symbol is linked in its world with one fault:
+/// - a copied byte, or a zero byte of a section without data;
+/// - the address of the copied symbol;
+/// - the machine, type or entry in the file header.
+/// One image is linked there.
 pub fn wrong_copies_are_refused()
     ensures copy { WrongCopyIsRefused }
     ensures zero { WrongZeroIsRefused }
@@ -53,10 +56,11 @@ pub fn wrong_copies_are_refused()
     file_header_is_read();
 }
 
-/// No image of the worked program without a dynamic linker is linked in its world with one of these faults:
-/// an address that does not move, or an offset or entry that does; a branch to another symbol; a load of the byte past its
-/// symbol; a half rewritten sequence; code that receives a descriptor where it requires an offset; or a byte other than 0 in a
-/// section without data, among others that have some.
+/// No image of the worked program without a dynamic linker is linked in its world with one fault:
+/// - an address that does not move, or an offset or entry that does;
+/// - a branch to another symbol, or a load of the byte past its symbol;
+/// - a half rewritten sequence, or code that receives a descriptor where it requires an offset;
+/// - a byte other than 0 in a section without data, among others that have some.
 /// One image is linked there.
 pub fn wrong_programs_are_refused()
     ensures words { WrongDataAreRefused }
@@ -90,8 +94,9 @@ pub fn wrong_segments_are_refused()
 }
 
 /// On AArch64 a rewritten descriptor call has the required effect, and so has a page pair. With one wrong word the code does not:
-/// a call that remains, one half in the other half's place, a distance from another place, the complement of a number, the slot
-/// of another symbol.
+/// - a call that remains, or one half in the other half's place;
+/// - a distance from another place, or the complement of a number;
+/// - the slot of another symbol.
 /// No reference holds whose value does not fit its field, or that adds something to a symbol's slot.
 /// The two parts of an absolute symbol's address are checked at the same bases.
 /// Neither `movn` nor an `add` of a shifted number is an instruction that its type fills. A thunk to the next page does not reach
@@ -107,9 +112,10 @@ pub fn wrong_words_are_refused()
     ensures thunks { ThunksAreJudged }
 {}
 
-/// No image of the worked AArch64 program is linked in its world with one of these faults:
-/// a load from another slot than the symbol's, a thunk to the next page, a branch with an addend through a thunk, which adds
-/// nothing, or a descriptor call that is rewritten by half or with the low half of the offset in the high one's place.
+/// No image of the worked AArch64 program is linked in its world with one fault:
+/// - a load from another slot than the symbol's, or a thunk to the next page;
+/// - a branch with an addend through a thunk, which adds nothing;
+/// - a descriptor call that is rewritten by half, or with the low half of the offset in the high one's place.
 /// The world is legal, and one image is linked there.
 pub fn wrong_programs_of_words_are_refused()
     ensures legal { WordsWorldIsLegal }

@@ -5,8 +5,6 @@ mod in_order;
 mod ranges;
 mod sharded;
 mod step;
-#[cfg(test)]
-mod tests;
 
 pub use in_order::{apply_in_order, fields_lie, other_bytes_stay};
 pub use ranges::{

@@ -1,7 +1,9 @@
-//! Tests of the program: what no contract says, over sources and sinks in memory.
+//! Tests of the two programs over input and output in memory: commands, reads and writes that fail, sizes and needs.
 #![tactic(auto)]
 
 #[cfg(test)]
-mod outside;
+mod explain;
+#[cfg(test)]
+mod io;
 #[cfg(test)]
 mod program;

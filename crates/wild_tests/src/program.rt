@@ -1,5 +1,5 @@
-//! The program over sources and sinks that fail, and over those that never do.
-use crate::outside::{CALM, Outside, answer, words_of};
+//! The linking program over input and output that fail, and over those that never do.
+use crate::io::{CALM, Io, answer, words_of};
 use std::alloc::Global;
 use std::test::*;
 use std::thread::Threads;
@@ -38,7 +38,7 @@ const NO_COMMANDS: &[&[&str]] = &[
 ];
 
 #[test]
-fn no_command(rt: HostRuntime) -> Result<(), Fail> {
+fn words_that_are_no_command(rt: HostRuntime) -> Result<(), Fail> {
     for words in NO_COMMANDS {
         let (status, text) = answer(&rt, rt.alloc(), words, b"{}", &CALM)?;
         let usage = b"usage: link W | make N W\n".as_slice();
@@ -47,28 +47,28 @@ fn no_command(rt: HostRuntime) -> Result<(), Fail> {
     Ok(())
 }
 
-/// How many bytes a read gives at most, and how many reads the smallest plan takes then: the last one finds its end.
+/// How many bytes a read returns at most, and how many reads the smallest plan takes then: the last one finds its end.
 const READS: &[(usize, u64)] = &[(700, 3), (7, 172)];
 
-/// Each read fails; behind the last there is none.
+/// Each read fails in turn; after the last there is none.
 #[test]
 fn failing_reads(rt: HostRuntime) -> Result<(), Fail> {
     let plan = SMALLEST.as_bytes();
     for (most, count) in READS {
         for call in 0..*count {
-            let outside = Outside {
-                reads: &[call],
+            let io = Io {
+                failing_reads: &[call],
                 most: *most,
                 ..CALM
             };
-            let (status, text) = answer(&rt, rt.alloc(), &["link", "1"], plan, &outside)?;
+            let (status, text) = answer(&rt, rt.alloc(), &["link", "1"], plan, &io)?;
             assert!(rt;
                 status == 4 && text.as_slice() == b"read fault\n".as_slice(),
                 "{most} {call}"
             );
         }
-        let calm = Outside {
-            reads: &[*count],
+        let calm = Io {
+            failing_reads: &[*count],
             most: *most,
             ..CALM
         };
@@ -82,7 +82,7 @@ fn failing_reads(rt: HostRuntime) -> Result<(), Fail> {
 }
 
 #[test]
-fn cut_plans(rt: HostRuntime) -> Result<(), Fail> {
+fn plans_without_their_end(rt: HostRuntime) -> Result<(), Fail> {
     let plan = SMALLEST.as_bytes();
     for end in 0..plan.len() {
         let (status, text) = answer(&rt, rt.alloc(), &["link", "64"], &plan[..end], &CALM)?;
@@ -92,12 +92,12 @@ fn cut_plans(rt: HostRuntime) -> Result<(), Fail> {
     Ok(())
 }
 
-/// Whether just so many bytes of the whole text are taken.
-fn is_front(text: &str, taken: &[u8], count: usize) -> bool {
+/// Whether exactly so many bytes, the first ones of the text, were written.
+fn is_prefix(text: &str, taken: &[u8], count: usize) -> bool {
     taken.len() == count && text.as_bytes().starts_with(taken)
 }
 
-/// Texts of each kind, with the words and the plan that they come for, and how many bytes a write takes at most.
+/// Outputs of each kind: the words, the plan, the text that is written, and how many bytes a write takes at most.
 const TEXTS: &[(&[&str], &str, &str, usize)] = &[
     (&["link", "1"], SMALLEST, SMALLEST_TEXT, 8),
     (
@@ -116,25 +116,25 @@ const TEXTS: &[(&[&str], &str, &str, usize)] = &[
     (&[], "", "usage: link W | make N W\n", 1),
 ];
 
-/// Each write of a text fails, or takes nothing.
+/// Each write fails in turn, or takes nothing.
 #[test]
 fn failing_writes(rt: HostRuntime) -> Result<(), Fail> {
     for (words, plan, text, most) in TEXTS {
         for call in 0..text.len().div_ceil((*most).max(1)) {
-            let fails = Outside {
-                writes: &[call as u64],
+            let fails = Io {
+                failing_writes: &[call as u64],
                 most: *most,
                 ..CALM
             };
-            let takes_none = Outside {
-                empty: &[call as u64],
+            let takes_none = Io {
+                empty_writes: &[call as u64],
                 most: *most,
                 ..CALM
             };
-            for outside in &[fails, takes_none] {
-                let (status, taken) = answer(&rt, rt.alloc(), words, plan.as_bytes(), outside)?;
+            for io in &[fails, takes_none] {
+                let (status, taken) = answer(&rt, rt.alloc(), words, plan.as_bytes(), io)?;
                 let is_so = status == 5
-                    && is_front(text, taken.as_slice(), most.saturating_mul(call));
+                    && is_prefix(text, taken.as_slice(), most.saturating_mul(call));
                 assert!(rt; is_so, "{words:?} {plan} {call}");
             }
         }
@@ -142,17 +142,18 @@ fn failing_writes(rt: HostRuntime) -> Result<(), Fail> {
     Ok(())
 }
 
-/// Where a read gives a byte and a write takes one, the text is the same. Where a read fails and no write is taken, there is none.
+/// The text is the same if each read returns one byte and each write takes one. If a read and the first write fail, nothing is
+/// written.
 #[test]
 fn small_writes(rt: HostRuntime) -> Result<(), Fail> {
-    let small = Outside { most: 1, ..CALM };
+    let small = Io { most: 1, ..CALM };
     for (words, plan, text, _) in TEXTS {
         let (_, taken) = answer(&rt, rt.alloc(), words, plan.as_bytes(), &small)?;
         assert!(rt; taken.as_slice() == text.as_bytes(), "{words:?} {plan}");
     }
-    let both = Outside {
-        reads: &[0],
-        writes: &[0],
+    let both = Io {
+        failing_reads: &[0],
+        failing_writes: &[0],
         ..CALM
     };
     let (status, taken) = answer(&rt, rt.alloc(), &["link", "1"], b"{}", &both)?;
@@ -160,8 +161,8 @@ fn small_writes(rt: HostRuntime) -> Result<(), Fail> {
     Ok(())
 }
 
-/// A text above 4,096 bytes with a list above 1,000 items is read and written as any other: a relocation of number 0
-/// writes nothing, and is counted.
+/// A plan of more than 4,096 bytes, with a list of more than 1,000 items, is linked like any other. A relocation of type 0 writes
+/// nothing, and is counted.
 #[test]
 fn long_plans(rt: HostRuntime) -> Result<(), Fail> {
     let alloc = rt.alloc();
@@ -177,7 +178,7 @@ fn long_plans(rt: HostRuntime) -> Result<(), Fail> {
     Ok(())
 }
 
-/// Words of a made plan, and its summary.
+/// `make` commands, and their summaries.
 const MADE: &[(&[&str], &str)] = &[
     (
         &["make", "1", "1"],
@@ -194,10 +195,10 @@ const MADE: &[(&[&str], &str)] = &[
 ];
 
 #[test]
-fn made_plans(rt: HostRuntime) -> Result<(), Fail> {
-    // no plan is read
-    let unread = Outside {
-        reads: &[0],
+fn summaries_of_make(rt: HostRuntime) -> Result<(), Fail> {
+    // No plan is read.
+    let unread = Io {
+        failing_reads: &[0],
         ..CALM
     };
     for (words, text) in MADE {
@@ -210,7 +211,7 @@ fn made_plans(rt: HostRuntime) -> Result<(), Fail> {
     Ok(())
 }
 
-/// The status for a plan where no read or write can fail.
+/// The status of `link` for a plan, over input and output that cannot fail.
 fn status_of(rt: &(impl Threads + Sync), alloc: Global, plan: &str) -> Result<u8, Fail> {
     let words = words_of(alloc, &["link", "1"])?;
     let mut source = SureSource::new(plan.as_bytes().to_vec(alloc)?);
@@ -219,7 +220,7 @@ fn status_of(rt: &(impl Threads + Sync), alloc: Global, plan: &str) -> Result<u8
 }
 
 #[test]
-fn sure_runs(rt: HostRuntime) -> Result<(), Fail> {
+fn runs_that_cannot_fail(rt: HostRuntime) -> Result<(), Fail> {
     let plan = SMALLEST.replace(rt.alloc(), r#""number":2,"#, r#""number":6,"#)?;
     let whole = status_of(&rt, rt.alloc(), SMALLEST)?;
     let broken = status_of(&rt, rt.alloc(), plan.as_str())?;

@@ -1,11 +1,11 @@
-//! Plans and their answers: each block of lines on standard input is a row, a plan with changes and what is said of it. A row that differs is printed, and
-//! then how many rows there are.
+//! Plans and their answers. Each block of lines of the standard input is a row: a plan with changes, and what the programs print for
+//! it. Rows that differ are printed, and then the number of rows.
 #![tactic(auto)]
 
-mod asked;
+mod answers;
 mod row;
 
-use crate::row::is_answered;
+use crate::row::row_holds;
 use std::io;
 
 fn main(rt: HostRuntime) -> io::Result<()> {
@@ -13,7 +13,7 @@ fn main(rt: HostRuntime) -> io::Result<()> {
     let text = io::read_to_string(alloc, rt.reader())?;
     let mut count = 0u64;
     for row in text.as_str().split("\n\n") {
-        if !is_answered(&rt, alloc, row)? {
+        if !row_holds(&rt, alloc, row)? {
             println!(rt; "differs:\n{row}")?;
         }
         count = count.saturating_add(1);

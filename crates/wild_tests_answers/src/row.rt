@@ -1,11 +1,11 @@
-//! A row: lines of a word and a text.
-use crate::asked::{explained, linked};
+//! A row of the table: lines of a word and a text.
+use crate::answers::{explain_answer, link_answer};
 use std::alloc::{AllocError, Global};
 use std::thread::Threads;
 use wild_tests_plans::{FIRST_PLANS, OTHER_PLANS};
 
-/// The plan of that name among these.
-fn among(plans: &[(&'static str, &'static str)], name: &str) -> Option<&'static str> {
+/// The plan of that name in a list.
+fn plan_in(plans: &[(&'static str, &'static str)], name: &str) -> Option<&'static str> {
     for (known, plan) in plans {
         if *known == name {
             return Some(*plan);
@@ -14,20 +14,20 @@ fn among(plans: &[(&'static str, &'static str)], name: &str) -> Option<&'static 
     None
 }
 
-/// The plan of that name among the other ones.
-fn other_named(name: &str) -> Option<&'static str> {
-    among(&OTHER_PLANS, name)
+/// The plan of that name in the second list.
+fn other_plan(name: &str) -> Option<&'static str> {
+    plan_in(&OTHER_PLANS, name)
 }
 
 /// The plan of that name.
-fn named(name: &str) -> Option<&'static str> {
-    match among(&FIRST_PLANS, name) {
+fn plan_named(name: &str) -> Option<&'static str> {
+    match plan_in(&FIRST_PLANS, name) {
         Some(plan) => Some(plan),
-        None => other_named(name),
+        None => other_plan(name),
     }
 }
 
-/// A line's word, and the text behind it.
+/// The word at the start of a line, and the text after it.
 fn parts_of(line: &str) -> (&str, &str) {
     match line.split_once(" ") {
         Some(parts) => parts,
@@ -35,14 +35,14 @@ fn parts_of(line: &str) -> (&str, &str) {
     }
 }
 
-/// The plan of a row: that of a name, or a text, with each `new` in place of the `old` ahead of it, which has to be there.
+/// The plan of a row: a plan by its name, or a text. Each `new` replaces the `old` before it, which has to occur in the plan.
 fn plan_of(alloc: Global, row: &str) -> Result<Option<String>, AllocError> {
     let mut plan = String::new(alloc);
     let mut old = String::new(alloc);
     for line in row.lines() {
         let (word, text) = parts_of(line);
         if word == "plan" {
-            let Some(known) = named(text) else {
+            let Some(known) = plan_named(text) else {
                 return Ok(None);
             };
             plan = String::from_str(alloc, known)?;
@@ -61,59 +61,72 @@ fn plan_of(alloc: Global, row: &str) -> Result<Option<String>, AllocError> {
 }
 
 /// The first lines of the answer.
-fn said_in(alloc: Global, row: &str) -> Result<String, AllocError> {
-    let mut said = String::new(alloc);
+fn answer_of(alloc: Global, row: &str) -> Result<String, AllocError> {
+    let mut answer = String::new(alloc);
     for line in row.lines() {
         let (word, text) = parts_of(line);
         if word == "says" {
-            said.push_str(text)?;
-            said.push_str("\n")?;
+            answer.push_str(text)?;
+            answer.push_str("\n")?;
         }
     }
-    Ok(said)
+    Ok(answer)
 }
 
-/// The status that goes with an answer.
-fn status_of(said: &str) -> u8 {
-    if said.starts_with("image") {
+/// The status of both programs with such an answer.
+fn status_of(answer: &str) -> u8 {
+    if answer.starts_with("image") {
         0
-    } else if said.starts_with("refused") {
+    } else if answer.starts_with("refused") {
         1
     } else {
         3
     }
 }
 
-/// Whether the plan is answered so, for one worker and for many.
+/// Whether `link` gives the answer for the plan, with one worker and with many.
 fn is_linked(
     rt: &(impl Threads + Sync),
     alloc: Global,
     plan: &str,
-    said: &str,
+    answer: &str,
 ) -> Result<bool, AllocError> {
     for workers in ["1", "2", "64"] {
-        let (status, text) = linked(rt, alloc, plan, workers)?;
-        if status != status_of(said) || !text.starts_with(said.as_bytes()) {
+        let (status, text) = link_answer(rt, alloc, plan, workers)?;
+        if status != status_of(answer) || !text.starts_with(answer.as_bytes()) {
             return Ok(false);
         }
     }
     Ok(true)
 }
 
-/// Whether each place of the row is named, in a text that begins as the answer does.
+/// What the output of `explain` has to contain, or may not contain, by a line of the row.
+fn text_of(alloc: Global, line: &str) -> Result<Option<(String, bool)>, AllocError> {
+    let (word, text) = parts_of(line);
+    if word == "where" {
+        Ok(Some((format!(in alloc; "where: {text}")?, true)))
+    } else if word == "line" {
+        Ok(Some((format!(in alloc; "\n{text}\n")?, true)))
+    } else if word == "without" {
+        Ok(Some((String::from_str(alloc, text)?, false)))
+    } else {
+        Ok(None)
+    }
+}
+
+/// Whether the output of `explain` begins as the answer does, and agrees with each line of the row.
 fn is_explained(
     rt: &(impl Threads + Sync),
     alloc: Global,
     plan: &str,
-    said: &str,
+    answer: &str,
     row: &str,
 ) -> Result<bool, AllocError> {
     for line in row.lines() {
-        let (word, place) = parts_of(line);
-        if word == "where" {
-            let text = explained(rt, alloc, plan)?;
-            let named = format!(in alloc; "where: {place}")?;
-            if !text.starts_with(said) || !text.contains(named.as_str()) {
+        if let Some((text, wanted)) = text_of(alloc, line)? {
+            let (status, output) = explain_answer(rt, alloc, plan)?;
+            let begins = status == status_of(answer) && output.starts_with(answer);
+            if !begins || output.contains(text.as_str()) != wanted {
                 return Ok(false);
             }
         }
@@ -121,16 +134,16 @@ fn is_explained(
     Ok(true)
 }
 
-/// Whether the plan of a row is answered and explained as the row says.
-pub(crate) fn is_answered(
+/// Whether both programs print what the row says.
+pub(crate) fn row_holds(
     rt: &(impl Threads + Sync),
     alloc: Global,
     row: &str,
 ) -> Result<bool, AllocError> {
-    let said = said_in(alloc, row)?;
+    let answer = answer_of(alloc, row)?;
     let Some(plan) = plan_of(alloc, row)? else {
         return Ok(false);
     };
-    let (plan, said) = (plan.as_str(), said.as_str());
-    Ok(is_linked(rt, alloc, plan, said)? && is_explained(rt, alloc, plan, said, row)?)
+    let (plan, answer) = (plan.as_str(), answer.as_str());
+    Ok(is_linked(rt, alloc, plan, answer)? && is_explained(rt, alloc, plan, answer, row)?)
 }

@@ -1,11 +1,11 @@
-//! Tests of images in memory, and of what a loader makes of them: what no contract says, with words from outside.
+//! Tests of images in memory, and of the memory after they are loaded: what no contract says, with words from the standards.
 #![tactic(auto)]
 
 #[cfg(test)]
-mod linked;
+mod linked_outputs;
 #[cfg(test)]
-mod loaded;
+mod loaded_images;
 #[cfg(test)]
 mod pieces;
 #[cfg(test)]
-mod written;
+mod plans;

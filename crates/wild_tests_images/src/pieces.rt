@@ -1,8 +1,8 @@
-//! What each group has of an image, and its workers.
+//! The pieces of an image that each group writes, and the workers.
 ghost use Rattle.std.specs.Prelude.{◌≡◌};
 ghost use Rattle.wild_types.specs.declared.kind.Machine.TheVariants as machine;
 
-use crate::written::layout_of;
+use crate::plans::layout_of;
 use std::alloc::Global;
 use std::sync::atomic::{AtomicU64, Ordering};
 use std::test::*;
@@ -11,11 +11,11 @@ use wild_crew::Gate;
 use wild_image::{
     ElfX86_64, GroupPiece, SizedOutput, check_shares, write, write_gated, write_group,
 };
-use wild_made::make_plan;
 use wild_plan::{Error, Layout, Part, well_formed};
+use wild_sample_layouts::make_plan;
 use wild_tests_plans::{LINKED, MOVED, PACKED, SLOTTED, SMALLEST, THREE, VERSIONED};
 
-/// What each group has of a layout.
+/// The piece of each group.
 fn pieces_of(
     rt: &(impl Threads + Sync),
     alloc: Global,
@@ -35,7 +35,7 @@ fn pieces_of(
     }
 }
 
-/// Whether part `i` of the image has what the groups have of it, one behind the other, and no byte more.
+/// Whether part `i` of the image is the groups' pieces of it, one after the other, and nothing else.
 fn has_part(layout: &Layout, i: usize, part: &Part, pieces: &[GroupPiece], image: &[u8]) -> bool {
     let mut rest = image.iter().skip(part.offset as usize);
     let mut count = 0u64;
@@ -70,7 +70,7 @@ fn counts_of(alloc: Global, pieces: &[GroupPiece], sections: usize) -> Result<Ve
     Ok(counts)
 }
 
-/// Whether each part of the image has what the groups have of it.
+/// Whether each part of the image is the groups' pieces of it.
 fn has_parts(layout: &Layout, pieces: &[GroupPiece], image: &[u8]) -> bool {
     for (i, part) in layout.parts.as_slice().iter().enumerate() {
         if !has_part(layout, i, part, pieces, image) {
@@ -99,7 +99,11 @@ fn are_pieces(
 }
 
 /// The image of a layout by one worker.
-fn written(rt: &(impl Threads + Sync), alloc: Global, layout: &Layout) -> Result<SizedOutput, Error>
+fn image_by_one_worker(
+    rt: &(impl Threads + Sync),
+    alloc: Global,
+    layout: &Layout,
+) -> Result<SizedOutput, Error>
     requires { layout.now.machine ≡ machine.X86_64 }
 {
     write::<ElfX86_64>(rt, alloc, layout, 1)
@@ -109,20 +113,20 @@ fn written(rt: &(impl Threads + Sync), alloc: Global, layout: &Layout) -> Result
 fn pieces_of_groups(rt: HostRuntime) -> Result<(), Fail> {
     for plan in [SMALLEST, THREE, SLOTTED, MOVED, PACKED, LINKED, VERSIONED] {
         let layout = layout_of(rt.alloc(), plan)?;
-        let image = written(&rt, rt.alloc(), &layout)?;
+        let image = image_by_one_worker(&rt, rt.alloc(), &layout)?;
         assert!(rt; are_pieces(&rt, rt.alloc(), &layout, &image)?);
     }
     Ok(())
 }
 
-/// Counts who enters; the first waits for a second.
+/// Counts the workers that enter; the first waits for a second.
 #[derive(Drop)]
-struct Meeting {
+struct MeetingGate {
     entered: AtomicU64,
     met: AtomicU64,
 }
 
-impl Gate for Meeting {
+impl Gate for MeetingGate {
     fn enter(&self, _group: u32) {
         if self.entered.fetch_add(1, Ordering::SeqCst) > 0 {
             return;
@@ -139,7 +143,7 @@ impl Gate for Meeting {
 #[test]
 fn two_workers_meet(rt: HostRuntime) -> Result<(), Fail> {
     let layout = make_plan(rt.alloc(), 2)?;
-    let gate = Meeting {
+    let gate = MeetingGate {
         entered: AtomicU64::new(0),
         met: AtomicU64::new(0),
     };

@@ -119,7 +119,7 @@ fn descriptor(rt: HostRuntime) {
     assert!(rt; meaning_of(&call[..3], 0x10010).is_none());
 }
 
-// `nop; adr x0, .+0x100` in place of `adrp x0; add x0, x0`; where `adrp` sets register 31 nothing is told.
+// `nop; adr x0, .+0x100` in place of `adrp x0; add x0, x0`; if `adrp` sets register 31 the result is not known.
 #[test]
 fn addresses(rt: HostRuntime) {
     let near = [0xd503_201f, 0x1000_0800];
@@ -132,7 +132,7 @@ fn addresses(rt: HostRuntime) {
     assert!(rt; meaning_of(&[0xf940_0441], 0) == sets(1, Operand::WordOf(2, 8)));
 }
 
-// Stubs and a thunk with words behind them; the longest run is taken, and one that is cut is not.
+// Stubs and a thunk, followed by other words. The longest run is taken; an incomplete one is not.
 #[test]
 fn longest_runs(rt: HostRuntime) {
     let stub = [
@@ -164,7 +164,7 @@ fn longest_runs(rt: HostRuntime) {
     assert!(rt; longest_step(0, &[0x5800_0805]).is_none());
 }
 
-// As `as` 2.40 assembles `adrp x16; ldr x17, [x16, #16]; br x17; nop`, and the same behind `bti c`.
+// As `as` 2.40 assembles `adrp x16; ldr x17, [x16, #16]; br x17; nop`, and the same after `bti c`.
 #[test]
 fn stubs(rt: HostRuntime) {
     let mut bytes = [0xcc; 16];

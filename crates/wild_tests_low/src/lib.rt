@@ -1,4 +1,4 @@
-//! Tests of the crates up to the loader's model, the rewrites, the hash tables, the frames, the workers and the ends.
+//! Tests of the low crates: records, relocations, the loader's model, rewrites, hash tables, frames, workers, shards and I/O.
 #![tactic(auto)]
 
 #[cfg(test)]
@@ -14,17 +14,19 @@ mod images;
 #[cfg(test)]
 mod instructions;
 #[cfg(test)]
+mod io;
+#[cfg(test)]
 mod loader;
 #[cfg(test)]
 mod names;
-#[cfg(test)]
-mod outside;
 #[cfg(test)]
 mod records;
 #[cfg(test)]
 mod rewrites;
 #[cfg(test)]
 mod sequences;
+#[cfg(test)]
+mod shards;
 #[cfg(test)]
 mod stubs;
 #[cfg(test)]

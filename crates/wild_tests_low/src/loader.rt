@@ -54,8 +54,8 @@ pub fn world(alloc: Global, base: u64) -> Result<World, Fail> {
     })
 }
 
-/// The image with so many more of its program header behind it, and some bytes in place of others.
-fn changed(alloc: Global, more: u8, edits: &[(usize, u8)]) -> Result<Vec<u8>, Fail> {
+/// The image with this many more copies of its program header after it, and some bytes replaced.
+fn changed_image(alloc: Global, more: u8, edits: &[(usize, u8)]) -> Result<Vec<u8>, Fail> {
     let mut image = IMAGE.to_vec(alloc)?;
     for _ in 0..more {
         image.extend_from_slice(&IMAGE[64..120])?;
@@ -121,7 +121,7 @@ fn loads(rt: HostRuntime) -> Result<(), Fail> {
 /// The base at which the image ends at the last address.
 const HIGHEST: u64 = 0xffff_ffff_ffbf_ff79;
 
-/// How many program headers stand behind the image, which bytes of it are others, its base, and why it is not loaded.
+/// How many more program headers are after the image, which bytes of it are changed, its base, and why it is not loaded.
 const IMAGES: &[(u8, &[(usize, u8)], u64, Option<LoadFault>)] = &[
     // No magic number, the class of 32-bit files, the high byte first, a relocatable file, and EM_386.
     (0, &[(0, 0)], 0, Some(LoadFault::NotElf)),
@@ -158,7 +158,7 @@ const IMAGES: &[(u8, &[(usize, u8)], u64, Option<LoadFault>)] = &[
         HIGHEST + 1,
         Some(LoadFault::Wraps { address: 0x400000 }),
     ),
-    // Two program headers stand behind the image; the second has another low byte of its address.
+    // Two program headers are after the image; the second has another low byte of its address.
     (
         2,
         &[(32, 0x58), (33, 1), (56, 2), (416, 0x86)],
@@ -188,7 +188,7 @@ const IMAGES: &[(u8, &[(usize, u8)], u64, Option<LoadFault>)] = &[
 #[test]
 fn refused_images(rt: HostRuntime) -> Result<(), Fail> {
     for (more, edits, base, fault) in IMAGES {
-        let image = changed(rt.alloc(), *more, edits)?;
+        let image = changed_image(rt.alloc(), *more, edits)?;
         let found = load(rt.alloc(), image.as_slice(), *base)?.err();
         assert!(rt; found == *fault, "{edits:?} at {base}");
     }

@@ -45,7 +45,7 @@ pub struct Setting {
 }
 
 /// A relocation whose field is the last four bytes of an instruction.
-pub fn at_the_end(number: u32, instruction: &[u8]) -> RelocationInfo {
+pub fn relocation_at_the_end(number: u32, instruction: &[u8]) -> RelocationInfo {
     RelocationInfo {
         number,
         offset: instruction.len().saturating_sub(4) as u64,
@@ -100,7 +100,7 @@ pub fn link(
 }
 
 // The bytes of an instruction that is rewritten.
-fn rewritten(
+fn rewritten_bytes(
     alloc: Global,
     relocations: &[RelocationInfo],
     input: &[u8],
@@ -168,7 +168,7 @@ const OF_ADDRESSES: &[Instruction] = &[
     (SHARED, OWN, 0x1020, 0x3008, 9, b"\x4c\x8b\x05\0\0\0\0", b"\x4c\x8d\x05\xe1\x1f\0\0"),
     // R_X86_64_GOTPCRELX, R_X86_64_REX_GOTPCRELX, as GNU `ld` 2.40 wrote them: an immediate with `-no-pie`, and of absolute
     // symbols; a distance with `-pie`, and of a hidden symbol with `-shared`. Of an absolute symbol with `-pie` it leaves
-    // `sub` and `cmp` as they are, which become immediates here.
+    // `sub` and `cmp` unchanged; here they become immediates.
     (FIXED, OWN, 0x401020, 0x402008, 41, b"\x8b\x05\0\0\0\0", b"\xc7\xc0\x08\x20\x40\0"),
     (DYNAMIC, OWN, 0x1020, 0x3008, 41, b"\x8b\x05\0\0\0\0", b"\x8d\x05\xe2\x1f\0\0"),
     (SHARED, OWN, 0x1020, 0x3008, 41, b"\x8b\x05\0\0\0\0", b"\x8d\x05\xe2\x1f\0\0"),
@@ -191,7 +191,7 @@ const OF_ADDRESSES: &[Instruction] = &[
 ];
 
 #[test]
-fn of_addresses(rt: HostRuntime) -> Result<(), Fail> {
+fn rewrites_of_addresses(rt: HostRuntime) -> Result<(), Fail> {
     for (kind, flags, address, symbol, number, input, output) in OF_ADDRESSES {
         let setting = Setting {
             kind: *kind,
@@ -201,7 +201,12 @@ fn of_addresses(rt: HostRuntime) -> Result<(), Fail> {
             symbol: Some(*symbol),
             target: *symbol,
         };
-        let found = rewritten(rt.alloc(), &[at_the_end(*number, input)], input, setting)?;
+        let found = rewritten_bytes(
+            rt.alloc(),
+            &[relocation_at_the_end(*number, input)],
+            input,
+            setting,
+        )?;
         assert!(rt; found.as_slice() == *output, "{number} at {address:x}");
     }
     Ok(())
@@ -242,7 +247,7 @@ const OF_THREADS: &[Instruction] = &[
     (DYNAMIC, OTHERS, 0x12b0, 0x2398, 45, b"\xd5\x48\x8d\x05\0\0\0\0", b"\xd5\x48\x8b\x05\xe0\x10\0\0"),
     (DYNAMIC, OTHERS, 0x12b0, 0x2398, 45, b"\xd5\x4c\x8d\x05\0\0\0\0", b"\xd5\x4c\x8b\x05\xe0\x10\0\0"),
     (DYNAMIC, OTHERS, 0x12b0, 0x2398, 45, b"\xd5\x48\x8d\x2d\0\0\0\0", b"\xd5\x48\x8b\x2d\xe0\x10\0\0"),
-    // `leaq x@tlsdesc(%rip), %rax` and `call *x@tlscall(%rax)` behind it, as GNU `ld` 2.40 wrote them with `-pie` where a shared
+    // `leaq x@tlsdesc(%rip), %rax` and then `call *x@tlscall(%rax)`, as GNU `ld` 2.40 wrote them with `-pie` where a shared
     // object has x, and the call in an executable at fixed addresses.
     (DYNAMIC, OTHERS, 0x1020, 0x2fe0, 34, b"\x48\x8d\x05\0\0\0\0", b"\x48\x8b\x05\xb9\x1f\0\0"),
     (DYNAMIC, OTHERS, 0x1027, 0, 35, b"\xff\x10", b"\x66\x90"),
@@ -250,7 +255,7 @@ const OF_THREADS: &[Instruction] = &[
 ];
 
 #[test]
-fn of_threads(rt: HostRuntime) -> Result<(), Fail> {
+fn rewrites_of_thread_local_references(rt: HostRuntime) -> Result<(), Fail> {
     for (kind, flags, address, target, number, input, output) in OF_THREADS {
         let setting = Setting {
             kind: *kind,
@@ -260,7 +265,12 @@ fn of_threads(rt: HostRuntime) -> Result<(), Fail> {
             symbol: None,
             target: *target,
         };
-        let found = rewritten(rt.alloc(), &[at_the_end(*number, input)], input, setting)?;
+        let found = rewritten_bytes(
+            rt.alloc(),
+            &[relocation_at_the_end(*number, input)],
+            input,
+            setting,
+        )?;
         assert!(rt; found.as_slice() == *output, "{number} at {address:x}");
     }
     Ok(())

@@ -1,7 +1,8 @@
 //! Sequences of two relocations as other tools write them, and what is rewritten at all.
 
 use crate::rewrites::{
-    ABSOLUTE, DYNAMIC, FIXED, LAST, MOVABLE, OTHERS, OWN, SHARED, Setting, at_the_end, link,
+    ABSOLUTE, DYNAMIC, FIXED, LAST, MOVABLE, OTHERS, OWN, SHARED, Setting, link,
+    relocation_at_the_end,
 };
 use std::test::Fail;
 use wild_relax::{RelaxationKind, RelocationInfo};
@@ -54,8 +55,8 @@ const SEQUENCES: &[Sequence] = &[
     (DYNAMIC, OTHERS, 0x12e0, 0x23d0, (19, 4), (9, 12, -4),
         b"\x66\x48\x8d\x3d\0\0\0\0\x66\x48\xff\x15\0\0\0\0", TlsGdToInitialExec,
         b"\x64\x48\x8b\x04\x25\0\0\0\0\x48\x03\x05\xe0\x10\0\0"),
-    // The sequences that are longer than what stands in their place, filled with `nop`. GNU `ld` 2.40 writes the same
-    // instructions, with `66 0f 1f 44 00 00` behind the first, and in the others with `66 66 66 66 2e 0f 1f 84 00 00 00 00 00`,
+    // The sequences that are longer than their replacement, filled with `nop`. GNU `ld` 2.40 writes the same
+    // instructions, with `66 0f 1f 44 00 00` after the first, and in the others with `66 66 66 66 2e 0f 1f 84 00 00 00 00 00`,
     // or four prefixes `66`, before them; lld 22 writes the third as GNU `ld` does.
     (DYNAMIC, OWN, 0x1040, LAST, (19, 3), (31, 9, 0),
         b"\x48\x8d\x3d\0\0\0\0\x48\xb8\0\0\0\0\0\0\0\0\x48\x01\xd8\xff\xd0", TlsGdToLocalExecLarge,
@@ -91,7 +92,7 @@ fn call_of(number: u32, offset: u64, addend: i64) -> RelocationInfo {
 }
 
 #[test]
-fn of_two_relocations(rt: HostRuntime) -> Result<(), Fail> {
+fn sequences_with_two_relocations(rt: HostRuntime) -> Result<(), Fail> {
     for (kind, flags, address, target, first, call, input, made, output) in SEQUENCES {
         let setting = Setting {
             kind: *kind,
@@ -148,7 +149,7 @@ const INSTRUCTIONS: &[Instruction] = &[
 ];
 
 #[test]
-fn what_is_rewritten(rt: HostRuntime) -> Result<(), Fail> {
+fn rewritten_sequences(rt: HostRuntime) -> Result<(), Fail> {
     for (kind, flags, number, input, wanted) in INSTRUCTIONS {
         let setting = Setting {
             kind: *kind,
@@ -159,7 +160,11 @@ fn what_is_rewritten(rt: HostRuntime) -> Result<(), Fail> {
             target: 0x3008,
         };
         let mut bytes = input.to_vec(rt.alloc())?;
-        let found = link(&mut bytes, &[at_the_end(*number, input)], setting)?;
+        let found = link(
+            &mut bytes,
+            &[relocation_at_the_end(*number, input)],
+            setting,
+        )?;
         let is_changed = bytes.as_slice() != *input;
         let is_so = found == *wanted && is_changed == matches!(wanted, Ok(Some(_)));
         assert!(rt; is_so, "{number} of {input:?}");
@@ -168,9 +173,9 @@ fn what_is_rewritten(rt: HostRuntime) -> Result<(), Fail> {
 }
 
 #[test]
-fn nothing_is_rewritten(rt: HostRuntime) -> Result<(), Fail> {
+fn unchanged_sequences(rt: HostRuntime) -> Result<(), Fail> {
     let mut bytes = *b"\x48\x8b\x2d\0\0\0\0";
-    let relocation = at_the_end(42, &bytes);
+    let relocation = relocation_at_the_end(42, &bytes);
     let off = Setting {
         kind: DYNAMIC,
         flags: OWN,

@@ -19,7 +19,7 @@ fn stubs(rt: HostRuntime) {
     assert!(rt; matches!(far, Err(PltTooFar { value: 2147483648 })) && bytes == wanted);
 }
 
-/// Whether the row writes so many bytes, whose field begins there, over those of the input.
+/// Whether the row writes `size` bytes, with the field at `field`, over those of the input.
 fn is_whole(row: Row, size: u64, field: u64) -> bool {
     row.pattern_size() == size
         && row.pattern_field() == field

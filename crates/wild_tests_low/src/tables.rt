@@ -15,8 +15,8 @@ use wild_records::abi::relocation::{
 use wild_records::abi::segment::{PT_DYNAMIC, PT_LOAD};
 use wild_records::{DynamicEntry, FileHeader, ProgramHeader, Rela, Relr};
 
-/// The headers of an image that is loaded from address 0 on, with bytes behind those of the file, and whose dynamic
-/// section stands at 0xb0.
+/// The headers of an image that is loaded from address 0 on, with more bytes in memory than in the file. Its dynamic
+/// section is at 0xb0.
 fn append_headers(image: &mut Vec<u8>, machine: u16) -> Result<(), Fail> {
     let header = FileHeader {
         magic: ELFMAG,
@@ -140,7 +140,7 @@ const BOTH: &[(u64, u64)] = &[
 ];
 
 /// What such an image is at base 0x10000.
-fn loaded(
+fn load_tables(
     alloc: Global,
     machine: u16,
     tags: &[(u64, u64)],
@@ -152,7 +152,7 @@ fn loaded(
     load(alloc, image.as_slice(), 0x10000)
 }
 
-/// Its memory, where it is loaded.
+/// Its memory, if it is loaded.
 fn memory_of(
     alloc: Global,
     machine: u16,
@@ -160,7 +160,7 @@ fn memory_of(
     words: &[u64],
     entries: &[Entry],
 ) -> Result<Memory, Fail> {
-    let loaded = loaded(alloc, machine, tags, words, entries)?;
+    let loaded = load_tables(alloc, machine, tags, words, entries)?;
     Ok(loaded.ok().ok_or("refused")?)
 }
 
@@ -196,7 +196,7 @@ fn packed_and_relative(rt: HostRuntime) -> Result<(), Fail> {
     Ok(())
 }
 
-/// Tables of size 0 are none, wherever they are said to stand; of several tags of one kind the first counts.
+/// A table of size 0 is absent, whatever its address is. The first of several tags of one kind counts.
 const EMPTY: &[(u64, u64)] = &[
     (DT_RELR, 0x9999),
     (DT_RELRSZ, 0),
@@ -339,7 +339,7 @@ const REFUSED: &[(&[Entry], LoadFault)] = &[
 #[test]
 fn refused_entries(rt: HostRuntime) -> Result<(), Fail> {
     for (entries, fault) in REFUSED {
-        let found = loaded(rt.alloc(), EM_X86_64, ENTRIES, &[], entries)?.err();
+        let found = load_tables(rt.alloc(), EM_X86_64, ENTRIES, &[], entries)?.err();
         assert!(rt; found == Some(*fault), "{entries:?}");
     }
     Ok(())
@@ -352,7 +352,7 @@ const REFUSED_TABLES: &[(&[(u64, u64)], LoadFault)] = &[
         &[(DT_PLTRELSZ, 24)],
         LoadFault::NoTable { tag: DT_PLTRELSZ },
     ),
-    // The size stands behind the end of the entries.
+    // The tag of the size is after the end of the entries.
     (
         &[(DT_RELR, 0x140), (0, 0), (DT_RELRSZ, 8)],
         LoadFault::NoTable { tag: DT_RELR },
@@ -377,7 +377,7 @@ fn refused_tables(rt: HostRuntime) -> Result<(), Fail> {
         (0x420, R_X86_64_RELATIVE, 0, 0),
     ];
     for (tags, fault) in REFUSED_TABLES {
-        let found = loaded(rt.alloc(), EM_X86_64, tags, &[0x400, 1], entries)?.err();
+        let found = load_tables(rt.alloc(), EM_X86_64, tags, &[0x400, 1], entries)?.err();
         assert!(rt; found == Some(*fault), "{tags:?}");
     }
     Ok(())

@@ -1,4 +1,4 @@
-//! Sequences of AArch64's words as they are rewritten, each word by the row of its own relocation.
+//! Rewritten sequences of AArch64 words, each word by the row of its own relocation.
 
 use crate::rewrites::{FIXED, OTHERS, OWN};
 use std::test::Fail;
@@ -22,7 +22,7 @@ type Words = (
 
 #[rattlefmt::skip]
 const WORDS: &[Words] = &[
-    // A symbol 24 bytes behind the thread pointer: `nop`, `nop`, `movz x0, #0, lsl #16`, `movk x0, #0x18`.
+    // A symbol 24 bytes after the thread pointer: `nop`, `nop`, `movz x0, #0, lsl #16`, `movk x0, #0x18`.
     (&[562, 563, 564, 569], OWN, 0x3_0008, 0x1_0000, &[0, 0, 0x18, 0x18],
         b"\0\0\0\x90\x01\0\x40\xf9\0\0\0\x91\x20\0\x3f\xd6",
         b"\x1f\x20\x03\xd5\x1f\x20\x03\xd5\0\0\xa0\xd2\0\x03\x80\xf2"),
@@ -50,7 +50,7 @@ fn write_word(row: Row, value: u64, bytes: &mut [u8], start: usize) -> Result<()
 }
 
 #[test]
-fn of_sequences(rt: HostRuntime) -> Result<(), Fail> {
+fn sequences_of_words(rt: HostRuntime) -> Result<(), Fail> {
     for (types, flags, symbol, address, values, input, output) in WORDS {
         let mut relocations = Vec::new(rt.alloc());
         let mut offset = 0u64;

@@ -26,7 +26,7 @@ pub(crate) fn symbol_of(layout: &Layout, index: usize) -> Result<&Symbol, Fail> 
     Ok(symbol)
 }
 
-/// What was decided of it.
+/// The resolution of that symbol.
 pub(crate) fn resolution_of(layout: &Layout, index: usize) -> Result<Resolution, Fail> {
     let resolution = symbol_of(layout, index)?.resolution.ok_or("none")?;
     Ok(resolution)

@@ -1,4 +1,4 @@
-//! Tests of what reads plans, prints answers and writes tables: what no contract says, with values from outside.
+//! Tests of the reader of plans, of printed answers and of the writers of tables: what no contract says, with values from other tools.
 #![tactic(auto)]
 
 #[cfg(test)]
@@ -13,5 +13,3 @@ mod symbols;
 mod tables;
 #[cfg(test)]
 mod versions;
-#[cfg(test)]
-mod wrong;

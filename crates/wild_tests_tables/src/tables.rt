@@ -1,20 +1,136 @@
-//! The tables of a group's slots, stubs and entries, by their writer; and a dynamic section as GNU ld writes it.
+//! The tables of a group's slots, stubs and entries, by calls of their writer; and a dynamic section as GNU ld writes it.
 use crate::layouts::{layout_of, resolution_of};
-use std::alloc::{AllocError, Global};
+use std::alloc::Global;
 use std::test::*;
-use wild_plan::{
-    Error, Fault, Layout, Resolution, SlotFault, SymbolIndex, dynamic_count, put_stub,
-};
+use wild_plan::{Fault, Layout, Resolution, SlotFault, SymbolIndex, dynamic_count, put_stub};
 use wild_records::Rela;
 use wild_reloc::DynamicRelocationKind;
 use wild_relr::{block_words, count_words};
 use wild_tables::{
-    ROLES, Refused, TableWriter, relative_entry, verify_resolution_allocation, write_dynamic,
+    ROLES, SlotWriteError, TableWriter, relative_entry, verify_resolution_allocation, write_dynamic,
 };
 use wild_tests_plans::{MOVED, PACKED, SLOTTED};
 use wild_words::read_u64;
 
-/// Whether these bytes are just those words.
+/// A call of the writer.
+enum Call {
+    /// Puts the address 0x1040 at a place, which then has this word.
+    Address(u64, u64),
+    /// Puts the address 0x1040 at an even place as a word, without a bitmap.
+    Relr(u64),
+    /// Ends the run of packed places, as at the end of a section.
+    EndRun,
+    /// Packs so many slots from 0x3000 on.
+    Bitmap(u64),
+    /// Puts the reserved words of `got`.
+    Reserved,
+    /// Puts the slots of a symbol, and the stub from 0x400140 to the slot at 0x402028 if there is room for one.
+    Slots(usize),
+    /// Puts `R_X86_64_64` at 0x3000, of symbol 2 with the addend 5.
+    Symbol,
+    /// Puts `R_X86_64_IRELATIVE` at 0x3008, with the resolver at 0x1000.
+    Resolver,
+    /// Puts `R_X86_64_COPY` of the first symbol.
+    Copy,
+    /// Puts the slot of the first symbol at this address. If that is outside the thread-local data, the fault says it.
+    Offset(u64),
+    /// Checks the sizes that the first symbol needs: this one of `got`, and three entries of `rela_dyn_general`.
+    Size(u64, Option<Fault>),
+    /// Checks that each table is full.
+    Full,
+}
+
+/// Calls, each with whether it succeeds.
+type Calls = &'static [(Call, bool)];
+
+/// The words of `got`, `got_relr`, `rela_plt`, `rela_dyn_relative`, `rela_dyn_general` and `relr_dyn`.
+type Words = [&'static [u64]; 6];
+
+/// A plan, calls of the writer of its first group, the words of the tables after them, and the stubs.
+type Row = (&'static str, Calls, Words, &'static [u8]);
+
+/// An address that moves, with a slot at 0x3000, and room for three packed words.
+const BLOCK: &str =
+    r#"{"kind":"static_pie","options":{"relr":true},"parts":[{"role":"got_relr"},{"role":"relr_dyn"}],"symbols":[{"flags":["NON_INTERPOSABLE","GOT"],"resolution":{"raw_value":4160,"got":12288}}],"groups":[{"part_sizes":[8,24]}]}"#;
+
+/// A copied symbol, and room for three entries.
+const GENERAL: &str =
+    r#"{"kind":"dynamic_pie","parts":[{"role":"rela_dyn_general"}],"symbols":[{"flags":["COPY_RELOCATION"],"resolution":{"raw_value":8192,"dynsym":3}}],"groups":[{"part_sizes":[72]}]}"#;
+
+/// A thread-local symbol of a library, 8 bytes after the start of the data, with slots for its offset, its module and its
+/// descriptor: five words.
+const THREAD_SLOTS: &str =
+    r#"{"kind":"shared","symbols":[{"flags":["NON_INTERPOSABLE","GOT_TLS_OFFSET","GOT_TLS_MODULE","GOT_TLS_DESCRIPTOR"],"resolution":{"raw_value":12296,"got":16384}}],"groups":[{}]}"#;
+
+const TOO_SMALL: Fault = Fault::InsufficientAllocation {
+    part: 5,
+    group: 0,
+    given: 32,
+    needed: 40,
+};
+
+const TOO_LARGE: Fault = Fault::ExcessiveAllocation {
+    part: 5,
+    group: 0,
+    given: 48,
+    needed: 40,
+};
+
+/// A thread-local symbol with a slot for its offset, and data of 16 bytes from 0x403000 on.
+const OFFSET: &str =
+    r#"{"kind":"static","tls":{"start":4206592,"end":4206608,"align":16},"parts":[{"role":"got","size":8}],"symbols":[{"flags":["NON_INTERPOSABLE","GOT_TLS_OFFSET"],"resolution":{"got":16384}}],"groups":[{"part_sizes":[8]}]}"#;
+
+/// `endbr64`, `bnd jmp *0x402028(%rip)`, `nopl 0(%rax,%rax,1)` at 0x400140 (x86-64 psABI, "Procedure Linkage Table").
+const STUB: &[u8] = &[
+    0xf3, 0x0f, 0x1e, 0xfa, 0xf2, 0xff, 0x25, 0xdd, 0x1e, 0, 0, 0x0f, 0x1f, 0x44, 0, 0,
+];
+
+#[rattlefmt::skip]
+const ROWS: &[Row] = &[
+    // An address at an odd place has an entry, and 0 at the place; at an even place it is packed over the address. Then the tables
+    // are full, and refuse a third.
+    (MOVED, &[
+        (Call::Address(0x3001, 0), true), (Call::Full, false), (Call::Address(0x3010, 0x1040), true), (Call::Full, true),
+        (Call::Address(0x3003, 0x5555_5555_5555_5555), false),
+    ], [&[], &[], &[], &[0x3001, 8, 0x1040], &[], &[0x3010]], &[]),
+    // Even places are packed section by section (gABI, "Relative Relocation Table"). The last is the next section's.
+    (PACKED, &[
+        (Call::Address(0x3000, 0x1040), true), (Call::Address(0x3010, 0x1040), true), (Call::Address(0x31f8, 0x1040), true),
+        (Call::Address(0x3200, 0x1040), true), (Call::EndRun, true), (Call::Address(0x3208, 0x1040), true), (Call::Full, true),
+    ], [&[], &[], &[], &[], &[], &[0x3000, 0x8000_0000_0000_0005, 3, 0x3208]], &[]),
+    (PACKED, &[
+        (Call::Address(0x3000, 0x1040), true), (Call::Address(0x3010, 0x1040), true), (Call::Address(0x31f8, 0x1040), true),
+        (Call::Address(0x3200, 0x1040), true), (Call::Relr(0x3208), true), (Call::Full, true),
+    ], [&[], &[], &[], &[], &[], &[0x3000, 0x8000_0000_0000_0005, 3, 0x3208]], &[]),
+    // Slots from 0x3000 on are packed as a block: a bitmap has 63 places.
+    (BLOCK, &[(Call::Slots(0), true), (Call::Bitmap(0), true)], [&[], &[0x1040], &[], &[], &[], &[0, 0, 0]], &[]),
+    (BLOCK, &[(Call::Slots(0), true), (Call::Bitmap(0), true), (Call::Bitmap(65), true), (Call::Relr(0x4000), false)],
+        [&[], &[0x1040], &[], &[], &[], &[0x3000, u64::MAX, 3]], &[]),
+    // What a loader fills is 0; the psABI has the other words. The entry of the resolver's function is IRELATIVE (37), with the
+    // resolver's address.
+    (SLOTTED, &[
+        (Call::Reserved, true), (Call::Slots(0), true), (Call::Slots(1), true), (Call::Slots(2), true), (Call::Full, true),
+        (Call::Reserved, false),
+    ], [&[0, 1, 16, 0, 0x40_0140, 0x40_013e, 0xffff_ffff_ffff_fff8, 1, 8], &[], &[0x40_2028, 37, 0x40_013c], &[], &[], &[]], STUB),
+    // R_X86_64_64 (1) of symbol 2, R_X86_64_IRELATIVE (37), and R_X86_64_COPY (5) of symbol 3.
+    (GENERAL, &[
+        (Call::Symbol, true), (Call::Resolver, true), (Call::Copy, true), (Call::Full, true), (Call::Copy, false),
+    ], [&[], &[], &[], &[], &[
+        0x3000, 0x2_0000_0001, 5,
+        0x3008, 37, 0x1000,
+        0x2000, 0x3_0000_0005, 0,
+    ], &[]], &[]),
+    (THREAD_SLOTS, &[
+        (Call::Size(40, None), true), (Call::Size(32, Some(TOO_SMALL)), true), (Call::Size(48, Some(TOO_LARGE)), true),
+    ], [&[], &[], &[], &[], &[], &[]], &[]),
+    // Offsets from the thread pointer, which is at the end of the data. An address of 0 has the offset 0; one past the end is refused.
+    (OFFSET, &[(Call::Offset(0x40_3010), true)], [&[0], &[], &[], &[], &[], &[]], &[]),
+    (OFFSET, &[(Call::Offset(0x40_3008), true)], [&[0xffff_ffff_ffff_fff8], &[], &[], &[], &[], &[]], &[]),
+    (OFFSET, &[(Call::Offset(0), true)], [&[0], &[], &[], &[], &[], &[]], &[]),
+    (OFFSET, &[(Call::Offset(0x40_3011), false)], [&[0], &[], &[], &[], &[], &[]], &[]),
+];
+
+/// Whether these bytes are exactly those words.
 fn are_words(bytes: &[u8], words: &[u64]) -> bool {
     if bytes.len() / 8 != words.len() || bytes.len() % 8 != 0 {
         return false;
@@ -27,12 +143,124 @@ fn are_words(bytes: &[u8], words: &[u64]) -> bool {
     true
 }
 
-/// The writer of the first group's tables; an error as for want of memory where there is no group.
-fn writer(alloc: Global, layout: &Layout) -> Result<TableWriter, AllocError> {
-    if layout.groups.len() == 0 {
-        return Err(AllocError);
+/// Puts an address over 0x55s; whether that succeeds, and the word that the place then has.
+fn put_address(tables: &mut TableWriter, layout: &Layout, place: u64) -> (bool, u64) {
+    let mut site = [0x55; 8];
+    let result = tables.write_address_relocation(layout, place, 0x1040, &mut site);
+    (result.is_ok(), u64::from_le_bytes(site))
+}
+
+/// Puts the slots of a symbol, with the stub.
+fn put_slots(tables: &mut TableWriter, layout: &Layout, index: usize) -> Result<bool, Fail> {
+    let mut stub = [0; 16];
+    put_stub(layout.machine, false, &mut stub, 0x40_2028, 0x40_0140);
+    let resolution = resolution_of(layout, index)?;
+    let result = tables.process_resolution(layout, &resolution, Ok(stub));
+    Ok(result.is_ok())
+}
+
+/// Puts the slot of the first symbol at this address.
+fn put_offset(tables: &mut TableWriter, layout: &Layout, address: u64) -> Result<bool, Fail> {
+    let mut own = resolution_of(layout, 0)?;
+    own.raw_value = address;
+    match tables.process_resolution(layout, &own, Err(0)) {
+        Ok(()) => Ok(true),
+        Err(SlotWriteError::Fault(SlotFault::TlsOutOfSegment { value })) if value == address => Ok(
+            false,
+        ),
+        Err(_) => Err("another fault".into()),
     }
-    TableWriter::new(alloc, layout, 0)
+}
+
+/// The fault of a size of `got`.
+fn fault_of(layout: &Layout, resolution: &Resolution, got: u64) -> Option<Fault> {
+    let mut sizes = [0; ROLES];
+    sizes[10] = 72;
+    sizes[5] = got;
+    match verify_resolution_allocation(layout.kind, &sizes, resolution, &layout.options) {
+        Ok(()) => None,
+        Err(error) => Some(error.fault),
+    }
+}
+
+/// Whether a call succeeds.
+fn succeeds(tables: &mut TableWriter, layout: &Layout, call: &Call) -> Result<bool, Fail> {
+    match call {
+        Call::Address(place, word) => {
+            let (is_put, found) = put_address(tables, layout, *place);
+            if found != *word {
+                return Err("another word".into());
+            }
+            Ok(is_put)
+        }
+        Call::Relr(place) => Ok(tables.write_relr_entry_flat(layout, *place, 0x1040).is_ok()),
+        Call::EndRun => {
+            tables.reset_relr_run();
+            Ok(true)
+        }
+        Call::Bitmap(count) => Ok(tables.write_got_relr_bitmap(0x3000, *count).is_ok()),
+        Call::Reserved => Ok(tables.write_plt_got_entries(layout).is_ok()),
+        Call::Slots(index) => put_slots(tables, layout, *index),
+        Call::Symbol => {
+            let kind = DynamicRelocationKind::Absolute;
+            let result = tables.write_dynamic_symbol_relocation(layout, 0x3000, 5, 2, kind);
+            Ok(result.is_ok())
+        }
+        Call::Resolver => {
+            let result = tables.write_ifunc_relocation_for_data(layout, 0x3008, 0x1000);
+            Ok(result.is_ok())
+        }
+        Call::Copy => Ok(tables.write_copy_relocation(layout, SymbolIndex(0)).is_ok()),
+        Call::Offset(address) => put_offset(tables, layout, *address),
+        Call::Size(got, fault) => Ok(fault_of(layout, &resolution_of(layout, 0)?, *got) == *fault),
+        Call::Full => Ok(tables.validate_empty(layout).is_ok()),
+    }
+}
+
+/// Whether the calls end as a row of the table says, and leave the tables as it says.
+fn are_filled(alloc: Global, layout: &Layout, row: &Row) -> Result<bool, Fail> {
+    let (_, calls, words, stubs) = row;
+    if layout.groups.len() == 0 {
+        return Err("no group".into());
+    }
+    let mut tables = TableWriter::new(alloc, layout, 0)?;
+    for (call, wanted) in *calls {
+        if succeeds(&mut tables, layout, call)? != *wanted {
+            return Ok(false);
+        }
+    }
+    let [got, block, plt, relative, general, packed] = words;
+    Ok(
+        are_words(tables.got_words(), *got)
+            && are_words(tables.block_words(), *block)
+            && are_words(tables.plt_entries(), *plt)
+            && are_words(tables.relative_entries(), *relative)
+            && are_words(tables.general_entries(), *general)
+            && are_words(tables.relr_words(), *packed)
+            && tables.stubs() == *stubs,
+    )
+}
+
+#[test]
+fn tables_by_calls_of_their_writer(rt: HostRuntime) -> Result<(), Fail> {
+    for (number, row) in ROWS.iter().enumerate() {
+        let layout = layout_of(rt.alloc(), row.0)?;
+        assert!(rt; are_filled(rt.alloc(), &layout, row)?, "row {number}");
+    }
+    Ok(())
+}
+
+/// Without a writer: the numbers of packed words of the first four places of `PACKED` and of a block of three slots, and the entry of a
+/// place that moves.
+#[test]
+fn words_without_a_writer(rt: HostRuntime) -> Result<(), Fail> {
+    assert!(rt; count_words(&[0x3000, 0x3010, 0x31f8, 0x3200]) == 3);
+    assert!(rt; block_words(0x3000, 3) == 2);
+    let layout = layout_of(rt.alloc(), MOVED)?;
+    let mut bytes = [0; Rela::SIZE];
+    relative_entry(&layout, 0x3001, 0x1040).put(&mut bytes);
+    assert!(rt; are_words(&bytes, &[0x3001, 8, 0x1040]));
+    Ok(())
 }
 
 /// The entries of `.dynamic` that GNU ld 2.40 wrote, but for `DT_HASH`, of the file that gcc 12.2 made by
@@ -44,7 +272,7 @@ fn writer(alloc: Global, layout: &Layout) -> Result<TableWriter, AllocError> {
 /// void _start(void) { for (;;) {} }
 /// ```
 ///
-/// They stand in the order of `DynamicTag`, which differs from ld's; behind them is the room of one more.
+/// They are in the order of `DynamicTag`, which differs from ld's. There is room for one more at the end.
 #[rattlefmt::skip]
 const ENTRIES_OF_LD: [u64; 26] = [
     0x5, 0x228, 0xa, 1, 0x6, 0x210, 0xb, 24,
@@ -57,359 +285,14 @@ const ENTRIES_OF_LD: [u64; 26] = [
 const PLAN_OF_LD: &str =
     r#"{"kind":"static_pie","page_size":4096,"parts":[{"role":"dynsym","address":528,"size":24,"align":8},{"role":"dynstr","address":552,"size":1},{"role":"rela_dyn_relative","address":560,"size":24,"align":8}],"groups":[{}]}"#;
 
-/// Whether the dynamic section, written over these bytes, is ld's.
-fn has_section_of_ld(layout: &Layout, out: &mut [u8]) -> bool {
-    if dynamic_count(layout) > 13 || out.len() != 208 {
-        return false;
-    }
-    write_dynamic(layout, out);
-    are_words(out, &ENTRIES_OF_LD)
-}
-
 #[test]
-fn the_dynamic_section_of_ld(rt: HostRuntime) -> Result<(), Fail> {
-    assert!(rt; holds(rt.alloc(), PLAN_OF_LD, Case::Section)?);
-    Ok(())
-}
-
-/// A thread-local symbol of a library, 8 bytes behind the start of the data, with slots for its offset, its module and its
-/// descriptor.
-const THREAD_SLOTS: &str =
-    r#"{"kind":"shared","symbols":[{"flags":["NON_INTERPOSABLE","GOT_TLS_OFFSET","GOT_TLS_MODULE","GOT_TLS_DESCRIPTOR"],"resolution":{"raw_value":12296,"got":16384}}]}"#;
-
-/// A size of `got` beside three entries of `rela_dyn_general`, and what is told of it: the symbol needs five words.
-const SIZES: &[(u64, Option<Fault>)] = &[
-    (40, None),
-    (
-        32,
-        Some(Fault::InsufficientAllocation {
-            part: 5,
-            group: 0,
-            given: 32,
-            needed: 40,
-        }),
-    ),
-    (
-        48,
-        Some(Fault::ExcessiveAllocation {
-            part: 5,
-            group: 0,
-            given: 48,
-            needed: 40,
-        }),
-    ),
-];
-
-/// What is told of the size.
-fn told_of(layout: &Layout, resolution: &Resolution, got: u64) -> Option<Fault> {
-    let mut sizes = [0; ROLES];
-    sizes[10] = 72;
-    sizes[5] = got;
-    match verify_resolution_allocation(layout.kind, &sizes, resolution, &layout.options) {
-        Ok(()) => None,
-        Err(error) => Some(error.fault),
+fn dynamic_section_of_ld(rt: HostRuntime) -> Result<(), Fail> {
+    let layout = layout_of(rt.alloc(), PLAN_OF_LD)?;
+    let mut section = [1; 208];
+    if dynamic_count(&layout) > 13 {
+        return Err("too many entries".into());
     }
-}
-
-#[test]
-fn sizes_that_a_resolution_does_not_need(rt: HostRuntime) -> Result<(), Fail> {
-    assert!(rt; holds(rt.alloc(), THREAD_SLOTS, Case::Sizes)?);
+    write_dynamic(&layout, &mut section);
+    assert!(rt; are_words(&section, &ENTRIES_OF_LD));
     Ok(())
-}
-
-/// A thread-local symbol with a slot for its offset, and data of 16 bytes from 0x403000 on.
-const OFFSET: &str =
-    r#"{"kind":"static","tls":{"start":4206592,"end":4206608,"align":16},"parts":[{"role":"got","size":8}],"symbols":[{"flags":["NON_INTERPOSABLE","GOT_TLS_OFFSET"],"resolution":{"got":16384}}],"groups":[{"part_sizes":[8]}]}"#;
-
-/// An address, the word of its slot, and the address where it lies outside of the data.
-const OFFSETS: &[(u64, u64, Option<u64>)] = &[
-    (0x40_3010, 0, None),
-    (0x40_3008, 0xffff_ffff_ffff_fff8, None),
-    (0, 0, None),
-    (0x40_3011, 0, Some(0x40_3011)),
-];
-
-/// The symbol's address where it lies outside of the data.
-fn outside_of(tables: &mut TableWriter, layout: &Layout, own: &Resolution) -> Option<u64> {
-    match tables.process_resolution(layout, own, Err(0)) {
-        Err(Refused::Fault(SlotFault::TlsOutOfSegment { value })) => Some(value),
-        _ => None,
-    }
-}
-
-#[test]
-fn offsets_end_with_the_thread_local_data(rt: HostRuntime) -> Result<(), Fail> {
-    assert!(rt; holds(rt.alloc(), OFFSET, Case::Offsets)?);
-    Ok(())
-}
-
-/// Whether the address of a place is put, and the place then has this word.
-fn puts(tables: &mut TableWriter, layout: &Layout, place: u64, word: u64) -> bool {
-    let mut site = [0x55; 8];
-    tables
-        .write_address_relocation(layout, place, 0x1040, &mut site)
-        .is_ok()
-        && are_words(&site, &[word])
-}
-
-/// Whether an entry has these words.
-fn is_entry(entry: Rela, words: &[u64]) -> bool {
-    let mut bytes = [0; Rela::SIZE];
-    entry.put(&mut bytes);
-    are_words(&bytes, words)
-}
-
-/// Whether an odd place has an entry and 0, and an even one is packed over the address; then the tables are full.
-fn has_both(tables: &mut TableWriter, layout: &Layout) -> bool {
-    puts(tables, layout, 0x3001, 0)
-        && tables.validate_empty(layout).is_err()
-        && puts(tables, layout, 0x3010, 0x1040)
-        && are_words(tables.relative_entries(), &[0x3001, 8, 0x1040])
-        && are_words(tables.relr_words(), &[0x3010])
-        && tables.validate_empty(layout).is_ok()
-}
-
-/// Whether a full table refuses a place, which keeps its bytes.
-fn refuses(tables: &mut TableWriter, layout: &Layout) -> bool {
-    let mut site = [0x55; 8];
-    tables
-        .write_address_relocation(layout, 0x3003, 0x1040, &mut site)
-        .is_err()
-        && site == [0x55; 8]
-}
-
-#[test]
-fn addresses_that_move(rt: HostRuntime) -> Result<(), Fail> {
-    assert!(rt; holds(rt.alloc(), MOVED, Case::Moved)?);
-    Ok(())
-}
-
-/// The words of a section's places (gABI, "Relative Relocation Table"), and that of the next section's.
-const PLACES: [u64; 4] = [0x3000, 0x3010, 0x31f8, 0x3200];
-
-const PACKED_WORDS: [u64; 4] = [0x3000, 0x8000_0000_0000_0005, 3, 0x3208];
-
-/// Whether the place of the next section is put, as a word or as a place of a new section.
-fn puts_next(tables: &mut TableWriter, layout: &Layout, flat: bool) -> bool {
-    if flat {
-        return tables.write_relr_entry_flat(layout, 0x3208, 0x1040).is_ok();
-    }
-    tables.reset_relr_run();
-    puts(tables, layout, 0x3208, 0x1040)
-}
-
-/// Whether the words are those of all places.
-fn has_packed(tables: &mut TableWriter, layout: &Layout, flat: bool) -> bool {
-    for place in &PLACES {
-        if !puts(tables, layout, *place, 0x1040) {
-            return false;
-        }
-    }
-    puts_next(tables, layout, flat)
-        && are_words(tables.relr_words(), &PACKED_WORDS)
-        && tables.validate_empty(layout).is_ok()
-}
-
-#[test]
-fn even_places_are_packed_section_by_section(rt: HostRuntime) -> Result<(), Fail> {
-    assert!(rt; holds(rt.alloc(), PACKED, Case::Packed)?);
-    assert!(rt; holds(rt.alloc(), PACKED, Case::Flat)?);
-    assert!(rt; count_words(&PLACES) == 3);
-    Ok(())
-}
-
-/// An address that moves, with a slot at 0x3000, and room for three packed words.
-const BLOCK: &str =
-    r#"{"kind":"static_pie","options":{"relr":true},"parts":[{"role":"got_relr"},{"role":"relr_dyn"}],"symbols":[{"flags":["NON_INTERPOSABLE","GOT"],"resolution":{"raw_value":4160,"got":12288}}],"groups":[{"part_sizes":[8,24]}]}"#;
-
-/// Whether blocks of slots from 0x3000 on are packed: a bitmap has 63 places.
-fn has_blocks(tables: &mut TableWriter, layout: &Layout) -> bool {
-    tables.write_got_relr_bitmap(0x3000, 0).is_ok()
-        && are_words(tables.relr_words(), &[0, 0, 0])
-        && tables.write_got_relr_bitmap(0x3000, 65).is_ok()
-        && are_words(tables.relr_words(), &[0x3000, u64::MAX, 3])
-        && tables
-            .write_relr_entry_flat(layout, 0x4000, 0x1040)
-            .is_err()
-}
-
-#[test]
-fn slots_are_packed_as_a_block(rt: HostRuntime) -> Result<(), Fail> {
-    assert!(rt; holds(rt.alloc(), BLOCK, Case::Block)?);
-    assert!(rt; block_words(0x3000, 3) == 2);
-    Ok(())
-}
-
-/// The words of the slots in the file: what a loader fills is 0. The psABI has the others, as in `loaded`.
-#[rattlefmt::skip]
-const SLOTS: [u64; 9] = [
-    0, 1, 16, 0, 0x40_0140, 0x40_013e, 0xffff_ffff_ffff_fff8, 1, 8,
-];
-
-/// `endbr64`, `bnd jmp *0x402028(%rip)`, `nopl 0(%rax,%rax,1)` at 0x400140 (x86-64 psABI, "Procedure Linkage Table").
-const STUB: [u8; 16] = [
-    0xf3, 0x0f, 0x1e, 0xfa, 0xf2, 0xff, 0x25, 0xdd, 0x1e, 0, 0, 0x0f, 0x1f, 0x44, 0, 0,
-];
-
-/// Puts the slots of three symbols, and a stub for the first.
-fn put_slots(tables: &mut TableWriter, layout: &Layout) -> Result<(), Fail> {
-    let mut stub = [0; 16];
-    put_stub(layout.machine, false, &mut stub, 0x40_2028, 0x40_0140);
-    for index in 0..3usize {
-        let resolution = resolution_of(layout, index)?;
-        let done = tables.process_resolution(layout, &resolution, Ok(stub));
-        done.ok().ok_or("no slot")?;
-    }
-    Ok(())
-}
-
-/// Whether the tables have these, and are full: the entry of a resolver's function is IRELATIVE (37) with the resolver's address.
-fn has_slots(tables: &mut TableWriter, layout: &Layout) -> bool {
-    are_words(tables.got_words(), &SLOTS)
-        && tables.stubs() == STUB.as_slice()
-        && are_words(tables.plt_entries(), &[0x40_2028, 37, 0x40_013c])
-        && tables.validate_empty(layout).is_ok()
-        && tables.write_plt_got_entries(layout).is_err()
-}
-
-#[test]
-fn slots_stubs_and_entries(rt: HostRuntime) -> Result<(), Fail> {
-    assert!(rt; holds(rt.alloc(), SLOTTED, Case::Slots)?);
-    Ok(())
-}
-
-/// A copied symbol, and room for three entries.
-const GENERAL: &str =
-    r#"{"kind":"dynamic_pie","parts":[{"role":"rela_dyn_general"}],"symbols":[{"flags":["COPY_RELOCATION"],"resolution":{"raw_value":8192,"dynsym":3}}],"groups":[{"part_sizes":[72]}]}"#;
-
-/// `R_X86_64_64` (1) of symbol 2, `R_X86_64_IRELATIVE` (37) and `R_X86_64_COPY` (5) of symbol 3.
-#[rattlefmt::skip]
-const ENTRIES: [u64; 9] = [
-    0x3000, 0x2_0000_0001, 5,
-    0x3008, 37, 0x1000,
-    0x2000, 0x3_0000_0005, 0,
-];
-
-/// Puts the three entries.
-fn put_entries(tables: &mut TableWriter, layout: &Layout) -> Result<(), Error> {
-    let kind = DynamicRelocationKind::Absolute;
-    tables.write_dynamic_symbol_relocation(layout, 0x3000, 5, 2, kind)?;
-    tables.write_ifunc_relocation_for_data(layout, 0x3008, 0x1000)?;
-    tables.write_copy_relocation(layout, SymbolIndex(0))
-}
-
-/// Whether these three fill the table.
-fn has_entries(tables: &mut TableWriter, layout: &Layout) -> bool {
-    put_entries(tables, layout).is_ok()
-        && are_words(tables.general_entries(), &ENTRIES)
-        && tables.validate_empty(layout).is_ok()
-        && tables
-            .write_copy_relocation(layout, SymbolIndex(0))
-            .is_err()
-}
-
-#[test]
-fn entries_that_fill_a_place(rt: HostRuntime) -> Result<(), Fail> {
-    assert!(rt; holds(rt.alloc(), GENERAL, Case::General)?);
-    Ok(())
-}
-
-/// What is put into the writer of the first group, or read of the layout.
-#[derive(Clone, Copy)]
-enum Case {
-    Section,
-    Sizes,
-    Offsets,
-    Moved,
-    Packed,
-    Flat,
-    Block,
-    Slots,
-    General,
-}
-
-fn has_sizes(layout: &Layout, resolution: &Resolution) -> bool {
-    for (got, wanted) in SIZES {
-        if told_of(layout, resolution, *got) != *wanted {
-            return false;
-        }
-    }
-    true
-}
-
-/// Whether the slot of that address has the word, or the address lies outside of the data.
-fn has_offset(
-    alloc: Global,
-    layout: &Layout,
-    own: &Resolution,
-    word: u64,
-    outside: Option<u64>,
-) -> Result<bool, Fail> {
-    let mut tables = writer(alloc, layout)?;
-    let found = outside_of(&mut tables, layout, own);
-    Ok(found == outside && are_words(tables.got_words(), &[word]))
-}
-
-fn has_offsets(alloc: Global, layout: &Layout) -> Result<bool, Fail> {
-    let mut own = resolution_of(layout, 0)?;
-    for (raw_value, word, outside) in OFFSETS {
-        own.raw_value = *raw_value;
-        if !has_offset(alloc, layout, &own, *word, *outside)? {
-            return Ok(false);
-        }
-    }
-    Ok(true)
-}
-
-/// Whether the entry of a place that moves is the same without a table.
-fn has_entry(layout: &Layout) -> bool {
-    is_entry(relative_entry(layout, 0x3001, 0x1040), &[0x3001, 8, 0x1040])
-}
-
-fn has_block(tables: &mut TableWriter, layout: &Layout) -> Result<bool, Fail> {
-    let resolution = resolution_of(layout, 0)?;
-    let done = tables.process_resolution(layout, &resolution, Err(0));
-    Ok(done.is_ok() && are_words(tables.block_words(), &[0x1040]) && has_blocks(tables, layout))
-}
-
-fn has_all_slots(tables: &mut TableWriter, layout: &Layout) -> Result<bool, Fail> {
-    tables.write_plt_got_entries(layout)?;
-    put_slots(tables, layout)?;
-    Ok(has_slots(tables, layout))
-}
-
-/// Whether the tables are filled as they have to be.
-fn is_filled(tables: &mut TableWriter, layout: &Layout, case: Case) -> Result<bool, Fail> {
-    match case {
-        Case::Section => Ok(has_section_of_ld(layout, &mut [1; 208])),
-        Case::Moved => {
-            Ok(has_both(tables, layout) && refuses(tables, layout) && has_entry(layout))
-        }
-        Case::Packed => Ok(has_packed(tables, layout, false)),
-        Case::Flat => Ok(has_packed(tables, layout, true)),
-        Case::Block => has_block(tables, layout),
-        Case::Slots => has_all_slots(tables, layout),
-        Case::General => Ok(has_entries(tables, layout)),
-        Case::Offsets | Case::Sizes => Ok(false),
-    }
-}
-
-fn is_filled_by(alloc: Global, layout: &Layout, case: Case) -> Result<bool, Fail> {
-    let mut tables = writer(alloc, layout)?;
-    is_filled(&mut tables, layout, case)
-}
-
-/// Whether the case holds of the layout.
-fn holds_of(alloc: Global, layout: &Layout, case: Case) -> Result<bool, Fail> {
-    match case {
-        Case::Offsets => has_offsets(alloc, layout),
-        Case::Sizes => Ok(has_sizes(layout, &resolution_of(layout, 0)?)),
-        _ => is_filled_by(alloc, layout, case),
-    }
-}
-
-/// Whether it holds of the plan's layout. One function has the layout, whose proof is long.
-fn holds(alloc: Global, plan: &str, case: Case) -> Result<bool, Fail> {
-    let layout = layout_of(alloc, plan)?;
-    holds_of(alloc, &layout, case)
 }
